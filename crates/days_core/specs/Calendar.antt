@@ -1,0 +1,68 @@
+-- The civil calendar of the years 1880 to 2199.
+--
+-- A day is its number from 1880-01-01 and a month its number from 1880-01, both counted from 0. So days and
+-- months are compared and moved by plain numbers.
+use Rattle.std.specs.Prelude.{ℕ, zero, suc, ◌+◌, ◌-◌, ◌*◌, ◌/◌, ◌%◌, ◌<◌, ◌≤◌, ◌&&◌, ◌||◌, ◌==◌, nat_lt, nat_le, if◌then◌else◌, pos, Bool}
+use Rattle.jiff_core.specs.Calendar.{days_in_month}
+
+-- 2199-12-31
+abbrev pub last_day : ℕ
+last_day = 116877
+
+-- 2199-12
+abbrev pub last_month : ℕ
+last_month = 3839
+
+-- the year in which a month lies
+abbrev pub month_year : ℕ → ℕ
+month_year month = 1880 + month / 12
+
+-- and its place in that year, from 1 for January
+abbrev pub month_place : ℕ → ℕ
+month_place month = month % 12 + 1
+
+-- how many days a month has, by the calendar of `jiff`
+abbrev pub days_in : ℕ → ℕ
+days_in month = days_in_month (pos (month_year month)) (month_place month)
+
+-- the first day of a month: as many days lie before it as the earlier months have
+unfoldable pub first_of : ℕ → ℕ
+first_of zero = 0
+first_of (suc month) = first_of month + days_in month
+
+-- the last day of a month
+abbrev pub last_of : ℕ → ℕ
+last_of month = first_of (suc month) - 1
+
+-- the last of the months up to this one that has begun by the day
+unfoldable pub month_up_to : ℕ → ℕ → ℕ
+month_up_to zero day = 0
+month_up_to (suc month) day = if nat_le (first_of (suc month)) day then suc month else month_up_to month day
+
+-- the month in which a day lies
+abbrev pub month_of : ℕ → ℕ
+month_of day = month_up_to last_month day
+
+abbrev pub year_of : ℕ → ℕ
+year_of day = month_year (month_of day)
+
+-- the month's place in the year, from 1
+abbrev pub month_in_year : ℕ → ℕ
+month_in_year day = month_place (month_of day)
+
+-- the day's place in the month, from 1
+abbrev pub day_in_month : ℕ → ℕ
+day_in_month day = day - first_of (month_of day) + 1
+
+-- a month and day of the year that come before another
+abbrev pub is_earlier_in_year : ℕ → ℕ → ℕ → ℕ → Bool
+is_earlier_in_year month day other_month other_day =
+    nat_lt month other_month || (month == other_month && nat_lt day other_day)
+
+-- The age on a day: the years between, less one where this year's birthday is still to come. So whoever was
+-- born on 29 February is a year older on 1 March of a common year (own rule).
+abbrev pub age_on : ℕ → ℕ → ℕ
+age_on born day =
+    if is_earlier_in_year (month_in_year day) (day_in_month day) (month_in_year born) (day_in_month born)
+    then year_of day - year_of born - 1
+    else year_of day - year_of born
