@@ -2,7 +2,7 @@
 --
 -- A day is its number from 1880-01-01 and a month its number from 1880-01, both counted from 0. So days and
 -- months are compared and moved by plain numbers.
-use Rattle.std.specs.Prelude.{ℕ, zero, suc, ◌+◌, ◌-◌, ◌*◌, ◌/◌, ◌%◌, ◌<◌, ◌≤◌, ◌&&◌, ◌||◌, ◌==◌, nat_lt, nat_le, if◌then◌else◌, pos, Bool}
+use Rattle.std.specs.Prelude.{ℕ, zero, suc, ◌+◌, ◌-◌, ◌*◌, ◌/◌, ◌%◌, ◌&&◌, ◌||◌, ◌==◌, nat_lt, nat_le, if◌then◌else◌, pos, Bool}
 use Rattle.jiff_core.specs.Calendar.{days_in_month}
 
 -- 2199-12-31
@@ -53,6 +53,10 @@ month_in_year day = month_place (month_of day)
 -- the day's place in the month, from 1
 abbrev pub day_in_month : ℕ → ℕ
 day_in_month day = day - first_of (month_of day) + 1
+
+-- the number of the day with this year, month and day
+abbrev pub day_number : ℕ → ℕ → ℕ → ℕ
+day_number year month day = first_of (12 * (year - 1880) + (month - 1)) + (day - 1)
 
 -- a month and day of the year that come before another
 abbrev pub is_earlier_in_year : ℕ → ℕ → ℕ → ℕ → Bool

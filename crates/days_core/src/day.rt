@@ -1,4 +1,8 @@
+use jiff_core::civil::Date;
 use std::marker::Model;
+
+/// How many days lie between the first date of `jiff` and 1880-01-01.
+const DAYS_BEFORE: u32 = 4_338_715;
 
 /// A day from 1880-01-01 to 2199-12-31.
 ///
@@ -21,8 +25,10 @@ impl Model for Day {
 }
 
 impl Day {
-    ghost use Rattle.std.specs.Prelude.{◌≡◌, ◌≤◌};
+    ghost use Rattle.std.specs.Prelude.{◌≡◌, ◌≤◌, ◌↔◌, pos, unsigned_abs, IsSome, IfSome};
     ghost use Rattle.std.specs.Option.{SomeIff};
+    ghost use Rattle.jiff_core.specs.Calendar.{IsBetween};
+    ghost use Rattle.days_core.specs.Calendar.{year_of, month_in_year, day_in_month, day_number};
 
     /// The day with that number, counted from 0 for 1880-01-01, and None past 2199-12-31.
     pub fn from_number(number: u32) -> Option<Day>
@@ -41,5 +47,38 @@ impl Day {
         ensures in_range { result ≤ 116877 }
     {
         self.number
+    }
+
+    /// The day of a date of `jiff`, and None outside the years 1880 to 2199.
+    pub fn from_date(date: Date) -> Option<Day>
+        ensures in_range { IsSome result ↔ IsBetween (pos 1880) (pos 2199) date.year }
+        ensures value { IfSome result (λ day. day ≡ day_number (unsigned_abs date.year) date.month date.day) }
+    {
+        if date.year < 1880 || date.year > 2199 {
+            return None;
+        }
+        Some(Day {
+            number: date.days_since_min() - DAYS_BEFORE,
+        })
+    }
+
+    /// The same day as a date of `jiff`.
+    pub fn to_date(self) -> Date
+        ensures year { result.year ≡ pos (year_of self) }
+        ensures month { result.month ≡ month_in_year self }
+        ensures day { result.day ≡ day_in_month self }
+    {
+        Date::from_days_since_min(self.number() + DAYS_BEFORE)
+    }
+
+    /// The year, the month's place in it and the day's place in the month, as the calendar names the day.
+    pub fn civil(self) -> (u32, u32, u32)
+        ensures year { result.0 ≡ year_of self }
+        ensures month { result.1 ≡ month_in_year self }
+        ensures day { result.2 ≡ day_in_month self }
+        ensures in_range { self ≤ 116877 }
+    {
+        let date = self.to_date();
+        (date.year as u32, date.month.into(), date.day.into())
     }
 }

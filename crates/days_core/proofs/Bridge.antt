@@ -1,0 +1,232 @@
+-- The calendar of the definitions is that of `jiff`: from months counted in days to years, months and days.
+use Rattle.std.proofs.Common.{◌≡◌, ℕ, zero, suc, ◌+◌, ◌-◌, ◌*◌, ◌%◌, ◌<◌, ◌≤◌, inl, inr, true, refl, ap, arith, ℤ, pos, negsuc, ◌+ℤ◌, ◌≤ℤ◌, unsigned_abs}
+use Rattle.std.specs.Prelude.{nat_le, nat_lt, ◌==◌, ◌&&◌}
+use Rattle.std.proofs.lemmas.Bool.{cases_order, cond_both, or_cases, and_parts, ltb-true, eqb-true, leb-true, leb-false}
+use Rattle.jiff_core.specs.declared.civil.date.Date.{Date}
+use Rattle.jiff_core.specs.Calendar.{day_count, days_in_month}
+use Rattle.jiff_core.specs.Date.{epoch_day}
+use Rattle.jiff_core.proofs.SignedLemmas.{signed_arith}
+use Rattle.jiff_core.proofs.MarchLemmas.{day_count-early}
+use Rattle.jiff_core.proofs.CalendarLemmas.{days_from_civil-day_count, day_count-day, day_count-next_month, day_count-next_year, day_count-last_of_year, days_in_month_bounds}
+use Rattle.jiff_core.proofs.DateLemmas.{epoch_day_injective}
+use Rattle.days_core.specs.Calendar.{last_month, month_year, month_place, days_in, first_of, month_up_to, month_of, year_of, month_in_year, day_in_month, day_number, is_earlier_in_year}
+
+-- ---- months follow each other
+
+-- the next month of a month before December
+next_place : (month : ℕ) → month % 12 + 1 < 12 → (month_year (suc month) ≡ month_year month) × (month_place (suc month) ≡ month_place month + 1)
+next_place month h = (omega arith, omega arith)
+
+-- and January behind December
+next_january : (month : ℕ) → month % 12 + 1 ≡ 12 → (month_year (suc month) ≡ month_year month + 1) × (month_place (suc month) ≡ 1)
+next_january month h = (omega arith, omega arith)
+
+-- the days of a December and the next January
+january_after : (year : ℕ) → day_count (pos (year + 1)) 1 1 ≡ day_count (pos year) 12 1 + 31
+january_after year =
+    omega (arith, day_count-next_year (pos year) (pos (year + 1)) (omega (arith, signed_arith)) (omega (arith, signed_arith)), day_count-last_of_year (pos year), day_count-day (pos year) 12 1 31 (omega arith) (omega arith))
+
+-- one month more, by cases on December
+counted_on : (month : ℕ) → day_count (pos (month_year month)) (month_place month) 1 ≡ first_of month + 4_339_081 → day_count (pos (month_year (suc month))) (month_place (suc month)) 1 ≡ first_of month + days_in month + 4_339_081
+counted_on month so_far =
+    elim (cases_order (month % 12 + 1) 12) [
+      | inl december ↦
+          let next = next_january month december in
+          let place : month_place month ≡ 12 = december in
+          let was = rw place at so_far in
+          let long : days_in month ≡ 31 = rw place refl in
+          rw (next.0, next.1) (omega (arith, january_after (month_year month)))
+      | inr (inl earlier) ↦
+          let next = next_place month earlier in
+          rw (next.0, next.1) (omega (arith, day_count-next_month (pos (month_year month)) (month_place month) (omega arith)))
+      | inr (inr later) ↦ absurd (omega arith)
+    ]
+
+-- the first of a month is so many days after 1 January of the year -10000
+pub day_count-first_of : (month : ℕ) → day_count (pos (month_year month)) (month_place month) 1 ≡ first_of month + 4_339_081
+unfolding first_of
+day_count-first_of zero = day_count-early (pos 1880) 11879 1 1 refl (omega arith) (omega arith) (omega arith)
+day_count-first_of (suc month) = counted_on month (day_count-first_of month)
+
+-- the calendar ends with December 2199
+pub first_of-end : first_of 3840 ≡ 116878
+first_of-end = omega (arith, day_count-first_of 3840, day_count-early (pos 2200) 12199 1 1 refl (omega arith) (omega arith) (omega arith))
+
+pub days_in_bounds : (month : ℕ) → (28 ≤ days_in month) × (days_in month ≤ 31)
+days_in_bounds month =
+    let b = days_in_month_bounds (pos (month_year month)) (month_place month) in
+    (b.1, b.0)
+
+pub first_of-suc : (month : ℕ) → first_of (suc month) ≡ first_of month + days_in month
+unfolding first_of
+first_of-suc month = refl
+
+pub first_of-zero : first_of 0 ≡ 0
+unfolding first_of
+first_of-zero = refl
+
+first_of-add : (month more : ℕ) → first_of month ≤ first_of (more + month)
+first_of-add month zero = let same : 0 + month ≡ month = omega arith in rw same (omega arith)
+first_of-add month (suc more) =
+    let next : suc more + month ≡ suc (more + month) = omega arith in
+    rw next (omega (arith, first_of-add month more, first_of-suc (more + month)))
+
+pub first_of_mono : (month later : ℕ) → month ≤ later → first_of month ≤ first_of later
+first_of_mono month later h =
+    let same : later - month + month ≡ later = omega arith in
+    rw same at (first_of-add month (later - month))
+
+-- ---- the month of a day
+
+-- it has begun
+pub month_up_to_begins : (top day : ℕ) → first_of (month_up_to top day) ≤ day
+unfolding month_up_to
+month_up_to_begins zero day = rw first_of-zero (omega arith)
+month_up_to_begins (suc top) day =
+    cond_both (nat_le (first_of (suc top)) day) (suc top) (month_up_to top day) (λ (month : ℕ). first_of month ≤ day) (λ begun. leb-true _ _ begun) (λ _. month_up_to_begins top day)
+
+pub month_up_to_bound : (top day : ℕ) → month_up_to top day ≤ top
+unfolding month_up_to
+month_up_to_bound zero day = omega arith
+month_up_to_bound (suc top) day =
+    cond_both (nat_le (first_of (suc top)) day) (suc top) (month_up_to top day) (λ (month : ℕ). month ≤ suc top) (λ _. omega arith) (λ _. omega (arith, month_up_to_bound top day))
+
+-- and the next one hasn't
+pub month_up_to_ends : (top day : ℕ) → day < first_of (suc top) → day < first_of (suc (month_up_to top day))
+unfolding month_up_to
+month_up_to_ends zero day h = h
+month_up_to_ends (suc top) day h =
+    cond_both (nat_le (first_of (suc top)) day) (suc top) (month_up_to top day) (λ (month : ℕ). day < first_of (suc month)) (λ _. h) (λ later. month_up_to_ends top day (leb-false _ _ later))
+
+-- a month that has begun by the day, and whose next month hasn't, is the month of the day
+pub month_up_to_is : (top month day : ℕ) → month ≤ top → first_of month ≤ day → day < first_of (suc month) → month_up_to top day ≡ month
+month_up_to_is top month day le begun ends =
+    elim (cases_order (month_up_to top day) month) [
+      | inl same ↦ same
+      | inr (inl less) ↦ absurd (omega (arith, first_of_mono (suc (month_up_to top day)) month less, month_up_to_ends top day (omega (arith, first_of_mono (suc month) (suc top) (omega arith)))))
+      | inr (inr more) ↦ absurd (omega (arith, first_of_mono (suc month) (month_up_to top day) more, month_up_to_begins top day))
+    ]
+
+-- a day of the calendar lies in a month of it
+pub record IsInMonth (month day : ℕ) : Type 0 where
+  pub month_in : month ≤ 3839
+  pub begun : first_of month ≤ day
+  pub ends : day < first_of month + days_in month
+
+pub month_of_fits : (day : ℕ) → day ≤ 116877 → IsInMonth (month_of day) day
+month_of_fits day h = record {
+  month_in = month_up_to_bound last_month day;
+  begun = month_up_to_begins last_month day;
+  ends = omega (arith, first_of-suc (month_of day), month_up_to_ends last_month day (omega (arith, first_of-end)));
+}
+
+pub month_of_is : (month day : ℕ) → IsInMonth month day → month_of day ≡ month
+month_of_is month day h = month_up_to_is last_month month day h.month_in h.begun (omega (arith, h.ends, first_of-suc month))
+
+-- and a day of such a month lies in the calendar
+pub day_in_range : (month day : ℕ) → IsInMonth month day → day ≤ 116877
+day_in_range month day h = omega (arith, h.month_in, h.ends, first_of-suc month, first_of_mono (suc month) 3840 (omega (arith, h.month_in)), first_of-end)
+
+-- ---- dates of `jiff`
+
+-- the date of a day
+pub date_of : (day : ℕ) → day ≤ 116877 → Date
+date_of day h =
+    let fits = month_of_fits day h in
+    record {
+      year = pos (year_of day);
+      month = month_in_year day;
+      day = day_in_month day;
+      year_in = omega (arith, signed_arith, fits.month_in);
+      month_in = (omega arith, omega arith);
+      day_in = (omega arith, omega (arith, fits.begun, fits.ends));
+    }
+
+date_of-epoch_day : (day : ℕ) (h : day ≤ 116877) → epoch_day (date_of day h) +ℤ pos 4_371_587 ≡ pos (day + 4_338_715)
+unfolding date_of
+date_of-epoch_day day h =
+    let fits = month_of_fits day h in
+    let first = day_count-first_of (month_of day) in
+    let here = day_count-day (pos (year_of day)) (month_in_year day) (day_in_month day) 1 (omega arith) (omega arith) in
+    let number = days_from_civil-day_count (pos (year_of day)) (month_in_year day) (day_in_month day) in
+    omega (arith, signed_arith, fits.begun)
+
+-- a date with the number of a day has its year, month and day
+pub parts_at : (date : Date) (day : ℕ) → day ≤ 116877 → epoch_day date +ℤ pos 4_371_587 ≡ pos (day + 4_338_715) → (date.year ≡ pos (year_of day)) × (date.month ≡ month_in_year day) × (date.day ≡ day_in_month day)
+unfolding date_of
+parts_at date day h number =
+    let same = date_of-epoch_day day h in
+    epoch_day_injective date (date_of day h) (omega (arith, signed_arith))
+
+-- the month with this year and place
+pub month_named : (year place : ℕ) → 1880 ≤ year → year ≤ 2199 → 1 ≤ place → place ≤ 12 → (month_year (12 * (year - 1880) + (place - 1)) ≡ year) × (month_place (12 * (year - 1880) + (place - 1)) ≡ place) × (12 * (year - 1880) + (place - 1) ≤ 3839)
+month_named year place low high first last = (omega arith, omega arith, omega arith)
+
+-- the days before a date of `jiff`, and the number of its day
+pub number_at : (date : Date) (year days : ℕ) → date.year ≡ pos year → 1880 ≤ year → year ≤ 2199 → epoch_day date +ℤ pos 4_371_587 ≡ pos days
+    → (days ≡ day_number year date.month date.day + 4_338_715) × IsInMonth (12 * (year - 1880) + (date.month - 1)) (day_number year date.month date.day)
+number_at date year days same low high count =
+    let month = 12 * (year - 1880) + (date.month - 1) in
+    let named = month_named year date.month low high date.month_in.0 date.month_in.1 in
+    let first = rw (named.0, named.1) at (day_count-first_of month) in
+    let here = day_count-day (pos year) date.month date.day 1 date.day_in.0 (omega arith) in
+    let number = rw same at (days_from_civil-day_count date.year date.month date.day) in
+    let known = rw same at count in
+    let long : days_in month ≡ days_in_month (pos year) date.month = rw (named.0, named.1) refl in
+    let last : date.day ≤ days_in_month (pos year) date.month = rw same at date.day_in.1 in
+    (omega (arith, signed_arith, date.day_in.0), record { month_in = named.2; begun = omega arith; ends = omega (arith, date.day_in.0) })
+
+-- each day has its own year, month and day
+pub day_number-parts : (day : ℕ) → day ≤ 116877 → day_number (year_of day) (month_in_year day) (day_in_month day) ≡ day
+day_number-parts day h =
+    let fits = month_of_fits day h in
+    let month : 12 * (year_of day - 1880) + (month_in_year day - 1) ≡ month_of day = omega arith in
+    rw month (omega (arith, fits.begun))
+
+pub pos-unsigned_abs : (z : ℤ) → pos 0 ≤ℤ z → z ≡ pos (unsigned_abs z)
+pos-unsigned_abs (pos n) h = refl
+pos-unsigned_abs (negsuc n) h = absurd (omega (arith, signed_arith))
+
+-- the same of a date whose year is signed
+pub number_of_date : (date : Date) (days : ℕ) → pos 1880 ≤ℤ date.year → date.year ≤ℤ pos 2199 → epoch_day date +ℤ pos 4_371_587 ≡ pos days
+    → (days ≡ day_number (unsigned_abs date.year) date.month date.day + 4_338_715) × IsInMonth (12 * (unsigned_abs date.year - 1880) + (date.month - 1)) (day_number (unsigned_abs date.year) date.month date.day)
+number_of_date date days low high count =
+    let same = pos-unsigned_abs date.year (omega (arith, signed_arith)) in
+    number_at date (unsigned_abs date.year) days same (omega (arith, signed_arith)) (omega (arith, signed_arith)) count
+
+-- ---- order
+
+pub month_of_mono : (day later : ℕ) → day ≤ later → later ≤ 116877 → month_of day ≤ month_of later
+month_of_mono day later h last =
+    let fits = month_of_fits day (omega arith) in
+    let fits_later = month_of_fits later last in
+    elim (cases_order (month_of later) (month_of day)) [
+      | inl same ↦ omega arith
+      | inr (inl less) ↦ absurd (omega (arith, first_of_mono (suc (month_of later)) (month_of day) less, first_of-suc (month_of later), fits.begun, fits_later.ends))
+      | inr (inr more) ↦ omega arith
+    ]
+
+pub year_of_mono : (day later : ℕ) → day ≤ later → later ≤ 116877 → year_of day ≤ year_of later
+year_of_mono day later h last = omega (arith, month_of_mono day later h last)
+
+-- a later day whose month and day come earlier in the year lies in a later year
+pub year_of-lt : (day later : ℕ) → day ≤ later → later ≤ 116877 → is_earlier_in_year (month_in_year later) (day_in_month later) (month_in_year day) (day_in_month day) ≡ true → year_of day < year_of later
+year_of-lt day later h last earlier =
+    let months = month_of_mono day later h last in
+    let fits = month_of_fits day (omega arith) in
+    let fits_later = month_of_fits later last in
+    let less_month = nat_lt (month_in_year later) (month_in_year day) in
+    let same_month = month_in_year later == month_in_year day in
+    let less_day = nat_lt (day_in_month later) (day_in_month day) in
+    elim (or_cases less_month (same_month && less_day) earlier) [
+      | inl month ↦ omega (arith, ltb-true (month_in_year later) (month_in_year day) month)
+      | inr same ↦
+          let both = and_parts same_month less_day same in
+          let place = eqb-true _ _ both.0 in
+          let before = ltb-true _ _ both.1 in
+          elim (cases_order (month_of day) (month_of later)) [
+            | inl equal ↦ absurd (omega (arith, ap first_of equal, fits.begun, fits_later.begun))
+            | inr (inl less) ↦ omega arith
+            | inr (inr more) ↦ absurd (omega arith)
+          ]
+    ]

@@ -1,0 +1,81 @@
+ghost use Rattle.std.specs.Prelude.{◌≡◌, ◌≢◌, ℕ, ◌<◌, ◌≤◌, pos, IfOk, OnErr, IfSome};
+ghost use Rattle.std.specs.Result.{result_ok};
+ghost use Rattle.days_core.specs.DayText.{day_text, day_from, day_named, two_digits_from, digit_from, is_date};
+ghost use Rattle.jiff_core.specs.Calendar.{days_in_month};
+
+use crate::Day;
+use jiff_core::civil;
+use jiff_core::civil::Date;
+
+/// The text names no day from 1880-01-01 to 2199-12-31.
+#[derive(Clone, Copy, Debug, PartialEq, Eq)]
+pub struct BadDay;
+
+/// The day that a text of the form `YYYY-MM-DD` names.
+pub fn day_of_text(text: &str) -> Result<Day, BadDay>
+    ensures exact { result_ok result ≡ day_from text.now }
+    // It is the day's own text, and no other text has a day.
+    ensures written { IfOk result (λ day. text.now ≡ day_text day) }
+    ensures refused { OnErr result ((day : ℕ) → day ≤ 116877 → text.now ≢ day_text day) }
+{
+    day_of_bytes(text.as_bytes()).ok_or(BadDay)
+}
+
+#[tactic(auto, unfolding(crate::specs::DayText::day_from))]
+fn day_of_bytes(text: &[u8]) -> Option<Day>
+    ensures { result ≡ day_from text.now }
+{
+    match text {
+        [c, d, y, z, b'-', m, n, b'-', e, f] => {
+            let century = two_digits(*c, *d)?;
+            let year = two_digits(*y, *z)?;
+            let month = two_digits(*m, *n)?;
+            let day = two_digits(*e, *f)?;
+            day_named(100 * century + year, month, day)
+        }
+        _ => None,
+    }
+}
+
+fn day_named(year: u32, month: u32, day: u32) -> Option<Day>
+    ensures { result ≡ day_named year month day }
+{
+    if !is_date(year, month, day) {
+        return None;
+    }
+    let date = Date::constrain(year as i16, month as u8, day as u8);
+    Day::from_date(date)
+}
+
+fn is_date(year: u32, month: u32, day: u32) -> bool
+    ensures { result ≡ is_date year month day }
+{
+    (1880 <= year && year <= 2199)
+        && ((1 <= month && month <= 12) && (1 <= day && day <= days_in_month(year, month)))
+}
+
+fn days_in_month(year: u32, month: u32) -> u32
+    requires year { year < 10000 }
+    requires month { month < 100 }
+    ensures { result ≡ days_in_month (pos year) month }
+{
+    civil::days_in_month(year as i16, month as u8).into()
+}
+
+fn two_digits(tens: u8, ones: u8) -> Option<u32>
+    ensures value { result ≡ two_digits_from tens ones }
+    ensures below_100 { IfSome result (λ number. number < 100) }
+{
+    Some(10 * digit(tens)? + digit(ones)?)
+}
+
+fn digit(byte: u8) -> Option<u32>
+    ensures value { result ≡ digit_from byte }
+    ensures below_10 { IfSome result (λ number. number < 10) }
+{
+    if byte.is_ascii_digit() {
+        Some((byte - b'0').into())
+    } else {
+        None
+    }
+}
