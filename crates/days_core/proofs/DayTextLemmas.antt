@@ -117,11 +117,15 @@ day_text-parts century year month day number h k years months days =
     let last : year_of number % 100 ≡ year = omega arith in
     rw (first, last, months, days) refl
 
-same_bytes : (c d y z dash m n second_dash e f century year month day : ℕ)
-    → (c ≡ 48 + century / 10) × (d ≡ 48 + century % 10) → (y ≡ 48 + year / 10) × (z ≡ 48 + year % 10)
-    → (m ≡ 48 + month / 10) × (n ≡ 48 + month % 10) → (e ≡ 48 + day / 10) × (f ≡ 48 + day % 10) → (dash ≡ 45) × (second_dash ≡ 45)
-    → c ∷ d ∷ y ∷ z ∷ dash ∷ m ∷ n ∷ second_dash ∷ e ∷ f ∷ [] ≡ two_digits century ++ two_digits year ++ 45 ∷ two_digits month ++ 45 ∷ two_digits day
-same_bytes c d y z dash m n second_dash e f century year month day first second third fourth dashes = cc
+-- ten bytes that are the digits of a day are its text
+spelled : (c d y z dash m n second_dash e f century year month day number : ℕ)
+    → (c ≡ 48 + century / 10) × (d ≡ 48 + century % 10) × (century < 100) → (y ≡ 48 + year / 10) × (z ≡ 48 + year % 10) × (year < 100)
+    → (m ≡ 48 + month / 10) × (n ≡ 48 + month % 10) × (month < 100) → (e ≡ 48 + day / 10) × (f ≡ 48 + day % 10) × (day < 100) → (dash ≡ 45) × (second_dash ≡ 45)
+    → (year_of number ≡ 100 * century + year) → (month_in_year number ≡ month) → (day_in_month number ≡ day)
+    → c ∷ d ∷ y ∷ z ∷ dash ∷ m ∷ n ∷ second_dash ∷ e ∷ f ∷ [] ≡ day_text number
+spelled c d y z dash m n second_dash e f century year month day number first second third fourth dashes years months days =
+    let whole = day_text-parts century year month day number first.2 second.2 years months days in
+    rw whole cc
 
 pub day_from-is : (text : List ℕ) (day : ℕ) → day_from text ≡ Some day → (text ≡ day_text day) × (day ≤ 116877)
 unfolding day_from
@@ -140,9 +144,7 @@ day_from-is (c ∷ d ∷ y ∷ z ∷ dash ∷ m ∷ n ∷ second_dash ∷ e ∷ 
     let year = two_digits-is y z year_read.0 year_read.1 in
     let month = two_digits-is m n month_read.0 month_read.1 in
     let day_is = two_digits-is e f day_read.0 day_read.1 in
-    let spelled = same_bytes c d y z dash m n second_dash e f century_read.0 year_read.0 month_read.0 day_read.0 (century.0, century.1) (year.0, year.1) (month.0, month.1) (day_is.0, day_is.1) (eqb-true dash 45 dashes.0, eqb-true second_dash 45 dashes.1) in
-    let parts = day_text-parts century_read.0 year_read.0 month_read.0 day_read.0 day century.2 year.2 named.0 named.1 named.2 in
-    (spelled ∙ sym parts, named.3)
+    (spelled c d y z dash m n second_dash e f century_read.0 year_read.0 month_read.0 day_read.0 day century year month day_is (eqb-true dash 45 dashes.0, eqb-true second_dash 45 dashes.1) named.0 named.1 named.2, named.3)
 day_from-is _ day found = absurd cc
 
 -- ---- what a reader that gives the day says

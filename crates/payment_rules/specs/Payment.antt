@@ -1,0 +1,55 @@
+-- What a family pays for its unit and what the office claims for it, in whole dollars a month.
+use Rattle.std.specs.Prelude.{ℕ, ◌+◌, ◌-◌, max, min, Bool, true, false}
+use Rattle.days_core.specs.declared.rents.Rents.{Rents}
+use Rattle.days_core.specs.Rounding.{round_half_up}
+use Rattle.payment_rules.specs.declared.figures.Payment.{Payment}
+
+-- 30 percent of the monthly adjusted income (24 CFR 5.628(a)(1)), of an income for the year
+abbrev pub share_of_adjusted : ℕ → ℕ
+share_of_adjusted adjusted = round_half_up adjusted 40
+
+-- 10 percent of the monthly income (24 CFR 5.628(a)(2)), of an income for the year
+abbrev pub share_of_annual : ℕ → ℕ
+share_of_annual annual = round_half_up annual 120
+
+-- the minimum rent, from which a family in hardship is exempt (24 CFR 5.630)
+abbrev pub minimum_rent_of : Bool → ℕ
+minimum_rent_of true = 0
+minimum_rent_of false = 25
+
+-- the greatest of four (24 CFR 5.628): two shares of income, the welfare rent and the minimum rent
+abbrev pub total_tenant_payment_of : ℕ → ℕ → ℕ → Bool → ℕ
+total_tenant_payment_of annual adjusted welfare exempt =
+    max (max (share_of_adjusted adjusted) (share_of_annual annual)) (max welfare (minimum_rent_of exempt))
+
+-- the contract rent and the allowance for utilities
+abbrev pub gross_rent_of : Rents → ℕ
+gross_rent_of rents = rents.contract_rent + rents.utility
+
+-- what the family bears of the gross rent
+abbrev pub family_share_of : ℕ → Rents → ℕ
+family_share_of ttp rents = min ttp (gross_rent_of rents)
+
+-- what the office claims: the rest of the gross rent
+abbrev pub assistance_of : ℕ → Rents → ℕ
+assistance_of ttp rents = gross_rent_of rents - family_share_of ttp rents
+
+-- what the family pays the owner (24 CFR 5.634): its share less the allowance for utilities, where that is positive
+abbrev pub tenant_rent_of : ℕ → Rents → ℕ
+tenant_rent_of ttp rents = family_share_of ttp rents - rents.utility
+
+-- what the family is paid back (24 CFR 5.632): the allowance less its share, where that is positive
+abbrev pub reimbursement_of : ℕ → Rents → ℕ
+reimbursement_of ttp rents = rents.utility - family_share_of ttp rents
+
+-- how a total tenant payment splits a unit's rents
+abbrev pub split_of : ℕ → Rents → Payment
+split_of ttp rents = record {
+  ttp = ttp;
+  tenant_rent = tenant_rent_of ttp rents;
+  reimbursement = reimbursement_of ttp rents;
+  assistance = assistance_of ttp rents;
+}
+
+abbrev pub payment_of : ℕ → ℕ → ℕ → Bool → Rents → Payment
+payment_of annual adjusted welfare exempt rents = split_of (total_tenant_payment_of annual adjusted welfare exempt) rents

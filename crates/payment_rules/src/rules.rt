@@ -1,0 +1,52 @@
+ghost use Rattle.std.specs.Prelude.{◌≡◌, ◌+◌, ◌≤◌};
+ghost use Rattle.payment_rules.specs.Payment.{share_of_adjusted, share_of_annual, payment_of, split_of};
+
+use crate::Payment;
+use days_core::{Rents, round_half_up};
+
+/// The payment of a family with these incomes for the year, in a unit with these rents.
+///
+/// `welfare` is the welfare rent of the month and `exempt` frees from the minimum rent. Sources: 24 CFR
+/// 5.628 to 5.634.
+pub fn payment(annual: u32, adjusted: u32, welfare: u32, exempt: bool, rents: Rents) -> Payment
+    requires rent { rents.contract_rent ≤ 99999 }
+    requires utility { rents.utility ≤ 9999 }
+    ensures value { result ≡ payment_of annual adjusted welfare exempt rents }
+    ensures balanced { result.tenant_rent + result.assistance ≡ rents.contract_rent + result.reimbursement }
+{
+    let minimum = if exempt { 0 } else { 25 };
+    let ttp = adjusted_share(adjusted)
+        .max(annual_share(annual))
+        .max(welfare.max(minimum));
+    rent_split(ttp, rents)
+}
+
+fn adjusted_share(adjusted: u32) -> u32
+    ensures { result ≡ share_of_adjusted adjusted }
+{
+    round_half_up(adjusted.into(), 40) as u32
+}
+
+fn annual_share(annual: u32) -> u32
+    ensures { result ≡ share_of_annual annual }
+{
+    round_half_up(annual.into(), 120) as u32
+}
+
+/// How a total tenant payment splits the rents of a unit.
+pub fn rent_split(ttp: u32, rents: Rents) -> Payment
+    requires rent { rents.contract_rent ≤ 99999 }
+    requires utility { rents.utility ≤ 9999 }
+    ensures value { result ≡ split_of ttp rents }
+    // The owner has the contract rent from the family and the office; what the office claims beyond goes back to the family.
+    ensures balanced { result.tenant_rent + result.assistance ≡ rents.contract_rent + result.reimbursement }
+{
+    let gross = rents.contract_rent + rents.utility;
+    let share = ttp.min(gross);
+    Payment {
+        ttp,
+        tenant_rent: share.saturating_sub(rents.utility),
+        reimbursement: rents.utility.saturating_sub(share),
+        assistance: gross - share,
+    }
+}
