@@ -1,7 +1,7 @@
 -- The calendar of the definitions is that of `jiff`: from months counted in days to years, months and days.
-use Rattle.std.proofs.Common.{◌≡◌, ℕ, zero, suc, ◌+◌, ◌-◌, ◌*◌, ◌%◌, ◌<◌, ◌≤◌, inl, inr, true, refl, ap, arith, ℤ, pos, negsuc, ◌+ℤ◌, ◌≤ℤ◌, unsigned_abs}
+use Rattle.std.proofs.Common.{◌≡◌, ℕ, zero, suc, ◌+◌, ◌-◌, ◌*◌, ◌%◌, ◌<◌, ◌≤◌, inl, inr, true, refl, ap, ◌∙◌, arith, ℤ, pos, negsuc, ◌+ℤ◌, ◌≤ℤ◌, unsigned_abs}
 use Rattle.std.specs.Prelude.{nat_le, nat_lt, ◌==◌, ◌&&◌}
-use Rattle.std.proofs.lemmas.Bool.{cases_order, cond_both, or_cases, and_parts, ltb-true, eqb-true, leb-true, leb-false}
+use Rattle.std.proofs.lemmas.Bool.{cases_order, cond_both, or_cases, and_parts, ltb-true, eqb-true, leb-true, leb-false, le-leb}
 use Rattle.jiff_core.specs.declared.civil.date.Date.{Date}
 use Rattle.jiff_core.specs.Calendar.{day_count, days_in_month}
 use Rattle.jiff_core.specs.Date.{epoch_day}
@@ -9,7 +9,7 @@ use Rattle.jiff_core.proofs.SignedLemmas.{signed_arith}
 use Rattle.jiff_core.proofs.MarchLemmas.{day_count-early}
 use Rattle.jiff_core.proofs.CalendarLemmas.{days_from_civil-day_count, day_count-day, day_count-next_month, day_count-next_year, day_count-last_of_year, days_in_month_bounds}
 use Rattle.jiff_core.proofs.DateLemmas.{epoch_day_injective}
-use Rattle.days_core.specs.Calendar.{last_month, month_year, month_place, days_in, first_of, month_up_to, month_of, year_of, month_in_year, day_in_month, day_number, is_earlier_in_year}
+use Rattle.days_core.specs.Calendar.{last_month, month_year, month_place, days_in, first_of, last_of, month_up_to, month_of, year_of, month_in_year, day_in_month, day_number, is_date, is_earlier_in_year}
 
 -- ---- months follow each other
 
@@ -230,3 +230,25 @@ year_of-lt day later h last earlier =
             | inr (inr more) ↦ absurd (omega arith)
           ]
     ]
+
+-- ---- the test of a date
+
+-- the bounds of a date, and the test
+is_date-from : (year month day : ℕ) → 1880 ≤ year → year ≤ 2199 → 1 ≤ month → month ≤ 12 → 1 ≤ day → day ≤ days_in_month (pos year) month → is_date year month day ≡ true
+is_date-from year month day a b c d e f =
+    rw (le-leb 1880 year a, le-leb year 2199 b, le-leb 1 month c, le-leb month 12 d, le-leb 1 day e, le-leb day (days_in_month (pos year) month) f) refl
+
+pub is_date-again : (day : ℕ) → day ≤ 116877 → is_date (year_of day) (month_in_year day) (day_in_month day) ≡ true
+is_date-again day h =
+    let fits = month_of_fits day h in
+    is_date-from (year_of day) (month_in_year day) (day_in_month day) (omega arith) (omega (arith, fits.month_in)) (omega arith) (omega arith) (omega arith) (omega (arith, fits.begun, fits.ends))
+
+pub is_date-parts : (year month day number : ℕ) → year ≡ year_of number → month ≡ month_in_year number → day ≡ day_in_month number → number ≤ 116877 → is_date year month day ≡ true
+is_date-parts year month day number years months days h = rw (years, months, days) (is_date-again number h)
+
+pub last_of-day_number : (month year place days : ℕ) → year ≡ month_year month → place ≡ month_place month → days ≡ days_in_month (pos year) place → day_number year place days ≡ last_of month
+last_of-day_number month year place days years places long =
+    let same : 12 * (year - 1880) + (place - 1) ≡ month = omega arith in
+    let bounds = days_in_bounds month in
+    let whole : days ≡ days_in month = long ∙ rw (years, places) refl in
+    rw (same, first_of-suc) (omega arith)

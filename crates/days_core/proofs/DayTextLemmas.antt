@@ -5,9 +5,9 @@ use Rattle.std.specs.Prelude.{IfOk, OnErr, nat_le, ◌&&◌, ◌==◌}
 use Rattle.std.proofs.lemmas.Bool.{and_parts, eqb-true, leb-true, le-leb}
 use Rattle.std.proofs.lemmas.Option.{cond_some}
 use Rattle.jiff_core.specs.Calendar.{days_in_month}
-use Rattle.days_core.specs.Calendar.{days_in, month_of, year_of, month_in_year, day_in_month, day_number}
-use Rattle.days_core.specs.DayText.{two_digits, day_text, ◌>>=◌, digit_from, two_digits_from, is_date, day_named, day_from}
-use Rattle.days_core.proofs.Bridge.{IsInMonth, month_of_fits, month_of_is, month_named, day_in_range, day_number-parts, days_in_bounds}
+use Rattle.days_core.specs.Calendar.{days_in, month_of, year_of, month_in_year, day_in_month, day_number, is_date}
+use Rattle.days_core.specs.DayText.{two_digits, day_text, ◌>>=◌, digit_from, two_digits_from, day_named, day_from}
+use Rattle.days_core.proofs.Bridge.{IsInMonth, month_of_fits, month_of_is, month_named, day_in_range, day_number-parts, days_in_bounds, is_date-again}
 
 -- ---- from a day to its text and back
 
@@ -20,16 +20,6 @@ two_digits-again : (number : ℕ) → number < 100 → two_digits_from (48 + num
 two_digits-again number h =
     let same : 10 * (number / 10) + number % 10 ≡ number = omega arith in
     rw (digit_from-again (number / 10) (omega arith), digit_from-again (number % 10) (omega arith), same) refl
-
--- the bounds of a date, and the test
-is_date-from : (year month day : ℕ) → 1880 ≤ year → year ≤ 2199 → 1 ≤ month → month ≤ 12 → 1 ≤ day → day ≤ days_in_month (pos year) month → is_date year month day ≡ true
-is_date-from year month day a b c d e f =
-    rw (le-leb 1880 year a, le-leb year 2199 b, le-leb 1 month c, le-leb month 12 d, le-leb 1 day e, le-leb day (days_in_month (pos year) month) f) refl
-
-is_date-again : (day : ℕ) → day ≤ 116877 → is_date (year_of day) (month_in_year day) (day_in_month day) ≡ true
-is_date-again day h =
-    let fits = month_of_fits day h in
-    is_date-from (year_of day) (month_in_year day) (day_in_month day) (omega arith) (omega (arith, fits.month_in)) (omega arith) (omega arith) (omega arith) (omega (arith, fits.begun, fits.ends))
 
 pub day_from-day_text : (day : ℕ) → day ≤ 116877 → day_from (day_text day) ≡ Some day
 unfolding day_from

@@ -2,7 +2,7 @@
 --
 -- A day is its number from 1880-01-01 and a month its number from 1880-01, both counted from 0. So days and
 -- months are compared and moved by plain numbers.
-use Rattle.std.specs.Prelude.{ℕ, zero, suc, ◌+◌, ◌-◌, ◌*◌, ◌/◌, ◌%◌, ◌&&◌, ◌||◌, ◌==◌, nat_lt, nat_le, if◌then◌else◌, pos, Bool}
+use Rattle.std.specs.Prelude.{ℕ, zero, suc, ◌+◌, ◌-◌, ◌*◌, ◌/◌, ◌%◌, ◌&&◌, ◌||◌, ◌==◌, nat_lt, nat_le, int_le, min, if◌then◌else◌, ℤ, pos, ◌+ℤ◌, unsigned_abs, Bool, Option, Some, None}
 use Rattle.jiff_core.specs.Calendar.{days_in_month}
 
 -- 2199-12-31
@@ -58,6 +58,12 @@ day_in_month day = day - first_of (month_of day) + 1
 abbrev pub day_number : ℕ → ℕ → ℕ → ℕ
 day_number year month day = first_of (12 * (year - 1880) + (month - 1)) + (day - 1)
 
+-- the calendar of the years 1880 to 2199 has a day with this year, month and day
+abbrev pub is_date : ℕ → ℕ → ℕ → Bool
+is_date year month day =
+    (nat_le 1880 year && nat_le year 2199)
+    && ((nat_le 1 month && nat_le month 12) && (nat_le 1 day && nat_le day (days_in_month (pos year) month)))
+
 -- a month and day of the year that come before another
 abbrev pub is_earlier_in_year : ℕ → ℕ → ℕ → ℕ → Bool
 is_earlier_in_year month day other_month other_day =
@@ -70,3 +76,16 @@ age_on born day =
     if is_earlier_in_year (month_in_year day) (day_in_month day) (month_in_year born) (day_in_month born)
     then year_of day - year_of born - 1
     else year_of day - year_of born
+
+-- The same day of the year so many years before, or the last of February for 29 February of a common year
+-- (own rule), where the calendar reaches back so far.
+abbrev pub years_before : ℕ → ℕ → Option ℕ
+years_before day years =
+    if nat_le (1880 + years) (year_of day)
+    then Some (day_number (year_of day - years) (month_in_year day) (min (day_in_month day) (days_in_month (pos (year_of day - years)) (month_in_year day))))
+    else None
+
+-- a number moved forward, or back by a negative count, and what stands there if it is at most the last
+abbrev pub moved : ℕ → ℕ → ℤ → Option ℕ
+moved last number count =
+    if int_le (pos 0) (pos number +ℤ count) && int_le (pos number +ℤ count) (pos last) then Some (unsigned_abs (pos number +ℤ count)) else None

@@ -1,7 +1,7 @@
 -- A day as text, YYYY-MM-DD, both ways.
 use Rattle.std.specs.Prelude.{ℕ, ◌+◌, ◌-◌, ◌*◌, ◌/◌, ◌%◌, ◌&&◌, ◌==◌, nat_le, if◌then◌else◌, List, [], ◌∷◌, ◌++◌, Option, Some, None, Bool, pos}
 use Rattle.jiff_core.specs.Calendar.{days_in_month}
-use Rattle.days_core.specs.Calendar.{year_of, month_in_year, day_in_month, day_number}
+use Rattle.days_core.specs.Calendar.{month_year, month_place, year_of, month_in_year, day_in_month, day_number, is_date}
 
 -- a number below 100 in two digits
 abbrev pub two_digits : ℕ → List ℕ
@@ -12,6 +12,10 @@ abbrev pub day_text : ℕ → List ℕ
 day_text day =
     two_digits (year_of day / 100) ++ two_digits (year_of day % 100)
     ++ 45 ∷ two_digits (month_in_year day) ++ 45 ∷ two_digits (day_in_month day)
+
+-- four digits for the year and two for the month
+abbrev pub month_text : ℕ → List ℕ
+month_text month = two_digits (month_year month / 100) ++ two_digits (month_year month % 100) ++ 45 ∷ two_digits (month_place month)
 
 infixl 10 ◌>>=◌
 abbrev pub ◌>>=◌ : {A B : Type 0} → Option A → (A → Option B) → Option B
@@ -27,11 +31,6 @@ two_digits_from tens ones = do
   one ← digit_from ones
   Some (10 * ten + one)
 
--- the calendar of the years 1880 to 2199 has this day
-abbrev pub is_date : ℕ → ℕ → ℕ → Bool
-is_date year month day =
-    (nat_le 1880 year && nat_le year 2199) && ((nat_le 1 month && nat_le month 12) && (nat_le 1 day && nat_le day (days_in_month (pos year) month)))
-
 abbrev pub day_named : ℕ → ℕ → ℕ → Option ℕ
 day_named year month day = if is_date year month day then Some (day_number year month day) else None
 
@@ -46,3 +45,17 @@ day_from (c ∷ d ∷ y ∷ z ∷ dash ∷ m ∷ n ∷ second_dash ∷ e ∷ f �
       day_named (100 * century + year) month day)
     else None
 day_from _ = None
+
+abbrev pub month_named : ℕ → ℕ → Option ℕ
+month_named year place = if is_date year place 1 then Some (12 * (year - 1880) + (place - 1)) else None
+
+-- the month that a text names
+unfoldable pub month_from : List ℕ → Option ℕ
+month_from (c ∷ d ∷ y ∷ z ∷ dash ∷ m ∷ n ∷ []) =
+    if dash == 45 then (do
+      century ← two_digits_from c d
+      year ← two_digits_from y z
+      place ← two_digits_from m n
+      month_named (100 * century + year) place)
+    else None
+month_from _ = None

@@ -25,10 +25,10 @@ impl Model for Day {
 }
 
 impl Day {
-    ghost use Rattle.std.specs.Prelude.{◌≡◌, ◌≤◌, ◌↔◌, pos, unsigned_abs, IsSome, IfSome};
+    ghost use Rattle.std.specs.Prelude.{◌≡◌, ◌≤◌, ◌↔◌, pos, unsigned_abs, true, IsSome, IfSome};
     ghost use Rattle.std.specs.Option.{SomeIff};
     ghost use Rattle.jiff_core.specs.Calendar.{IsBetween};
-    ghost use Rattle.days_core.specs.Calendar.{year_of, month_in_year, day_in_month, day_number};
+    ghost use Rattle.days_core.specs.Calendar.{year_of, month_in_year, day_in_month, day_number, is_date};
 
     /// The day with that number, counted from 0 for 1880-01-01, and None past 2199-12-31.
     pub fn from_number(number: u32) -> Option<Day>
@@ -77,6 +77,7 @@ impl Day {
         ensures month { result.1 ≡ month_in_year self }
         ensures day { result.2 ≡ day_in_month self }
         ensures in_range { self ≤ 116877 }
+        ensures is_date { is_date result.0 result.1 result.2 ≡ true }
     {
         let date = self.to_date();
         (date.year as u32, date.month.into(), date.day.into())

@@ -2,8 +2,11 @@
 #![tactic(auto)]
 
 mod age;
+mod civil;
 mod day;
 mod month;
+mod months;
+mod moves;
 mod rents;
 mod rounding;
 mod text;
@@ -11,6 +14,8 @@ mod text;
 pub use age::age_on;
 pub use day::Day;
 pub use month::Month;
+pub use months::{days_in, first_of, last_of, month_of, plus_months};
+pub use moves::{plus_days, years_before};
 pub use rents::Rents;
 pub use rounding::round_half_up;
 pub use text::{BadDay, day_of_text};

@@ -23,6 +23,7 @@ impl Model for Month {
 impl Month {
     ghost use Rattle.std.specs.Prelude.{◌≡◌, ◌≤◌};
     ghost use Rattle.std.specs.Option.{SomeIff};
+    ghost use Rattle.days_core.specs.Calendar.{month_year, month_place};
 
     /// The month with that number, counted from 0 for 1880-01, and None past 2199-12.
     pub fn from_number(number: u32) -> Option<Month>
@@ -41,5 +42,14 @@ impl Month {
         ensures in_range { result ≤ 3839 }
     {
         self.number
+    }
+
+    /// The year and the month's place in it, from 1 for January.
+    pub fn civil(self) -> (u32, u32)
+        ensures year { result.0 ≡ month_year self }
+        ensures place { result.1 ≡ month_place self }
+        ensures in_range { self ≤ 3839 }
+    {
+        (1880 + self.number / 12, self.number % 12 + 1)
     }
 }

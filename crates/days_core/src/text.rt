@@ -1,11 +1,9 @@
-ghost use Rattle.std.specs.Prelude.{◌≡◌, ◌≢◌, ℕ, ◌<◌, ◌≤◌, pos, IfOk, OnErr, IfSome};
+ghost use Rattle.std.specs.Prelude.{◌≡◌, ◌≢◌, ℕ, ◌<◌, ◌≤◌, IfOk, OnErr, IfSome};
 ghost use Rattle.std.specs.Result.{result_ok};
-ghost use Rattle.days_core.specs.DayText.{day_text, day_from, day_named, two_digits_from, digit_from, is_date};
-ghost use Rattle.jiff_core.specs.Calendar.{days_in_month};
+ghost use Rattle.days_core.specs.DayText.{day_text, day_from, day_named, two_digits_from, digit_from};
 
 use crate::Day;
-use jiff_core::civil;
-use jiff_core::civil::Date;
+use crate::civil::{day_with, is_date};
 
 /// The text names no day from 1880-01-01 to 2199-12-31.
 #[derive(Clone, Copy, Debug, PartialEq, Eq)]
@@ -40,26 +38,11 @@ fn day_of_bytes(text: &[u8]) -> Option<Day>
 fn day_named(year: u32, month: u32, day: u32) -> Option<Day>
     ensures { result ≡ day_named year month day }
 {
-    if !is_date(year, month, day) {
-        return None;
+    if is_date(year, month, day) {
+        Some(day_with(year, month, day))
+    } else {
+        None
     }
-    let date = Date::constrain(year as i16, month as u8, day as u8);
-    Day::from_date(date)
-}
-
-fn is_date(year: u32, month: u32, day: u32) -> bool
-    ensures { result ≡ is_date year month day }
-{
-    (1880 <= year && year <= 2199)
-        && ((1 <= month && month <= 12) && (1 <= day && day <= days_in_month(year, month)))
-}
-
-fn days_in_month(year: u32, month: u32) -> u32
-    requires year { year < 10000 }
-    requires month { month < 100 }
-    ensures { result ≡ days_in_month (pos year) month }
-{
-    civil::days_in_month(year as i16, month as u8).into()
 }
 
 fn two_digits(tens: u8, ones: u8) -> Option<u32>
