@@ -159,15 +159,15 @@ parts_at date day h number =
     epoch_day_injective date (date_of day h) (omega (arith, signed_arith))
 
 -- the month with this year and place
-pub month_named : (year place : ℕ) → 1880 ≤ year → year ≤ 2199 → 1 ≤ place → place ≤ 12 → (month_year (12 * (year - 1880) + (place - 1)) ≡ year) × (month_place (12 * (year - 1880) + (place - 1)) ≡ place) × (12 * (year - 1880) + (place - 1) ≤ 3839)
-month_named year place low high first last = (omega arith, omega arith, omega arith)
+pub month_parts : (year place : ℕ) → 1880 ≤ year → year ≤ 2199 → 1 ≤ place → place ≤ 12 → (month_year (12 * (year - 1880) + (place - 1)) ≡ year) × (month_place (12 * (year - 1880) + (place - 1)) ≡ place) × (12 * (year - 1880) + (place - 1) ≤ 3839)
+month_parts year place low high first last = (omega arith, omega arith, omega arith)
 
 -- the days before a date of `jiff`, and the number of its day
 pub number_at : (date : Date) (year days : ℕ) → date.year ≡ pos year → 1880 ≤ year → year ≤ 2199 → epoch_day date +ℤ pos 4_371_587 ≡ pos days
     → (days ≡ day_number year date.month date.day + 4_338_715) × IsInMonth (12 * (year - 1880) + (date.month - 1)) (day_number year date.month date.day)
 number_at date year days same low high count =
     let month = 12 * (year - 1880) + (date.month - 1) in
-    let named = month_named year date.month low high date.month_in.0 date.month_in.1 in
+    let named = month_parts year date.month low high date.month_in.0 date.month_in.1 in
     let first = rw (named.0, named.1) at (day_count-first_of month) in
     let here = day_count-day (pos year) date.month date.day 1 date.day_in.0 (omega arith) in
     let number = rw same at (days_from_civil-day_count date.year date.month date.day) in
@@ -234,7 +234,7 @@ year_of-lt day later h last earlier =
 -- ---- the test of a date
 
 -- the bounds of a date, and the test
-is_date-from : (year month day : ℕ) → 1880 ≤ year → year ≤ 2199 → 1 ≤ month → month ≤ 12 → 1 ≤ day → day ≤ days_in_month (pos year) month → is_date year month day ≡ true
+pub is_date-from : (year month day : ℕ) → 1880 ≤ year → year ≤ 2199 → 1 ≤ month → month ≤ 12 → 1 ≤ day → day ≤ days_in_month (pos year) month → is_date year month day ≡ true
 is_date-from year month day a b c d e f =
     rw (le-leb 1880 year a, le-leb year 2199 b, le-leb 1 month c, le-leb month 12 d, le-leb 1 day e, le-leb day (days_in_month (pos year) month) f) refl
 
@@ -252,3 +252,31 @@ last_of-day_number month year place days years places long =
     let bounds = days_in_bounds month in
     let whole : days ≡ days_in month = long ∙ rw (years, places) refl in
     rw (same, first_of-suc) (omega arith)
+
+-- what the test says of a date
+pub record IsDate (year month day : ℕ) : Type 0 where
+  pub first_year : 1880 ≤ year
+  pub last_year : year ≤ 2199
+  pub month_first : 1 ≤ month
+  pub month_last : month ≤ 12
+  pub day_first : 1 ≤ day
+  pub day_last : day ≤ days_in_month (pos year) month
+
+pub is_date-says : (year month day : ℕ) → is_date year month day ≡ true → IsDate year month day
+is_date-says year month day e =
+    let years = nat_le 1880 year && nat_le year 2199 in
+    let months = nat_le 1 month && nat_le month 12 in
+    let days = nat_le 1 day && nat_le day (days_in_month (pos year) month) in
+    let a = and_parts years (months && days) e in
+    let b = and_parts months days a.1 in
+    let y = and_parts (nat_le 1880 year) (nat_le year 2199) a.0 in
+    let m = and_parts (nat_le 1 month) (nat_le month 12) b.0 in
+    let d = and_parts (nat_le 1 day) (nat_le day (days_in_month (pos year) month)) b.1 in
+    record {
+      first_year = leb-true _ _ y.0;
+      last_year = leb-true _ _ y.1;
+      month_first = leb-true _ _ m.0;
+      month_last = leb-true _ _ m.1;
+      day_first = leb-true _ _ d.0;
+      day_last = leb-true _ _ d.1;
+    }

@@ -5,9 +5,9 @@ use Rattle.std.specs.Prelude.{IfOk, OnErr, nat_le, ◌&&◌, ◌==◌}
 use Rattle.std.proofs.lemmas.Bool.{and_parts, eqb-true, leb-true, le-leb}
 use Rattle.std.proofs.lemmas.Option.{cond_some}
 use Rattle.jiff_core.specs.Calendar.{days_in_month}
-use Rattle.days_core.specs.Calendar.{days_in, month_of, year_of, month_in_year, day_in_month, day_number, is_date}
-use Rattle.days_core.specs.DayText.{two_digits, day_text, ◌>>=◌, digit_from, two_digits_from, day_named, day_from}
-use Rattle.days_core.proofs.Bridge.{IsInMonth, month_of_fits, month_of_is, month_named, day_in_range, day_number-parts, days_in_bounds, is_date-again}
+use Rattle.days_core.specs.Calendar.{days_in, month_year, month_place, month_of, year_of, month_in_year, day_in_month, day_number, is_date}
+use Rattle.days_core.specs.DayText.{two_digits, day_text, month_text, ◌>>=◌, digit_from, two_digits_from, day_named, day_from, month_named, month_from}
+use Rattle.days_core.proofs.Bridge.{IsInMonth, month_of_fits, month_of_is, month_parts, day_in_range, day_number-parts, days_in_bounds, is_date-from, is_date-says, is_date-again}
 
 -- ---- from a day to its text and back
 
@@ -60,41 +60,13 @@ two_digits-is tens ones number e =
     let sum : 10 * a.0 + b.0 ≡ number = some_is (10 * a.0 + b.0) number b.2 in
     (omega arith, omega arith, omega arith)
 
--- what the test says of a date
-record IsDate (year month day : ℕ) : Type 0 where
-  first_year : 1880 ≤ year
-  last_year : year ≤ 2199
-  month_first : 1 ≤ month
-  month_last : month ≤ 12
-  day_first : 1 ≤ day
-  day_last : day ≤ days_in_month (pos year) month
-
-is_date-says : (year month day : ℕ) → is_date year month day ≡ true → IsDate year month day
-is_date-says year month day e =
-    let years = nat_le 1880 year && nat_le year 2199 in
-    let months = nat_le 1 month && nat_le month 12 in
-    let days = nat_le 1 day && nat_le day (days_in_month (pos year) month) in
-    let a = and_parts years (months && days) e in
-    let b = and_parts months days a.1 in
-    let y = and_parts (nat_le 1880 year) (nat_le year 2199) a.0 in
-    let m = and_parts (nat_le 1 month) (nat_le month 12) b.0 in
-    let d = and_parts (nat_le 1 day) (nat_le day (days_in_month (pos year) month)) b.1 in
-    record {
-      first_year = leb-true _ _ y.0;
-      last_year = leb-true _ _ y.1;
-      month_first = leb-true _ _ m.0;
-      month_last = leb-true _ _ m.1;
-      day_first = leb-true _ _ d.0;
-      day_last = leb-true _ _ d.1;
-    }
-
 -- the day that is named has this year, month and day
 day_named-is : (year month day number : ℕ) → day_named year month day ≡ Some number → (year_of number ≡ year) × (month_in_year number ≡ month) × (day_in_month number ≡ day) × (number ≤ 116877)
 day_named-is year month day number e =
     let found = cond_some (is_date year month day) (day_number year month day) number e in
     let date = is_date-says year month day found.0 in
     let index = 12 * (year - 1880) + (month - 1) in
-    let named = month_named year month date.first_year date.last_year date.month_first date.month_last in
+    let named = month_parts year month date.first_year date.last_year date.month_first date.month_last in
     let long : days_in index ≡ days_in_month (pos year) month = rw (named.0, named.1) refl in
     let within : IsInMonth index number = record { month_in = named.2; begun = omega (arith, found.1); ends = omega (arith, found.1, date.day_first, date.day_last) } in
     let place : month_of number ≡ index = month_of_is index number within in
@@ -147,4 +119,50 @@ pub no_other : {E : Type 0} (result : Result ℕ E) (text : List ℕ) → result
 no_other (Ok day) text e = tt
 no_other (Err _) text e = λ day h same.
     let found : day_from text ≡ Some day = ap day_from same ∙ day_from-day_text day h in
+    absurd (cc (e, found))
+
+-- ---- months
+
+pub month_from-month_text : (month : ℕ) → month ≤ 3839 → month_from (month_text month) ≡ Some month
+unfolding month_from
+month_from-month_text month h =
+    let year : 100 * (month_year month / 100) + month_year month % 100 ≡ month_year month = omega arith in
+    let short = days_in_bounds month in
+    let test = is_date-from (month_year month) (month_place month) 1 (omega arith) (omega arith) (omega arith) (omega arith) (omega arith) (omega arith) in
+    let same : 12 * (month_year month - 1880) + (month_place month - 1) ≡ month = omega arith in
+    rw (two_digits-again (month_year month / 100) (omega arith), two_digits-again (month_year month % 100) (omega arith), two_digits-again (month_place month) (omega arith), year, test, same) refl
+
+spelled_month : (c d y z dash m n century year place month : ℕ)
+    → (c ≡ 48 + century / 10) × (d ≡ 48 + century % 10) × (century < 100) → (y ≡ 48 + year / 10) × (z ≡ 48 + year % 10) × (year < 100)
+    → (m ≡ 48 + place / 10) × (n ≡ 48 + place % 10) × (place < 100) → dash ≡ 45 → (month_year month ≡ 100 * century + year) → (month_place month ≡ place)
+    → c ∷ d ∷ y ∷ z ∷ dash ∷ m ∷ n ∷ [] ≡ month_text month
+spelled_month c d y z dash m n century year place month first second third dashed years places =
+    let high : month_year month / 100 ≡ century = omega arith in
+    let low : month_year month % 100 ≡ year = omega arith in
+    rw (high, low, places) cc
+
+pub month_from-is : (text : List ℕ) (month : ℕ) → month_from text ≡ Some month → text ≡ month_text month
+unfolding month_from
+month_from-is (c ∷ d ∷ y ∷ z ∷ dash ∷ m ∷ n ∷ []) month found =
+    let at_place = λ (century year : ℕ). two_digits_from m n >>= month_named (100 * century + year) in
+    let at_year = λ (century : ℕ). two_digits_from y z >>= at_place century in
+    let dashed = tested (dash == 45) (two_digits_from c d >>= at_year) month found in
+    let century_read = bind_some (two_digits_from c d) at_year month dashed.1 in
+    let year_read = bind_some (two_digits_from y z) (at_place century_read.0) month century_read.2 in
+    let place_read = bind_some (two_digits_from m n) (month_named (100 * century_read.0 + year_read.0)) month year_read.2 in
+    let named = cond_some (is_date (100 * century_read.0 + year_read.0) place_read.0 1) (12 * (100 * century_read.0 + year_read.0 - 1880) + (place_read.0 - 1)) month place_read.2 in
+    let date = is_date-says (100 * century_read.0 + year_read.0) place_read.0 1 named.0 in
+    let parts = month_parts (100 * century_read.0 + year_read.0) place_read.0 date.first_year date.last_year date.month_first date.month_last in
+    spelled_month c d y z dash m n century_read.0 year_read.0 place_read.0 month (two_digits-is c d century_read.0 century_read.1) (two_digits-is y z year_read.0 year_read.1) (two_digits-is m n place_read.0 place_read.1)
+    (eqb-true dash 45 dashed.0) (rw named.1 at parts.0) (rw named.1 at parts.1)
+month_from-is _ month found = absurd cc
+
+pub is_written_month : {E : Type 0} (result : Result ℕ E) (text : List ℕ) → result_ok result ≡ month_from text → IfOk result (λ month. text ≡ month_text month)
+is_written_month (Ok month) text e = month_from-is text month (sym e)
+is_written_month (Err _) text e = tt
+
+pub no_other_month : {E : Type 0} (result : Result ℕ E) (text : List ℕ) → result_ok result ≡ month_from text → OnErr result ((month : ℕ) → month ≤ 3839 → text ≢ month_text month)
+no_other_month (Ok month) text e = tt
+no_other_month (Err _) text e = λ month h same.
+    let found : month_from text ≡ Some month = ap month_from same ∙ month_from-month_text month h in
     absurd (cc (e, found))

@@ -1,6 +1,5 @@
 -- A day as text, YYYY-MM-DD, both ways.
-use Rattle.std.specs.Prelude.{ℕ, ◌+◌, ◌-◌, ◌*◌, ◌/◌, ◌%◌, ◌&&◌, ◌==◌, nat_le, if◌then◌else◌, List, [], ◌∷◌, ◌++◌, Option, Some, None, Bool, pos}
-use Rattle.jiff_core.specs.Calendar.{days_in_month}
+use Rattle.std.specs.Prelude.{ℕ, ◌+◌, ◌-◌, ◌*◌, ◌/◌, ◌%◌, ◌&&◌, ◌==◌, nat_le, if◌then◌else◌, List, [], ◌∷◌, ◌++◌, Option, Some, None}
 use Rattle.days_core.specs.Calendar.{month_year, month_place, year_of, month_in_year, day_in_month, day_number, is_date}
 
 -- a number below 100 in two digits

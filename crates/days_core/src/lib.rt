@@ -10,6 +10,7 @@ mod moves;
 mod rents;
 mod rounding;
 mod text;
+mod writing;
 
 pub use age::age_on;
 pub use day::Day;
@@ -18,7 +19,8 @@ pub use months::{days_in, first_of, last_of, month_of, plus_months};
 pub use moves::{plus_days, years_before};
 pub use rents::Rents;
 pub use rounding::round_half_up;
-pub use text::{BadDay, day_of_text};
+pub use text::{BadDay, day_of_text, month_of_text, texts_read_back};
+pub use writing::{text_of_day, text_of_month};
 
 #[cfg(test)]
 mod tests;
