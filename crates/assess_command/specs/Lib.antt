@@ -1,0 +1,3 @@
+pub mod Terms
+pub mod Income
+pub mod Assess

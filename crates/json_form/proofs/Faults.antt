@@ -1,0 +1,12 @@
+-- Faults of a part, as faults of the whole.
+use Rattle.std.proofs.Common.{◌≡◌, ℕ, List, Result, Ok, Err, ap, sym, ◌∙◌}
+use Rattle.json_form.specs.Form.{under}
+use Rattle.json_form.specs.Gives.{Faults, IsUnder}
+use Rattle.json_form.specs.Path.{joined}
+use Rattle.json_form.specs.declared.fault.FormFault.{FormFault}
+use Rattle.json_form.specs.declared.fault.FormFault.TheVariants.{BadField, NoMemory}
+
+pub Faults-under : {A : Type 0} (step : List ℕ) (inner outer : FormFault) (form : Result A (List ℕ)) → IsUnder step inner outer → Faults inner form → Faults outer (under step form)
+Faults-under step (BadField path) (BadField longer) form is faults = ap (under step) faults ∙ ap (λ whole. Err whole) (sym is)
+Faults-under step (BadField path) NoMemory form is faults = tt
+Faults-under step NoMemory outer form is faults = rw is tt

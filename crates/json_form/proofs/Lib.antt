@@ -1,0 +1,4 @@
+pub mod DataFrom
+pub mod Faults
+pub mod Items
+pub mod Members

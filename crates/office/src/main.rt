@@ -1,0 +1,21 @@
+//! The office program over the real streams and clock.
+#![tactic(auto)]
+
+use office_io::{StreamSink, StreamSource, SystemClock};
+use std::process::ExitCode;
+use std::rt::Env;
+use std::{env, io};
+
+fn words_of<R: Env + AllocGlobal>(rt: &R) -> io::Result<Vec<String>> {
+    Ok(env::args(rt)?.skip(1).collect(rt.alloc())?)
+}
+
+fn main(rt: HostRuntime) -> ExitCode {
+    // Arguments that can't be read are no words, and so are answered with the usage.
+    let words = words_of(&rt).unwrap_or(Vec::new(rt.alloc()));
+    let mut source = StreamSource::new(rt.stdin());
+    let mut sink = StreamSink::new(rt.stdout());
+    let clock = SystemClock::new(&rt);
+    let status = office_prog::run(rt.alloc(), &words, &mut source, &mut sink, &clock);
+    ExitCode::from(status)
+}

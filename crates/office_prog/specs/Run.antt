@@ -1,0 +1,30 @@
+-- What the program answers to its words and its input.
+use Rattle.std.specs.Prelude.{ℕ, Bool, false, nat_le, if◌then◌else◌, List, [], ◌∷◌, length, codes, bytes_eq, String, string_bytes}
+use Rattle.std.specs.declared.alloc.Global.{Global}
+use Rattle.assess_command.specs.declared.answer.Assessed.{Assessed}
+use Rattle.assess_command.specs.declared.answer.Assessed.TheVariants.{Paid, Refused}
+use Rattle.assess_command.specs.Assess.{assessed}
+use Rattle.office_prog.specs.Answer.{Answer}
+
+-- the words are the one word `assess`
+abbrev pub is_assess : List (String Global) → Bool
+is_assess [] = false
+is_assess (word ∷ []) = bytes_eq (string_bytes word) (codes "assess")
+is_assess (word ∷ other ∷ others) = false
+
+-- other words are answered with how the program is used
+abbrev pub usage : Answer
+usage = record { status = 2; text = codes "usage: office assess\n" }
+
+-- an assess object has at most 16,384 bytes
+abbrev pub input_limit : ℕ
+input_limit = 16384
+
+abbrev pub answer_of : Assessed → Answer
+answer_of (Paid text) = record { status = 0; text = text }
+answer_of (Refused text) = record { status = 8; text = text }
+
+-- what `assess` answers to its input
+abbrev pub assess_answer : List ℕ → Answer
+assess_answer input =
+    if nat_le (length input) input_limit then answer_of (assessed input) else record { status = 9; text = [] }
