@@ -6,3 +6,5 @@ mod program;
 
 pub use program::run;
 
+#[cfg(test)]
+mod tests;
