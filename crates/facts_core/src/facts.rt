@@ -8,7 +8,8 @@ use plain_data::Listed;
 use serde_json::Value;
 use std::alloc::Global;
 
-/// What a household's rent is assessed from. Amounts are whole dollars, those of costs and of welfare a year.
+/// What a household's rent is assessed from. Amounts are whole dollars: those of costs for the year, the welfare rent
+/// for the month.
 #[derive(Debug, PartialEq, Eq, Drop)]
 pub struct Facts {
     /// The members, numbered from 0.
@@ -23,7 +24,9 @@ pub struct Facts {
     /// The cost of disability assistance.
     pub disability: u32,
     pub medical: u32,
+    /// The rent that the welfare agency sets for the household, or 0.
     pub welfare: u32,
+    /// Free from the minimum rent.
     pub exempt: bool,
 }
 

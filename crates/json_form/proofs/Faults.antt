@@ -1,8 +1,7 @@
 -- Faults of a part, as faults of the whole.
-use Rattle.std.proofs.Common.{◌≡◌, ℕ, List, Result, Ok, Err, ap, sym, ◌∙◌}
+use Rattle.std.proofs.Common.{ℕ, List, Result, Err, ap, sym, ◌∙◌}
 use Rattle.json_form.specs.Form.{under}
 use Rattle.json_form.specs.Gives.{Faults, IsUnder}
-use Rattle.json_form.specs.Path.{joined}
 use Rattle.json_form.specs.declared.fault.FormFault.{FormFault}
 use Rattle.json_form.specs.declared.fault.FormFault.TheVariants.{BadField, NoMemory}
 

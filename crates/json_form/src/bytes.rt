@@ -6,7 +6,8 @@ use crate::fault::FormFault;
 use serde_json::Value;
 use std::alloc::Global;
 
-/// Reads the value that the bytes are. They don't fit where they are not UTF-8 or no JSON, or nest deeper than 127.
+/// Reads the value that the bytes are. They don't fit where they are not UTF-8 or no JSON, or where they nest
+/// deeper than 127.
 pub fn value_of_bytes(alloc: Global, bytes: &[u8]) -> Result<Value, FormFault>
     ensures { Gives (λ value. view value) result (fit (data_from bytes.now)) }
 {

@@ -60,7 +60,8 @@ pub fn number_field(
     least: u32,
     most: u32,
 ) -> Result<u32, FormFault>
-    ensures exact { Gives (λ number. number) result (form.field name.now (form.number_at least most) (view value.now)) }
+    ensures exact { Gives (λ number. number) result
+        (form.field name.now (form.number_at least most) (view value.now)) }
     ensures in_range { IfOk result (λ number. (least ≤ number) × (number ≤ most)) }
 {
     match value.get(name) {
@@ -84,7 +85,9 @@ pub fn only(alloc: Global, value: &Value, names: &[&str]) -> Result<(), FormFaul
 }
 
 fn has_other(members: &Map<String, Value>, names: &[&str]) -> bool
-    ensures { result ≡ list_any (λ name. not (list_any (λ listed. bytes_eq (string_bytes name) listed.now) names.now)) (keys members.now) }
+    ensures { result ≡ list_any
+        (λ name. not (list_any (λ listed. bytes_eq (string_bytes name) listed.now) names.now))
+        (keys members.now) }
 {
     members.keys().any(|name| !is_listed(names, name.as_str()))
 }

@@ -1,64 +1,79 @@
 use super::*;
+use days_core::Day;
 use plain_data::{Listed, Text};
-use serde_json::Value;
 use std::alloc::{AllocError, Global};
 use std::test::Fail;
 
-const VALUE: &str = "{\"open\":true,\"name\":\"Ada\",\"count\":4294967295,\"rows\":[[1,2],[3,4]],\
-    \"huge\":4294967296,\"fraction\":1.0,\"exponent\":1e2,\"minus\":-0,\"ragged\":[[1],[2,true]]}";
+fn read<T: Formed>(alloc: Global, text: &str) -> Result<T, FormFault> {
+    let value = value_of_bytes(alloc, text.as_bytes())?;
+    T::of_value(alloc, &value)
+}
 
-fn bad_field(alloc: Global, path: &str) -> Result<Option<FormFault>, AllocError> {
+fn is_bad_at<T: Drop>(
+    alloc: Global,
+    read: Result<T, FormFault>,
+    path: &str,
+) -> Result<bool, AllocError> {
     let path = Text::new(path.as_bytes().to_vec(alloc)?);
-    Ok(Some(FormFault::BadField(path)))
+    Ok(read.err() == Some(FormFault::BadField(path)))
+}
+
+fn read_flag(alloc: Global, text: &str) -> Result<Option<bool>, FormFault> {
+    let value = value_of_bytes(alloc, text.as_bytes())?;
+    object(alloc, &value)?;
+    number_field(alloc, &value, "count", 3, 9)?;
+    let flag = optional_field(alloc, &value, "flag")?;
+    only(alloc, &value, &["count", "flag"])?;
+    Ok(flag)
+}
+
+fn read_pair(alloc: Global, text: &str) -> Result<Listed<u32>, FormFault> {
+    array(alloc, &value_of_bytes(alloc, text.as_bytes())?, 2)
 }
 
 #[test]
-fn reads_each_kind(rt: HostRuntime) -> Result<(), Fail> {
+fn reads_each_kind(rt: HostRuntime) {
     let alloc = rt.alloc();
-    let value = value_of_bytes(alloc, VALUE.as_bytes())?;
-    assert!(rt; field::<bool>(alloc, &value, "open")?);
-    assert_eq!(rt; field::<u32>(alloc, &value, "count")?, u32::MAX);
-    assert_eq!(rt;
-        number_field(alloc, &value, "count", 7, u32::MAX)?,
-        u32::MAX
-    );
-    assert_eq!(rt; optional_field::<bool>(alloc, &value, "closed")?, None);
-    assert_eq!(rt; optional_field::<bool>(alloc, &value, "open")?, Some(true));
-    let name = Text::new(b"Ada".to_vec(alloc)?);
-    assert_eq!(rt; field::<Text>(alloc, &value, "name")?, name);
-    let rows = field::<Listed<Listed<u32>>>(alloc, &value, "rows")?;
-    assert_eq!(rt; rows.as_slice().len(), 2);
-    let pair = value_of_bytes(alloc, b"[5,6]")?;
-    assert_eq!(rt;
-        array::<u32>(alloc, &pair, 2)?.as_slice(),
-        [5, 6].as_slice()
-    );
-    Ok(())
+    assert!(rt; read::<bool>(alloc, "true").is_ok());
+    assert!(rt; read::<Text>(alloc, "\"Ada\"").is_ok());
+    assert!(rt; read::<Day>(alloc, "\"1953-06-01\"").is_ok());
+    assert!(rt; read::<Listed<Listed<u32>>>(alloc, "[[1,2],[4294967295]]").is_ok());
+    assert!(rt; read_pair(alloc, "[5,6]").is_ok());
+    for (text, flag) in [
+        ("{\"count\":3}", None),
+        ("{\"count\":9,\"flag\":true}", Some(true)),
+    ] {
+        assert_eq!(rt; read_flag(alloc, text).ok(), Some(flag));
+    }
 }
 
 #[test]
 fn tells_the_first_bad_path(rt: HostRuntime) -> Result<(), Fail> {
     let alloc = rt.alloc();
-    let value = value_of_bytes(alloc, VALUE.as_bytes())?;
-    for name in ["name", "huge", "fraction", "exponent", "minus", "missing"] {
-        let fault = field::<u32>(alloc, &value, name).err();
-        assert_eq!(rt; fault, bad_field(alloc, name)?, "{name}");
+    for (text, path) in [
+        ("[4294967296]", "[0]"),
+        ("[1,1.0]", "[1]"),
+        ("[1e2]", "[0]"),
+        ("[-0]", "[0]"),
+        ("{}", ""),
+        ("[1,]", ""),
+        ("[1] 2", ""),
+    ] {
+        let numbers = read::<Listed<u32>>(alloc, text);
+        assert!(rt; is_bad_at(alloc, numbers, path)?, "{text}");
     }
-    let fault = number_field(alloc, &value, "count", 0, 9).err();
-    assert_eq!(rt; fault, bad_field(alloc, "count")?);
-    let fault = optional_field::<bool>(alloc, &value, "count").err();
-    assert_eq!(rt; fault, bad_field(alloc, "count")?);
-    let fault = field::<Listed<Listed<u32>>>(alloc, &value, "ragged").err();
-    assert_eq!(rt; fault, bad_field(alloc, "ragged[1][1]")?);
-    let fault = only(alloc, &value, &["open", "name", "count", "rows"]).err();
-    assert_eq!(rt; fault, bad_field(alloc, "?")?);
-    let fault = array::<u32>(alloc, &value_of_bytes(alloc, b"[5]")?, 2).err();
-    assert_eq!(rt; fault, bad_field(alloc, "")?);
-    assert_eq!(rt; object(alloc, &Value::Null).err(), bad_field(alloc, "")?);
-    assert_eq!(rt; value_of_bytes(alloc, b"[1,]").err(), bad_field(alloc, "")?);
-    assert_eq!(rt;
-        value_of_bytes(alloc, b"\"\xff\"").err(),
-        bad_field(alloc, "")?
-    );
+    for (text, path) in [
+        ("[]", ""),
+        ("{}", "count"),
+        ("{\"count\":2,\"flag\":1}", "count"),
+        ("{\"count\":10}", "count"),
+        ("{\"count\":9,\"flag\":1}", "flag"),
+        ("{\"count\":9,\"flags\":true}", "?"),
+    ] {
+        assert!(rt; is_bad_at(alloc, read_flag(alloc, text), path)?, "{text}");
+    }
+    let rows = read::<Listed<Listed<bool>>>(alloc, "[[],[true,0]]");
+    assert!(rt; is_bad_at(alloc, rows, "[1][1]")?);
+    assert!(rt; is_bad_at(alloc, read_pair(alloc, "[5]"), "")?);
     Ok(())
 }

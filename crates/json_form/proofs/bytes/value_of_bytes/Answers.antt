@@ -1,6 +1,5 @@
-use Rattle.std.proofs.Common.{◌≡◌, ap}
+use Rattle.std.proofs.Common.{ap}
 use Rattle.std.proofs.lemmas.Bool.{false≢true}
-use Rattle.serde_json.specs.Errors.{IsMemory}
 use Rattle.serde_json.specs.View.{view}
 use Rattle.json_form.specs.Form.{fit}
 use Rattle.json_form.proofs.DataFrom.{data_from_text, data_from_other}
