@@ -1,4 +1,5 @@
-ghost use Rattle.std.specs.Prelude.{◌≡◌, ◌≢◌, ℕ, List, true, false, IfSome};
+ghost use Rattle.std.specs.Prelude.{◌≡◌, ◌≢◌, ◌≤◌, ℕ, List, length, true, false, IfSome};
+ghost use Rattle.std.specs.Io.KnownBytes.{Consumes};
 ghost use Rattle.office_io.specs.Outside.{Faulted};
 ghost use Rattle.office_io.specs.Transfer.{Takes};
 ghost use Rattle.office_prog.specs.Answer.{Ends};
@@ -39,6 +40,8 @@ pub fn run<S: Source, W: Sink, C: Clock>(
 
     // Nothing is written where the source failed or memory ran out.
     ensures read_fault { result ≡ 3 → Faulted (S.faults source.old) (S.faults source.new) × (sink.new ≡ sink.old) }
+    ensures taken_at_fault { result ≡ 3 →
+        (input : List ℕ) × (length input ≤ input_limit) × Consumes (S.left source.old) (S.left source.new) input }
     ensures no_memory { result ≡ 7 → (S.faults source.new ≡ S.faults source.old) × (sink.new ≡ sink.old) }
 {
     if !is_assess(words) {
