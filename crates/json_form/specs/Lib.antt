@@ -1,3 +1,4 @@
 pub mod Path
 pub mod Form
 pub mod Gives
+pub mod Written

@@ -1,4 +1,5 @@
-//! The forms of JSON values: what is read of a value, or the path of the first place that doesn't fit.
+//! The forms of JSON values: what is read of a value, or the path of the first place that doesn't fit; and what is
+//! written.
 #![tactic(auto)]
 
 mod arrays;
@@ -7,6 +8,7 @@ mod fault;
 mod fields;
 mod formed;
 mod value;
+mod written;
 
 pub use arrays::array;
 pub use bytes::value_of_bytes;
@@ -14,6 +16,7 @@ pub use fault::FormFault;
 pub use fields::{field, number_field, object, only, optional_field};
 pub use formed::Formed;
 pub use value::{boolean, number, text};
+pub use written::Written;
 
 #[cfg(test)]
 mod tests;

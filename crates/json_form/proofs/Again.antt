@@ -1,0 +1,64 @@
+-- Values that were written are read again.
+use Rattle.std.proofs.Common.{◌≡◌, ℕ, ◌+◌, ◌≤◌, ◌<◌, ◌^◌, true, List, [], ◌∷◌, map, Result, Ok, ap, refl, arith}
+use Rattle.std.specs.Prelude.{nat_le}
+use Rattle.std.specs.List.{All, AllByRecursion}
+use Rattle.std.proofs.lemmas.Bool.{le-leb}
+use Rattle.std.proofs.lemmas.List.Elements.{recursion_from_All, All-from_recursion}
+use Rattle.std.specs.Str.{IsAscii, IsUtf8}
+use Rattle.std.proofs.lemmas.Str.{IsUtf8-from_ascii}
+use Rattle.std.proofs.lemmas.Str.Ascii.{IsAscii-from_all}
+use Rattle.serde_json.specs.Data.{Data}
+use Rattle.serde_json.specs.View.{items_of}
+use Rattle.days_core.specs.DayText.{day_text}
+use Rattle.days_core.proofs.Bridge.{month_of_fits, days_in_bounds}
+use Rattle.days_core.proofs.DayTextLemmas.{day_from-day_text}
+use Rattle.days_core.specs.Calendar.{month_of}
+use Rattle.json_form.specs.Form.{fit, u32_at, day_at, items_from, array_at}
+use Rattle.json_form.specs.Written.{number_data, day_data, array_data}
+
+pub day_text-is_utf8 : (day : ℕ) → day ≤ 116877 → IsUtf8 (day_text day)
+day_text-is_utf8 day h =
+    let fits = month_of_fits day h in
+    let short = days_in_bounds (month_of day) in
+    let small : AllByRecursion (λ b. b < 128) (day_text day) = (
+      omega (arith, fits.month_in),
+      (
+        omega arith,
+        (
+          omega arith,
+          (
+            omega arith,
+            (
+              omega arith,
+              (
+                omega arith,
+                (
+                  omega arith,
+                  (
+                    omega arith,
+                    (omega (arith, fits.begun, fits.ends, short.1), (omega arith, tt)),
+                  ),
+                ),
+              ),
+            ),
+          ),
+        ),
+      ),
+    ) in
+    IsUtf8-from_ascii (day_text day) (IsAscii-from_all (day_text day) (All-from_recursion (λ b. b < 128) (day_text day) small))
+
+pub u32_again : (n : ℕ) → n < 2 ^ 32 → u32_at (number_data n) ≡ Ok n
+u32_again n h = rw (le-leb 0 n (omega arith), le-leb n 4294967295 (omega arith)) refl
+
+pub day_again : (day : ℕ) → day ≤ 116877 → day_at (day_data day) ≡ Ok day
+day_again day h = ap fit (day_from-day_text day h)
+
+items_again : {A : Type 0} (write : A → Data) (read : Data → Result A (List ℕ)) (index : ℕ) (rows : List A)
+    → AllByRecursion (λ row. read (write row) ≡ Ok row) rows → items_from read index (items_of (map write rows)) ≡ Ok rows
+unfolding items_from
+items_again write read index [] again = refl
+items_again write read index (row ∷ rows) again = rw (again.0, items_again write read (index + 1) rows again.1) refl
+
+pub array_again : {A : Type 0} (write : A → Data) (read : Data → Result A (List ℕ)) (rows : List A)
+    → All (λ row. read (write row) ≡ Ok row) rows → array_at read (array_data write rows) ≡ Ok rows
+array_again write read rows again = items_again write read 0 rows (recursion_from_All (λ row. read (write row) ≡ Ok row) rows again)
