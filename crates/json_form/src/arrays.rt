@@ -55,7 +55,7 @@ fn row_of<T: Formed>(alloc: Global, item: &Value, index: usize) -> Result<T, For
 {
     match T::of_value(alloc, item) {
         Ok(row) => Ok(row),
-        Err(fault) => Err(fault.under(alloc, position_of(alloc, index)?.as_bytes())),
+        Err(fault) => Err(fault.under(alloc, position_of(alloc, index)?.as_str())),
     }
 }
 

@@ -1,15 +1,14 @@
-ghost use Rattle.std.specs.Prelude.{◌≡◌, IfOk};
-ghost use Rattle.json_form.specs.Path.{joined};
+ghost use Rattle.std.specs.Prelude.{◌≡◌};
 ghost use Rattle.json_form.specs.declared.fault.FormFault.TheVariants.{NoMemory};
 
-use plain_data::Text;
+use crate::path::Path;
 use std::alloc::{AllocError, AllocFailed, Global};
 
 /// Why a value was not read.
 #[derive(Debug, PartialEq, Eq, Drop)]
 pub enum FormFault {
     /// The path of the first place that doesn't fit, seen from the value.
-    BadField(Text),
+    BadField(Path),
     /// Memory ran out.
     NoMemory,
 }
@@ -22,15 +21,15 @@ impl FormFault {
     pub fn here(alloc: Global) -> FormFault
         ensures { result ≡ FormFault.BadField [] }
     {
-        FormFault::BadField(Text::new(Vec::new(alloc)))
+        FormFault::BadField(Path::whole(alloc))
     }
 
     /// The same fault, seen from the value in which that name or position leads here.
-    pub fn under(self, alloc: Global, step: &[u8]) -> FormFault
+    pub fn under(self, alloc: Global, step: &str) -> FormFault
         ensures { IsUnder step.now self result }
     {
         match self {
-            FormFault::BadField(path) => match longer_path(alloc, step, path.as_bytes()) {
+            FormFault::BadField(path) => match path.under(alloc, step) {
                 Ok(longer) => FormFault::BadField(longer),
                 Err(_) => FormFault::NoMemory,
             },
@@ -53,15 +52,4 @@ impl<T: Drop> From<AllocFailed<T>> for FormFault {
     fn from(_error: AllocFailed<T>) -> FormFault {
         FormFault::NoMemory
     }
-}
-
-fn longer_path(alloc: Global, step: &[u8], path: &[u8]) -> Result<Text, AllocError>
-    ensures { IfOk result (λ longer. longer ≡ joined step.now path.now) }
-{
-    let mut bytes = step.to_vec(alloc)?;
-    if !path.is_empty() && path[0] != b'[' {
-        bytes.push(b'.')?;
-    }
-    bytes.extend_from_slice(path)?;
-    Ok(Text::new(bytes))
 }

@@ -29,9 +29,9 @@ pub fn field<T: Formed>(alloc: Global, value: &Value, name: &str) -> Result<T, F
     match value.get(name) {
         Some(found) => match T::of_value(alloc, found) {
             Ok(x) => Ok(x),
-            Err(fault) => Err(fault.under(alloc, name.as_bytes())),
+            Err(fault) => Err(fault.under(alloc, name)),
         },
-        None => Err(FormFault::here(alloc).under(alloc, name.as_bytes())),
+        None => Err(FormFault::here(alloc).under(alloc, name)),
     }
 }
 
@@ -46,7 +46,7 @@ pub fn optional_field<T: Formed>(
     match value.get(name) {
         Some(found) => match T::of_value(alloc, found) {
             Ok(x) => Ok(Some(x)),
-            Err(fault) => Err(fault.under(alloc, name.as_bytes())),
+            Err(fault) => Err(fault.under(alloc, name)),
         },
         None => Ok(None),
     }
@@ -67,9 +67,9 @@ pub fn number_field(
     match value.get(name) {
         Some(found) => match number(alloc, found, least, most) {
             Ok(number) => Ok(number),
-            Err(fault) => Err(fault.under(alloc, name.as_bytes())),
+            Err(fault) => Err(fault.under(alloc, name)),
         },
-        None => Err(FormFault::here(alloc).under(alloc, name.as_bytes())),
+        None => Err(FormFault::here(alloc).under(alloc, name)),
     }
 }
 
@@ -79,7 +79,7 @@ pub fn only(alloc: Global, value: &Value, names: &[&str]) -> Result<(), FormFaul
 {
     match value.as_object() {
         Some(members) if !has_other(members, names) => Ok(()),
-        Some(_) => Err(FormFault::here(alloc).under(alloc, b"?")),
+        Some(_) => Err(FormFault::here(alloc).under(alloc, "?")),
         None => Err(FormFault::here(alloc)),
     }
 }

@@ -7,6 +7,7 @@ mod bytes;
 mod fault;
 mod fields;
 mod formed;
+mod path;
 mod value;
 mod written;
 
@@ -15,6 +16,7 @@ pub use bytes::value_of_bytes;
 pub use fault::FormFault;
 pub use fields::{field, number_field, object, only, optional_field};
 pub use formed::Formed;
+pub use path::Path;
 pub use value::{boolean, number, text};
 pub use written::Written;
 
