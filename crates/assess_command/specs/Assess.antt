@@ -1,17 +1,34 @@
 -- What an assess object is answered with, from its bytes to a line of JSON.
-use Rattle.std.specs.Prelude.{ℕ, List, [], ◌∷◌, ◌++◌, Option, Some, None, option_and_then, codes}
-use Rattle.serde_json.specs.Data.{Data, object, number, unsigned, member, no_members}
+use Rattle.std.specs.Prelude.{ℕ, List, [], ◌∷◌, ◌++◌, Option, Some, None, Result, Ok, Err, codes}
+use Rattle.serde_json.specs.Data.{Data, object, number, string, unsigned, member, no_members}
 use Rattle.serde_json.specs.Written.{compact_text}
-use Rattle.json_form.specs.Form.{data_from}
+use Rattle.facts_core.specs.Rules.{broken_rule}
+use Rattle.income_rules.specs.declared.figures.Annual.{Annual}
+use Rattle.income_rules.specs.Annual.{annual_income_of}
+use Rattle.deduction_rules.specs.Deductions.{adjusted_income_of}
 use Rattle.payment_rules.specs.declared.figures.Payment.{Payment}
 use Rattle.payment_rules.specs.Payment.{payment_of}
-use Rattle.assess_command.specs.declared.terms.Household.{Household}
+use Rattle.assess_command.specs.declared.household.Household.{Household}
 use Rattle.assess_command.specs.declared.answer.Assessed.{Assessed}
 use Rattle.assess_command.specs.declared.answer.Assessed.TheVariants.{Paid, Refused}
-use Rattle.assess_command.specs.Terms.{household_from}
-use Rattle.assess_command.specs.Income.{annual_income_of, adjusted_income_of}
+use Rattle.assess_command.specs.Household.{household_from}
 
--- the figures as an object of JSON, with its members in the byte order of their names
+-- ---- the payment
+
+-- the annual income of the household
+abbrev pub household_annual : Household → ℕ
+household_annual h = (annual_income_of h.facts h.day h.passbook).total
+
+-- its adjusted income
+abbrev pub household_adjusted : Household → ℕ
+household_adjusted h = adjusted_income_of h.facts (household_annual h) h.day
+
+-- what it pays, and what the office claims
+abbrev pub household_payment : Household → Payment
+household_payment h = payment_of (household_annual h) (household_adjusted h) h.facts.welfare h.facts.exempt h.rents
+
+-- ---- objects of JSON, with their members in the byte order of their names
+
 abbrev pub figures : ℕ → ℕ → Payment → Data
 figures annual adjusted payment = object (
     member (codes "adjusted") (number (unsigned adjusted)) (
@@ -21,27 +38,37 @@ figures annual adjusted payment = object (
     member (codes "tenant_rent") (number (unsigned payment.tenant_rent)) (
     member (codes "ttp") (number (unsigned payment.ttp)) no_members))))))
 
--- the payment of a household by its adjusted income, from its annual one
-abbrev pub household_payment : Household → Payment
-household_payment h =
-    payment_of (annual_income_of h.facts.incomes) (adjusted_income_of h.facts h.terms.day) h.facts.welfare h.facts.exempt h.terms.rents
+abbrev pub refusal : Data → Data
+refusal reason = object (member (codes "refused") reason no_members)
 
-abbrev pub payment_text : Household → List ℕ
-payment_text h =
-    compact_text (figures (annual_income_of h.facts.incomes) (adjusted_income_of h.facts h.terms.day) (household_payment h))
+-- the first place that isn't of the form
+abbrev pub bad_form : List ℕ → Data
+bad_form path = refusal (object (
+    member (codes "kind") (string (codes "Form")) (
+    member (codes "path") (string path) no_members)))
 
-abbrev pub unbuilt_text : List ℕ
-unbuilt_text = codes "{\"refused\":{\"kind\":\"Unbuilt\"}}"
+-- the rule that the facts break, under the number of this refusal
+abbrev pub bad_facts : ℕ → Data
+bad_facts rule = refusal (object (
+    member (codes "kind") (string (codes "FactsRule")) (
+    member (codes "number") (number (unsigned 8)) (
+    member (codes "rule") (number (unsigned rule)) no_members))))
 
--- a line, with its line end
-abbrev pub line : List ℕ → List ℕ
-line text = text ++ 10 ∷ []
+-- ---- the answer
 
--- the payment of the household, or the refusal
-abbrev pub answer_to : Option Household → Assessed
-answer_to (Some household) = Paid (line (payment_text household))
-answer_to None = Refused (line unbuilt_text)
+-- a line of JSON, with its line end
+abbrev pub line : Data → List ℕ
+line d = compact_text d ++ 10 ∷ []
 
--- what the bytes are answered with
+abbrev pub answer_by_rule : Household → Option ℕ → Assessed
+answer_by_rule h None = Paid (line (figures (household_annual h) (household_adjusted h) (household_payment h)))
+answer_by_rule h (Some rule) = Refused (line (bad_facts rule))
+
+abbrev pub answer_to : Result Household (List ℕ) → Assessed
+answer_to (Ok h) = answer_by_rule h (broken_rule h.facts h.day)
+answer_to (Err path) = Refused (line (bad_form path))
+
+-- What the bytes are answered with: the payment of the household that they are, or the refusal by the first bad path or
+-- by the least rule that is broken.
 abbrev pub assessed : List ℕ → Assessed
-assessed bytes = answer_to (option_and_then household_from (data_from bytes))
+assessed bytes = answer_to (household_from bytes)

@@ -1,3 +1,2 @@
-pub mod Terms
-pub mod Income
+pub mod Household
 pub mod Assess

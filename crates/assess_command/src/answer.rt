@@ -1,11 +1,14 @@
-ghost use Rattle.std.specs.Prelude.{◌≡◌, ◌≤◌, IfOk, true};
-ghost use Rattle.assess_command.specs.Assess.{assessed, payment_text, line};
-ghost use Rattle.facts_core.specs.Built.{is_built};
+ghost use Rattle.std.specs.Prelude.{◌≡◌, ◌≤◌, None, IfOk};
+ghost use Rattle.facts_core.specs.Rules.{broken_rule};
+ghost use Rattle.assess_command.specs.Assess.{answer_to, assessed, figures, line, household_annual, household_adjusted, household_payment};
+ghost use Rattle.assess_command.specs.Household.{household_from};
+ghost use Rattle.json_form.specs.Gives.{Gives};
 
-use crate::income::{adjusted_income, annual_income};
-use crate::terms::{Household, Terms, household_of};
-use crate::text::{payment_line, unbuilt_line};
-use facts_core::BuiltFault;
+use crate::household::{Household, household_of};
+use crate::text::{bad_facts, bad_form, figures, line_of};
+use deduction_rules::adjusted_income;
+use facts_core::broken_rule;
+use income_rules::annual_income;
 use json_form::{FormFault, value_of_bytes};
 use payment_rules::payment;
 use plain_data::{NoMemory, Text};
@@ -24,28 +27,64 @@ pub enum Assessed {
 pub fn assess(alloc: Global, input: &[u8]) -> Result<Assessed, NoMemory>
     ensures { IfOk result (λ answer. answer ≡ assessed input.now) }
 {
-    let value = match value_of_bytes(alloc, input) {
-        Ok(value) => value,
-        Err(FormFault::BadField(_)) => return Ok(Assessed::Refused(unbuilt_line(alloc)?)),
-        Err(FormFault::NoMemory) => return Err(NoMemory),
-    };
-    match household_of(alloc, &value) {
-        Ok(household) => Ok(Assessed::Paid(line_of(alloc, &household)?)),
-        Err(BuiltFault::Unbuilt) => Ok(Assessed::Refused(unbuilt_line(alloc)?)),
-        Err(BuiltFault::NoMemory) => Err(NoMemory),
+    match household_from(alloc, input) {
+        Ok(household) => answer_of(alloc, &household),
+        Err(FormFault::BadField(path)) => {
+            let refusal = bad_form(alloc, path.as_str())?;
+            Ok(Assessed::Refused(line_of(alloc, &refusal)?))
+        }
+        Err(FormFault::NoMemory) => Err(NoMemory),
     }
 }
 
-fn line_of(alloc: Global, household: &Household) -> Result<Text, NoMemory>
-    requires rent { household.now.terms.rents.contract_rent ≤ 99999 }
-    requires utility { household.now.terms.rents.utility ≤ 9999 }
-    requires answered { is_built household.now.facts household.now.terms.day ≡ true }
-    ensures { IfOk result (λ text. text ≡ line (payment_text household.now)) }
+fn household_from(alloc: Global, input: &[u8]) -> Result<Household, FormFault>
+    ensures exact { Gives (λ household. household) result (household_from input.now) }
+    ensures rate { IfOk result (λ household. household.passbook ≤ 10000) }
+    ensures rent { IfOk result (λ household. household.rents.contract_rent ≤ 99999) }
+    ensures utility { IfOk result (λ household. household.rents.utility ≤ 9999) }
 {
-    let Terms { day, rents, .. } = household.terms;
-    let facts = &household.facts;
-    let annual = annual_income(facts, day);
-    let adjusted = adjusted_income(facts, day, annual);
-    let payment = payment(annual, adjusted, facts.welfare, facts.exempt, rents);
-    payment_line(alloc, annual, adjusted, &payment)
+    let value = value_of_bytes(alloc, input)?;
+    household_of(alloc, &value)
+}
+
+fn answer_of(alloc: Global, household: &Household) -> Result<Assessed, NoMemory>
+    requires rate { household.now.passbook ≤ 10000 }
+    requires rent { household.now.rents.contract_rent ≤ 99999 }
+    requires utility { household.now.rents.utility ≤ 9999 }
+    ensures { IfOk result (λ answer. answer ≡ answer_to (Ok household.now)) }
+{
+    match broken_rule(&household.facts, household.day) {
+        None => Ok(Assessed::Paid(payment_line(alloc, household)?)),
+        Some(rule) => {
+            let refusal = bad_facts(alloc, rule)?;
+            Ok(Assessed::Refused(line_of(alloc, &refusal)?))
+        }
+    }
+}
+
+fn payment_line(alloc: Global, household: &Household) -> Result<Text, NoMemory>
+    requires kept { broken_rule household.now.facts household.now.day ≡ None }
+    requires rate { household.now.passbook ≤ 10000 }
+    requires rent { household.now.rents.contract_rent ≤ 99999 }
+    requires utility { household.now.rents.utility ≤ 9999 }
+    ensures { IfOk result (λ text. text ≡ line (figures (household_annual household.now) (household_adjusted household.now)
+        (household_payment household.now))) }
+{
+    let Household {
+        day,
+        passbook,
+        rents,
+        facts,
+    } = household;
+    let annual = annual_income(facts, *day, *passbook);
+    let allowances = adjusted_income(facts, &annual, *day);
+    let payment = payment(
+        annual.total,
+        allowances.adjusted,
+        facts.welfare,
+        facts.exempt,
+        *rents,
+    );
+    let figures = figures(alloc, annual.total, allowances.adjusted, &payment)?;
+    line_of(alloc, &figures)
 }

@@ -2,9 +2,8 @@
 #![tactic(auto)]
 
 mod answer;
-mod income;
-mod terms;
+mod household;
 mod text;
 
 pub use answer::{Assessed, assess};
-pub use terms::{Household, Terms};
+pub use household::Household;

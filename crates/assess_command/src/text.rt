@@ -1,36 +1,25 @@
-ghost use Rattle.std.specs.Prelude.{◌≡◌, IfOk, string_bytes, false};
+ghost use Rattle.std.specs.Prelude.{◌≡◌, IfOk, false};
 ghost use Rattle.serde_json.specs.View.{view};
-ghost use Rattle.serde_json.specs.Written.{compact_text, has_float};
-ghost use Rattle.assess_command.specs.Assess.{figures, line, unbuilt_text};
+ghost use Rattle.serde_json.specs.Written.{has_float};
+ghost use Rattle.assess_command.specs.Assess.{figures, bad_form, bad_facts, line};
 
 use payment_rules::Payment;
 use plain_data::{NoMemory, Text};
 use serde_json::{Value, json};
 use std::alloc::{AllocError, Global};
 
-/// The line of JSON with the figures of a payment.
-pub fn payment_line(
-    alloc: Global,
-    annual: u32,
-    adjusted: u32,
-    payment: &Payment,
-) -> Result<Text, NoMemory>
-    ensures { IfOk result (λ text. text ≡ line (compact_text (figures annual adjusted payment.now))) }
+/// A value as a line of JSON.
+pub fn line_of(alloc: Global, value: &Value) -> Result<Text, NoMemory>
+    requires { has_float (view value.now) ≡ false }
+    ensures { IfOk result (λ text. text ≡ line (view value.now)) }
 {
-    let value = figures(alloc, annual, adjusted, payment)?;
-    let mut text = text_of(alloc, &value)?;
+    let mut text = value.to_string(alloc)?;
     text.push('\n')?;
     Ok(Text::new(text.into_bytes()))
 }
 
-/// The line of JSON that refuses what is not answered.
-pub fn unbuilt_line(alloc: Global) -> Result<Text, NoMemory>
-    ensures { IfOk result (λ text. text ≡ line unbuilt_text) }
-{
-    Ok(Text::new(b"{\"refused\":{\"kind\":\"Unbuilt\"}}\n".to_vec(alloc)?))
-}
-
-fn figures(
+/// The figures of a payment.
+pub fn figures(
     alloc: Global,
     annual: u32,
     adjusted: u32,
@@ -48,9 +37,16 @@ fn figures(
     })
 }
 
-fn text_of(alloc: Global, figures: &Value) -> Result<String, AllocError>
-    requires { has_float (view figures.now) ≡ false }
-    ensures { IfOk result (λ text. string_bytes text ≡ compact_text (view figures.now)) }
+/// The refusal of what isn't of the form.
+pub fn bad_form(alloc: Global, path: &str) -> Result<Value, AllocError>
+    ensures { IfOk result (λ value. view value ≡ bad_form path.now) }
 {
-    figures.to_string(alloc)
+    json!(in alloc; {"refused": {"kind": "Form", "path": path}})
+}
+
+/// The refusal of facts that break a rule.
+pub fn bad_facts(alloc: Global, rule: u8) -> Result<Value, AllocError>
+    ensures { IfOk result (λ value. view value ≡ bad_facts rule) }
+{
+    json!(in alloc; {"refused": {"kind": "FactsRule", "number": 8, "rule": rule}})
 }

@@ -9,7 +9,7 @@ use Rattle.std.specs.Str.{is_utf8}
 use Rattle.serde_json.specs.Data.{Data, Items, no_items, item, Members, no_members, member}
 use Rattle.serde_json.specs.Find.{get, as_bool, as_number, as_str, as_array, as_object, as_u64}
 use Rattle.serde_json.specs.Read.{read}
-use Rattle.days_core.specs.DayText.{day_from}
+use Rattle.days_core.specs.DayText.{day_from, month_from}
 use Rattle.json_form.specs.Path.{position, joined}
 
 -- one reading after the other: the first that fails is what fails
@@ -56,6 +56,10 @@ u32_at d = number_at 0 4294967295 d
 -- a day, as the text YYYY-MM-DD
 abbrev pub day_at : Data → Result ℕ (List ℕ)
 day_at d = fit (option_and_then day_from (as_str d))
+
+-- a month, as the text YYYY-MM
+abbrev pub month_at : Data → Result ℕ (List ℕ)
+month_at d = fit (option_and_then month_from (as_str d))
 
 -- ---- objects
 

@@ -1,11 +1,11 @@
 ghost use Rattle.std.specs.Prelude.{List, ℕ, Result};
 ghost use Rattle.serde_json.specs.View.{view};
 ghost use Rattle.json_form.specs.Gives.{Gives};
-ghost use Rattle.json_form.specs.Form.{bool_at, u32_at, text_at, day_at};
+ghost use Rattle.json_form.specs.Form.{bool_at, u32_at, text_at, day_at, month_at};
 
 use crate::fault::FormFault;
 use crate::value::{boolean, number, text};
-use days_core::{Day, day_of_text};
+use days_core::{Day, Month, day_of_text, month_of_text};
 use plain_data::Text;
 use serde_json::Value;
 use std::alloc::Global;
@@ -52,6 +52,17 @@ impl Formed for Day {
     fn of_value(alloc: Global, value: &Value) -> Result<Day, FormFault> {
         match day_of_text(text(alloc, value)?) {
             Ok(day) => Ok(day),
+            Err(_) => Err(FormFault::here(alloc)),
+        }
+    }
+}
+
+impl Formed for Month {
+    ghost form = { month_at };
+
+    fn of_value(alloc: Global, value: &Value) -> Result<Month, FormFault> {
+        match month_of_text(text(alloc, value)?) {
+            Ok(month) => Ok(month),
             Err(_) => Err(FormFault::here(alloc)),
         }
     }

@@ -1,5 +1,5 @@
 use super::*;
-use days_core::Day;
+use days_core::{Day, Month};
 use plain_data::{Listed, Text};
 use std::alloc::Global;
 
@@ -34,6 +34,7 @@ fn reads_each_kind(rt: HostRuntime) {
     assert!(rt; read::<bool>(alloc, "true").is_ok());
     assert!(rt; read::<Text>(alloc, "\"Ada\"").is_ok());
     assert!(rt; read::<Day>(alloc, "\"1953-06-01\"").is_ok());
+    assert!(rt; read::<Month>(alloc, "\"1953-06\"").is_ok());
     assert!(rt; read::<Listed<Listed<u32>>>(alloc, "[[1,2],[4294967295]]").is_ok());
     assert!(rt; read_pair(alloc, "[5,6]").is_ok());
     for (text, flag) in [
