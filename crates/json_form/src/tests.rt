@@ -1,6 +1,7 @@
 use super::*;
+use days_core::day_of_text;
 use plain_data::{Listed, Text};
-use serde_json::Value;
+use serde_json::{Map, Value};
 use std::alloc::{AllocError, Global};
 use std::test::Fail;
 
@@ -59,6 +60,29 @@ fn tells_the_first_bad_path(rt: HostRuntime) -> Result<(), Fail> {
     assert_eq!(rt;
         value_of_bytes(alloc, b"\"\xff\"").err(),
         bad_field(alloc, "")?
+    );
+    Ok(())
+}
+
+#[test]
+fn writes_each_kind(rt: HostRuntime) -> Result<(), Fail> {
+    let alloc = rt.alloc();
+    let mut object = Map::new(alloc);
+    put(alloc, &mut object, "open", &true)?;
+    put(alloc, &mut object, "name", &"Ada")?;
+    put(alloc, &mut object, "count", &7u32)?;
+    put(alloc, &mut object, "born", &day_of_text("1880-01-01")?)?;
+    put(
+        alloc,
+        &mut object,
+        "rows",
+        &Listed::new([5u32, 6].to_vec(alloc)?),
+    )?;
+    put(alloc, &mut object, "count", &u32::MAX)?;
+    let text = Value::Object(object).to_string(alloc)?;
+    assert_eq!(rt;
+        text.as_str(),
+        "{\"born\":\"1880-01-01\",\"count\":4294967295,\"name\":\"Ada\",\"open\":true,\"rows\":[5,6]}"
     );
     Ok(())
 }
