@@ -1,3 +1,4 @@
 pub mod Facts
 pub mod Built
 pub mod Rules
+pub mod FactsData

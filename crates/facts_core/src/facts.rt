@@ -1,11 +1,12 @@
 ghost use Rattle.facts_core.specs.Facts.{facts_at};
+ghost use Rattle.facts_core.specs.FactsData.{facts_data};
 
 use crate::incomes::Income;
 use crate::members::Member;
 use crate::property::{Asset, Disposal};
-use json_form::{FormFault, Formed, field, object, only};
-use plain_data::Listed;
-use serde_json::Value;
+use json_form::{FormFault, Formed, Written, field, object, only, put};
+use plain_data::{Listed, NoMemory};
+use serde_json::{Map, Value};
 use std::alloc::Global;
 
 /// What a household's rent is assessed from. Amounts are whole dollars: those of costs for the year, the welfare rent
@@ -71,5 +72,24 @@ impl Formed for Facts {
             welfare,
             exempt,
         })
+    }
+}
+
+impl Written for Facts {
+    ghost written = { facts_data };
+
+    fn to_value(&self, alloc: Global) -> Result<Value, NoMemory> {
+        let mut object = Map::new(alloc);
+        put(alloc, &mut object, "assets", &self.assets)?;
+        put(alloc, &mut object, "care_school", &self.care_school)?;
+        put(alloc, &mut object, "care_work", &self.care_work)?;
+        put(alloc, &mut object, "disability", &self.disability)?;
+        put(alloc, &mut object, "disposals", &self.disposals)?;
+        put(alloc, &mut object, "exempt", &self.exempt)?;
+        put(alloc, &mut object, "incomes", &self.incomes)?;
+        put(alloc, &mut object, "medical", &self.medical)?;
+        put(alloc, &mut object, "members", &self.members)?;
+        put(alloc, &mut object, "welfare", &self.welfare)?;
+        Ok(Value::Object(object))
     }
 }

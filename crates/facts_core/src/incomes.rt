@@ -1,8 +1,10 @@
 ghost use Rattle.std.specs.Prelude.{◌≡◌};
 ghost use Rattle.facts_core.specs.Facts.{kind_from, kind_at, income_at};
+ghost use Rattle.facts_core.specs.FactsData.{kind_word, kind_data, income_data};
 
-use json_form::{FormFault, Formed, field, object, only, text};
-use serde_json::Value;
+use json_form::{FormFault, Formed, Written, field, object, only, put, text};
+use plain_data::NoMemory;
+use serde_json::{Map, Value};
 use std::alloc::Global;
 
 /// Where an income comes from.
@@ -66,5 +68,38 @@ impl Formed for Income {
             kind,
             annual,
         })
+    }
+}
+
+impl Written for IncomeKind {
+    ghost written = { kind_data };
+
+    fn to_value(&self, alloc: Global) -> Result<Value, NoMemory> {
+        kind_word(*self).to_value(alloc)
+    }
+}
+
+fn kind_word(kind: IncomeKind) -> &'static str
+    ensures { result.now ≡ kind_word kind }
+{
+    match kind {
+        IncomeKind::Wages => "Wages",
+        IncomeKind::Business => "Business",
+        IncomeKind::Benefits => "Benefits",
+        IncomeKind::Welfare => "Welfare",
+        IncomeKind::Adoption => "Adoption",
+        IncomeKind::Other => "Other",
+    }
+}
+
+impl Written for Income {
+    ghost written = { income_data };
+
+    fn to_value(&self, alloc: Global) -> Result<Value, NoMemory> {
+        let mut object = Map::new(alloc);
+        put(alloc, &mut object, "annual", &self.annual)?;
+        put(alloc, &mut object, "kind", &self.kind)?;
+        put(alloc, &mut object, "member", &self.member)?;
+        Ok(Value::Object(object))
     }
 }

@@ -1,9 +1,11 @@
 ghost use Rattle.std.specs.Prelude.{◌≡◌};
 ghost use Rattle.facts_core.specs.Facts.{relation_from, relation_at, member_at};
+ghost use Rattle.facts_core.specs.FactsData.{relation_word, relation_data, member_data};
 
 use days_core::Day;
-use json_form::{FormFault, Formed, field, object, only, text};
-use serde_json::Value;
+use json_form::{FormFault, Formed, Written, field, object, only, put, text};
+use plain_data::NoMemory;
+use serde_json::{Map, Value};
 use std::alloc::Global;
 
 /// What a member is to the household.
@@ -79,5 +81,40 @@ impl Formed for Member {
             helped,
             cared,
         })
+    }
+}
+
+impl Written for Relation {
+    ghost written = { relation_data };
+
+    fn to_value(&self, alloc: Global) -> Result<Value, NoMemory> {
+        relation_word(*self).to_value(alloc)
+    }
+}
+
+fn relation_word(relation: Relation) -> &'static str
+    ensures { result.now ≡ relation_word relation }
+{
+    match relation {
+        Relation::Head => "Head",
+        Relation::Spouse => "Spouse",
+        Relation::Cohead => "Cohead",
+        Relation::Other => "Other",
+        Relation::Aide => "Aide",
+    }
+}
+
+impl Written for Member {
+    ghost written = { member_data };
+
+    fn to_value(&self, alloc: Global) -> Result<Value, NoMemory> {
+        let mut object = Map::new(alloc);
+        put(alloc, &mut object, "born", &self.born)?;
+        put(alloc, &mut object, "cared", &self.cared)?;
+        put(alloc, &mut object, "disabled", &self.disabled)?;
+        put(alloc, &mut object, "helped", &self.helped)?;
+        put(alloc, &mut object, "relation", &self.relation)?;
+        put(alloc, &mut object, "student", &self.student)?;
+        Ok(Value::Object(object))
     }
 }

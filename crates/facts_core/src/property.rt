@@ -1,8 +1,10 @@
 ghost use Rattle.facts_core.specs.Facts.{asset_at, disposal_at};
+ghost use Rattle.facts_core.specs.FactsData.{asset_data, disposal_data};
 
 use days_core::Day;
-use json_form::{FormFault, Formed, field, object, only};
-use serde_json::Value;
+use json_form::{FormFault, Formed, Written, field, object, only, put};
+use plain_data::NoMemory;
+use serde_json::{Map, Value};
 use std::alloc::Global;
 
 /// Something of value that the household owns.
@@ -55,5 +57,28 @@ impl Formed for Disposal {
             value: worth,
             received,
         })
+    }
+}
+
+impl Written for Asset {
+    ghost written = { asset_data };
+
+    fn to_value(&self, alloc: Global) -> Result<Value, NoMemory> {
+        let mut object = Map::new(alloc);
+        put(alloc, &mut object, "income", &self.income)?;
+        put(alloc, &mut object, "value", &self.value)?;
+        Ok(Value::Object(object))
+    }
+}
+
+impl Written for Disposal {
+    ghost written = { disposal_data };
+
+    fn to_value(&self, alloc: Global) -> Result<Value, NoMemory> {
+        let mut object = Map::new(alloc);
+        put(alloc, &mut object, "day", &self.day)?;
+        put(alloc, &mut object, "received", &self.received)?;
+        put(alloc, &mut object, "value", &self.value)?;
+        Ok(Value::Object(object))
     }
 }

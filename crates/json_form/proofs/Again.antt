@@ -1,5 +1,6 @@
--- Values that were written are read again.
-use Rattle.std.proofs.Common.{◌≡◌, ℕ, ◌+◌, ◌≤◌, ◌<◌, ◌^◌, List, [], ◌∷◌, map, Result, Ok, ap, refl, arith}
+-- The values that are written: they are read again, and have no float.
+use Rattle.std.proofs.Common.{◌≡◌, ℕ, ◌+◌, ◌≤◌, ◌<◌, ◌^◌, ◌||◌, false, List, [], ◌∷◌, map, Result, Ok, ap, refl, arith}
+use Rattle.std.specs.Prelude.{nat_le}
 use Rattle.std.specs.List.{All, AllByRecursion}
 use Rattle.std.proofs.lemmas.Bool.{le-leb}
 use Rattle.std.proofs.lemmas.List.Elements.{recursion_from_All, All-from_recursion}
@@ -8,6 +9,7 @@ use Rattle.std.proofs.lemmas.Str.{IsUtf8-from_ascii}
 use Rattle.std.proofs.lemmas.Str.Ascii.{IsAscii-from_all}
 use Rattle.serde_json.specs.Data.{Data}
 use Rattle.serde_json.specs.View.{items_of}
+use Rattle.serde_json.specs.Written.{has_float, items_have_float}
 use Rattle.days_core.specs.DayText.{day_text}
 use Rattle.days_core.proofs.Bridge.{month_of_fits, days_in_bounds}
 use Rattle.days_core.proofs.DayTextLemmas.{day_from-day_text}
@@ -61,3 +63,10 @@ items_again write read index (row ∷ rows) again = rw (again.0, items_again wri
 pub array_again : {A : Type 0} (write : A → Data) (read : Data → Result A (List ℕ)) (rows : List A)
     → All (λ row. read (write row) ≡ Ok row) rows → array_at read (array_data write rows) ≡ Ok rows
 array_again write read rows again = items_again write read 0 rows (recursion_from_All (λ row. read (write row) ≡ Ok row) rows again)
+
+items_without_float : {A : Type 0} (write : A → Data) → ((row : A) → has_float (write row) ≡ false) → (rows : List A) → items_have_float (items_of (map write rows)) ≡ false
+items_without_float write none [] = refl
+items_without_float write none (row ∷ rows) = rw (none row, items_without_float write none rows) refl
+
+pub array_without_float : {A : Type 0} (write : A → Data) → ((row : A) → has_float (write row) ≡ false) → (rows : List A) → has_float (array_data write rows) ≡ false
+array_without_float write none rows = items_without_float write none rows

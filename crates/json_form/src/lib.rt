@@ -18,7 +18,7 @@ pub use fields::{field, number_field, object, only, optional_field};
 pub use formed::Formed;
 pub use path::Path;
 pub use value::{boolean, number, text};
-pub use written::Written;
+pub use written::{Written, put};
 
 #[cfg(test)]
 mod tests;

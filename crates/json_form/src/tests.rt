@@ -1,7 +1,9 @@
 use super::*;
-use days_core::{Day, Month};
+use days_core::{Day, Month, day_of_text};
 use plain_data::{Listed, Text};
+use serde_json::{Map, Value};
 use std::alloc::Global;
+use std::test::Fail;
 
 fn read<T: Formed>(alloc: Global, text: &str) -> Result<T, FormFault> {
     let value = value_of_bytes(alloc, text.as_bytes())?;
@@ -73,4 +75,27 @@ fn tells_the_first_bad_path(rt: HostRuntime) {
     let rows = read::<Listed<Listed<bool>>>(alloc, "[[],[true,0]]");
     assert!(rt; is_bad_at(&rows, "[1][1]"));
     assert!(rt; is_bad_at(&read_pair(alloc, "[5]"), ""));
+}
+
+#[test]
+fn writes_each_kind(rt: HostRuntime) -> Result<(), Fail> {
+    let alloc = rt.alloc();
+    let mut object = Map::new(alloc);
+    put(alloc, &mut object, "open", &true)?;
+    put(alloc, &mut object, "name", &"Ada")?;
+    put(alloc, &mut object, "count", &7u32)?;
+    put(alloc, &mut object, "born", &day_of_text("1880-01-01")?)?;
+    put(
+        alloc,
+        &mut object,
+        "rows",
+        &Listed::new([5u32, 6].to_vec(alloc)?),
+    )?;
+    put(alloc, &mut object, "count", &u32::MAX)?;
+    let text = Value::Object(object).to_string(alloc)?;
+    assert_eq!(rt;
+        text.as_str(),
+        "{\"born\":\"1880-01-01\",\"count\":4294967295,\"name\":\"Ada\",\"open\":true,\"rows\":[5,6]}"
+    );
+    Ok(())
 }

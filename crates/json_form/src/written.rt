@@ -1,11 +1,12 @@
-ghost use Rattle.std.specs.Prelude.{◌≡◌, ◌≤◌, map, IfOk, string_bytes};
-ghost use Rattle.serde_json.specs.View.{view};
+ghost use Rattle.std.specs.Prelude.{◌≡◌, map, IfOk, OnOk, OnErr, string_bytes};
+ghost use Rattle.serde_json.specs.View.{view, members_view};
+ghost use Rattle.serde_json.specs.Data.{boolean, string, put as with_member};
 ghost use Rattle.days_core.specs.DayText.{day_text};
-ghost use Rattle.json_form.specs.Written.{day_data, array_data};
+ghost use Rattle.json_form.specs.Written.{number_data, day_data, array_data};
 
 use days_core::{Day, text_of_day};
 use plain_data::{Listed, NoMemory};
-use serde_json::Value;
+use serde_json::{Map, Value};
 use std::alloc::Global;
 
 /// A type that is written as a JSON value.
@@ -17,6 +18,46 @@ pub trait Written: Sized {
 
     fn to_value(&self, alloc: Global) -> Result<Value, NoMemory>
         ensures { IfOk result (λ value. view value ≡ written self.now) };
+}
+
+/// Puts a member into an object, in the place of an earlier one of that name. The members stand in the byte order
+/// of their names. Where memory runs out, the object is as it was.
+pub fn put<T: Written>(
+    alloc: Global,
+    object: &mut Map<String, Value>,
+    name: &str,
+    value: &T,
+) -> Result<(), NoMemory>
+    ensures ok { OnOk result (members_view object.new.entries ≡ with_member name.now (T.written value.now) (members_view object.old.entries)) }
+    ensures err { OnErr result (object.new.entries ≡ object.old.entries) }
+{
+    let value = value.to_value(alloc)?;
+    Ok(serde_json::put(object, alloc, name, value)?)
+}
+
+impl Written for bool {
+    ghost written = { boolean };
+
+    fn to_value(&self, _alloc: Global) -> Result<Value, NoMemory> {
+        Ok(Value::Bool(*self))
+    }
+}
+
+impl Written for u32 {
+    ghost written = { number_data };
+
+    fn to_value(&self, _alloc: Global) -> Result<Value, NoMemory> {
+        Ok(Value::from(*self))
+    }
+}
+
+/// A text.
+impl Written for &str {
+    ghost written = { λ text. string text.now };
+
+    fn to_value(&self, alloc: Global) -> Result<Value, NoMemory> {
+        Ok(Value::try_from_str(alloc, *self)?)
+    }
 }
 
 /// The text of the day.
