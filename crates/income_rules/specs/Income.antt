@@ -1,0 +1,76 @@
+-- The income of the members of a family, in whole dollars a year (24 CFR 5.609).
+use Rattle.std.specs.Prelude.{ℕ, ◌+◌, ◌&&◌, ◌==◌, min, if◌then◌else◌, Bool, true, false, List, filter, sum_by, slice_get}
+use Rattle.std.specs.Option.{option_map_or}
+use Rattle.facts_core.specs.declared.members.Member.{Member}
+use Rattle.facts_core.specs.declared.incomes.IncomeKind.{IncomeKind}
+use Rattle.facts_core.specs.declared.incomes.IncomeKind.TheVariants as kind
+use Rattle.facts_core.specs.declared.incomes.Income.{Income}
+use Rattle.facts_core.specs.declared.facts.Facts.{Facts}
+use Rattle.facts_core.specs.Rules.{is_aide}
+use Rattle.income_rules.specs.Members.{is_head_or_partner, is_under, numbers_of}
+
+-- wages and the net income of a business are earned (24 CFR 5.609(b)(1), (2))
+abbrev pub is_earned : IncomeKind → Bool
+is_earned kind.Wages = true
+is_earned kind.Business = true
+is_earned kind.Benefits = false
+is_earned kind.Welfare = false
+is_earned kind.Adoption = false
+is_earned kind.Other = false
+
+-- assistance for an adopted child, whom it names as its member
+abbrev pub is_adoption : IncomeKind → Bool
+is_adoption kind.Wages = false
+is_adoption kind.Business = false
+is_adoption kind.Benefits = false
+is_adoption kind.Welfare = false
+is_adoption kind.Adoption = true
+is_adoption kind.Other = false
+
+-- what is neither is counted whole (24 CFR 5.609(a), (b))
+abbrev pub is_counted_whole : IncomeKind → Bool
+is_counted_whole kind.Wages = false
+is_counted_whole kind.Business = false
+is_counted_whole kind.Benefits = true
+is_counted_whole kind.Welfare = true
+is_counted_whole kind.Adoption = false
+is_counted_whole kind.Other = true
+
+-- what the incomes of such kinds give the member of that number in a year
+abbrev pub sum_of : (IncomeKind → Bool) → List Income → ℕ → ℕ
+sum_of is_such incomes number =
+    sum_by (λ income. income.annual) (filter (λ income. income.member == number && is_such income.kind) incomes)
+
+-- What is counted of a member's earnings. Those of a live-in aide aren't (24 CFR 5.609(c)(5)), and of others than
+-- the head, the spouse and the co-head those under 18 aren't (5.609(c)(1)), and those of a full-time student
+-- up to 480 (5.609(c)(11)).
+abbrev pub counted_of_earnings : Member → ℕ → ℕ → ℕ
+counted_of_earnings member day earnings =
+    if is_aide member.relation then 0
+    else (if is_head_or_partner member.relation then earnings
+    else (if is_under 18 member day then 0
+    else (if member.student then min 480 earnings
+    else earnings)))
+
+-- what is counted of the earned income of the member of that number
+abbrev pub counted_earned_of : Facts → ℕ → ℕ → ℕ
+counted_earned_of facts number day =
+    option_map_or (λ member. counted_of_earnings member day (sum_of is_earned facts.incomes number)) (slice_get facts.members number) 0
+
+-- What is counted of a member's other income: nothing of a live-in aide's (24 CFR 5.609(c)(5)), and for one child
+-- up to 480 of the adoption assistance (5.609(c)(12)).
+abbrev pub counted_of_others : Member → ℕ → ℕ → ℕ
+counted_of_others member whole adoption = if is_aide member.relation then 0 else whole + min 480 adoption
+
+-- what is counted of the unearned income of the member of that number
+abbrev pub counted_unearned_of : Facts → ℕ → ℕ
+counted_unearned_of facts number =
+    option_map_or (λ member. counted_of_others member (sum_of is_counted_whole facts.incomes number) (sum_of is_adoption facts.incomes number)) (slice_get facts.members number) 0
+
+-- the earned income of the family
+abbrev pub earned_of : Facts → ℕ → ℕ
+earned_of facts day = sum_by (λ number. counted_earned_of facts number day) (numbers_of facts)
+
+-- the unearned income of the family
+abbrev pub unearned_of : Facts → ℕ
+unearned_of facts = sum_by (counted_unearned_of facts) (numbers_of facts)

@@ -1,0 +1,4 @@
+pub mod Members
+pub mod Income
+pub mod Assets
+pub mod Annual

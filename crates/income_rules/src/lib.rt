@@ -1,0 +1,17 @@
+//! What the income of a family comes to in a year, by 24 CFR 5.609.
+#![tactic(auto)]
+
+mod assets;
+mod earned;
+mod figures;
+mod income;
+mod members;
+mod unearned;
+
+pub use assets::net_assets;
+pub use earned::counted_earned;
+pub use figures::Annual;
+pub use income::annual_income;
+
+#[cfg(test)]
+mod tests;
