@@ -1,6 +1,6 @@
 -- The sums of facts that break no rule fit their types.
-use Rattle.std.proofs.Common.{◌≡◌, ℕ, ◌+◌, ◌*◌, ◌/◌, ◌≤◌, ◌<◌, ◌^◌, zero, suc, min, max, mul-le-mul_left, true, false, Bool, cond, List, [], ◌∷◌, length, refl, sym, ap, subst, Option, Some, None, arith}
-use Rattle.std.specs.Prelude.{◌==◌, ◌&&◌, if◌then◌else◌, filter, sum_by, slice_get, nat_lt}
+use Rattle.std.proofs.Common.{◌≡◌, ℕ, ◌+◌, ◌≤◌, min, max, mul-le-mul_left, true, false, Bool, cond, List, [], ◌∷◌, length, Option, Some, None, arith}
+use Rattle.std.specs.Prelude.{◌==◌, ◌&&◌, if◌then◌else◌, sum_by, slice_get, nat_lt}
 use Rattle.std.specs.List.{range_with_len}
 use Rattle.std.specs.Option.{option_map_or}
 use Rattle.std.proofs.lemmas.List.Sums.{sum_by-cons, sum_by-le-sum_by}
@@ -14,11 +14,11 @@ use Rattle.facts_core.specs.declared.property.Disposal.{Disposal}
 use Rattle.facts_core.specs.declared.facts.Facts.{Facts}
 use Rattle.facts_core.specs.Built.{is_amount}
 use Rattle.facts_core.specs.Rules.{is_aide, broken_rule}
-use Rattle.income_rules.specs.Members.{is_head_or_partner, is_under, numbers_of}
-use Rattle.income_rules.specs.Income.{is_earned, is_adoption, is_counted_whole, sum_of, counted_of_earnings, counted_of_others, counted_earned_of, counted_unearned_of, earned_of, unearned_of}
+use Rattle.income_rules.specs.Members.{is_head_or_partner, is_under}
+use Rattle.income_rules.specs.Income.{is_earned, is_adoption, is_counted_whole, sum_of, counted_of_earnings, counted_of_others, counted_earned_of, counted_unearned_of}
 use Rattle.income_rules.specs.Annual.{annual_income_of}
 use Rattle.income_rules.specs.Assets.{window_start, is_between, disposals_by, given_away_of, net_assets_of, actual_asset_income_of, imputed_asset_income, asset_income_of}
-use Rattle.income_rules.proofs.Kept.{Keeps, keeps, IsShort, is_short, HasAmounts, amounts_hold}
+use Rattle.income_rules.proofs.Kept.{keeps, is_short, amounts_hold}
 use Rattle.income_rules.proofs.Sums.{sum_by-bounded, sum_by-filter, sum_by-filter-le, sum_by-add, cond-le, only_once}
 
 -- ---- the lists of the facts

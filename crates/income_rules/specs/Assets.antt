@@ -2,7 +2,6 @@
 use Rattle.std.specs.Prelude.{ℕ, ◌+◌, ◌-◌, ◌*◌, ◌&&◌, nat_le, nat_lt, max, if◌then◌else◌, Bool, List, filter, sum_by, unwrap_or}
 use Rattle.days_core.specs.Calendar.{years_before}
 use Rattle.days_core.specs.Rounding.{round_half_up}
-use Rattle.facts_core.specs.declared.property.Asset.{Asset}
 use Rattle.facts_core.specs.declared.property.Disposal.{Disposal}
 use Rattle.facts_core.specs.declared.facts.Facts.{Facts}
 

@@ -178,6 +178,7 @@ fn incomes_of_members(rt: HostRuntime) -> Result<(), Fail> {
         ];
         let facts = household(alloc, [other, child], &incomes, nothing, unsold)?;
         assert_eq!(rt; broken_rule(&facts, day), None);
+        assert_eq!(rt; facts.members.as_slice().len(), 3);
         assert_eq!(rt; counted_earned(&facts, 1, day), earned);
         let annual = annual_income(&facts, day, 200);
         assert_eq!(rt; annual.earned, earned);

@@ -1,4 +1,4 @@
-use Rattle.income_rules.proofs.Fits.{incomes_fit, sum_of-le, family_within}
+use Rattle.income_rules.proofs.Fits.{incomes_fit, sum_of-le}
 use Rattle.income_rules.proofs.Kept.{keeps, born_by}
 use Rattle.income_rules.specs.Income.{is_earned}
 use Rattle.std.proofs.Common.{arith}

@@ -1,7 +1,4 @@
-use Rattle.std.proofs.Common.{◌≡◌, ◌+◌, ◌≤◌, arith, ℕ, None, length}
-use Rattle.facts_core.specs.declared.facts.Facts.{Facts}
-use Rattle.facts_core.specs.Rules.{broken_rule}
-use Rattle.income_rules.specs.Annual.{annual_income_of}
+use Rattle.std.proofs.Common.{arith}
 use Rattle.income_rules.proofs.Fits.{annual_income_fits}
 use Rattle.income_rules.proofs.income.annual_income.Goals as goal
 
