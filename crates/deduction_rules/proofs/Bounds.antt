@@ -1,6 +1,6 @@
 -- What the members and the deductions of facts that break no rule are bounded by.
-use Rattle.std.proofs.Common.{◌≡◌, ℕ, ◌+◌, ◌*◌, ◌≤◌, ◌<◌, min, cond, true, false, Bool, List, length, Option, None, arith}
-use Rattle.std.specs.Prelude.{All, ◌-◌, nat_le, nat_lt, if◌then◌else◌, filter, sum_by, count_by, slice_get}
+use Rattle.std.proofs.Common.{◌≡◌, ℕ, ◌+◌, ◌≤◌, min, true, false, Bool, length, None, arith}
+use Rattle.std.specs.Prelude.{All, ◌-◌, nat_le, nat_lt, if◌then◌else◌, sum_by, count_by, slice_get}
 use Rattle.std.specs.List.{range_with_len, list_any}
 use Rattle.std.specs.Option.{option_map_or}
 use Rattle.std.proofs.lemmas.Bool.{leb-true}
@@ -13,7 +13,7 @@ use Rattle.income_rules.specs.Income.{counted_earned_of}
 use Rattle.income_rules.proofs.Kept.{keeps, is_short, amounts_hold}
 use Rattle.income_rules.proofs.Sums.{sum_by-filter, cond-le}
 use Rattle.income_rules.proofs.Fits.{family_within}
-use Rattle.deduction_rules.specs.Deductions.{is_dependent, dependents_of, is_elderly_family, elderly_deduction_of, child_care_of, disability_deduction_of, medical_beyond, medical_deduction_of, three_percent_of, earned_by, is_helped_adult, is_young_child}
+use Rattle.deduction_rules.specs.Deductions.{is_dependent, dependents_of, is_elderly_family, elderly_deduction_of, child_care_of, disability_deduction_of, medical_deduction_of, three_percent_of, earned_by, is_helped_adult, is_young_child}
 
 -- each member was born by the day
 pub all_born : (facts : Facts) (day : ℕ) → broken_rule facts day ≡ None → All (λ member. member.born ≤ day) facts.members
@@ -31,9 +31,11 @@ earned_by-shares is_such facts day =
 
 pub shares-le : (is_such : Member → Bool) (facts : Facts) (day k : ℕ) → broken_rule facts day ≡ None → sum_by (share_of is_such facts day) (range_with_len 0 k) ≤ 399999960
 shares-le is_such facts day k e =
-    omega (arith,
+    omega (
+      arith,
       sum_by-le-sum_by (share_of is_such facts day) (λ number. counted_earned_of facts number day) (range_with_len 0 k) (λ number. cond-le (option_map_or is_such (slice_get facts.members number) false) (counted_earned_of facts number day)),
-      family_within facts day k e)
+      family_within facts day k e,
+    )
 
 pub dependents-le : (facts : Facts) (day : ℕ) → broken_rule facts day ≡ None → count_by (is_dependent day) facts.members ≤ 16
 dependents-le facts day e =
@@ -60,10 +62,15 @@ medical-le false above disability medical threshold = omega arith
 pub deductions-le : (facts : Facts) (annual day : ℕ) → broken_rule facts day ≡ None → dependents_of facts day + elderly_deduction_of facts day + child_care_of facts day + disability_deduction_of facts annual day + medical_deduction_of facts annual day ≤ 100000000
 deductions-le facts annual day e =
     let costs = costs-le facts day e in
-    omega (arith,
+    omega (
+      arith,
       dependents-le facts day e,
       cond-le (is_elderly_family facts day) 400,
       child_care-le (list_any (is_young_child day) facts.members) facts.care_work (earned_by (λ member. member.cared) facts day) facts.care_school,
       disability-le (nat_lt (three_percent_of annual) facts.disability) facts.disability (three_percent_of annual) (earned_by (is_helped_adult day) facts day),
       medical-le (is_elderly_family facts day) (nat_lt (three_percent_of annual) facts.disability) facts.disability facts.medical (three_percent_of annual),
-      costs.0, costs.1, costs.2, costs.3)
+      costs.0,
+      costs.1,
+      costs.2,
+      costs.3,
+    )

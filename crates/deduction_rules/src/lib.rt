@@ -9,3 +9,6 @@ mod household;
 
 pub use adjusted::adjusted_income;
 pub use figures::Allowances;
+
+#[cfg(test)]
+mod tests;

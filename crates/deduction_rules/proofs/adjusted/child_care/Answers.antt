@@ -1,5 +1,5 @@
-use Rattle.std.proofs.Common.{◌≤◌, arith}
-use Rattle.deduction_rules.proofs.Bounds.{all_born, dependents-le, costs-le}
+use Rattle.std.proofs.Common.{arith}
+use Rattle.deduction_rules.proofs.Bounds.{all_born, costs-le}
 use Rattle.deduction_rules.proofs.adjusted.child_care.Goals as goal
 
 pub has_young_child-requires : goal.has_young_child-requires

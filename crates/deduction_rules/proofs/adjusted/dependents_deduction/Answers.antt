@@ -1,5 +1,5 @@
-use Rattle.std.proofs.Common.{◌≤◌, arith}
-use Rattle.deduction_rules.proofs.Bounds.{all_born, dependents-le, costs-le}
+use Rattle.std.proofs.Common.{arith}
+use Rattle.deduction_rules.proofs.Bounds.{all_born, dependents-le}
 use Rattle.deduction_rules.proofs.adjusted.dependents_deduction.Goals as goal
 
 pub dependents-requires : goal.dependents-requires

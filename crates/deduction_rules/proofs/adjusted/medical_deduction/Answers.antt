@@ -1,5 +1,5 @@
-use Rattle.std.proofs.Common.{◌≤◌, arith}
-use Rattle.deduction_rules.proofs.Bounds.{all_born, dependents-le, costs-le}
+use Rattle.std.proofs.Common.{arith}
+use Rattle.deduction_rules.proofs.Bounds.{all_born, costs-le}
 use Rattle.deduction_rules.proofs.adjusted.medical_deduction.Goals as goal
 
 pub is_elderly_family-requires : goal.is_elderly_family-requires
