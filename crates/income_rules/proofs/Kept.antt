@@ -41,6 +41,7 @@ keeps facts day e =
 
 -- the lists are no longer than the rules allow
 pub record IsShort (facts : Facts) : Type 0 where
+  pub members : length facts.members ≤ 16
   pub incomes : length facts.incomes ≤ 40
   pub assets : length facts.assets ≤ 40
   pub disposals : length facts.disposals ≤ 40
@@ -53,23 +54,40 @@ is_short facts e =
     let members = and_parts (nat_le (length facts.members) 16) others family.1 in
     let incomes = and_parts (nat_le (length facts.incomes) 40) lists members.1 in
     let both = and_parts (nat_le (length facts.assets) 40) (nat_le (length facts.disposals) 40) incomes.1 in
-    record { incomes = leb-true _ _ incomes.0; assets = leb-true _ _ both.0; disposals = leb-true _ _ both.1 }
+    record { members = leb-true _ _ members.0; incomes = leb-true _ _ incomes.0; assets = leb-true _ _ both.0; disposals = leb-true _ _ both.1 }
 
--- the amounts of each list are what the rules allow
+-- the amounts are what the rules allow
 pub record HasAmounts (facts : Facts) : Type 0 where
   pub incomes : list_all (λ income. is_amount income.annual) facts.incomes ≡ true
   pub assets : list_all (λ asset. is_amount asset.value && is_amount asset.income) facts.assets ≡ true
   pub disposals : list_all (λ disposal. is_amount disposal.value && is_amount disposal.received) facts.disposals ≡ true
+  pub care_work : facts.care_work ≤ 9999999
+  pub care_school : facts.care_school ≤ 9999999
+  pub disability : facts.disability ≤ 9999999
+  pub medical : facts.medical ≤ 9999999
 
 pub amounts_hold : (facts : Facts) → has_amounts facts ≡ true → HasAmounts facts
 amounts_hold facts e =
-    let costs : Bool = is_amount facts.care_work && (is_amount facts.care_school && (is_amount facts.disability && (is_amount facts.medical && is_amount facts.welfare))) in
+    let expenses : Bool = is_amount facts.disability && (is_amount facts.medical && is_amount facts.welfare) in
+    let costs : Bool = is_amount facts.care_work && (is_amount facts.care_school && expenses) in
     let disposals : Bool = list_all (λ (disposal : Disposal). is_amount disposal.value && is_amount disposal.received) facts.disposals in
     let assets : Bool = list_all (λ (asset : Asset). is_amount asset.value && is_amount asset.income) facts.assets in
     let first = and_parts (list_all (λ (income : Income). is_amount income.annual) facts.incomes) (assets && (disposals && costs)) e in
     let second = and_parts assets (disposals && costs) first.1 in
     let third = and_parts disposals costs second.1 in
-    record { incomes = first.0; assets = second.0; disposals = third.0 }
+    let work = and_parts (is_amount facts.care_work) (is_amount facts.care_school && expenses) third.1 in
+    let school = and_parts (is_amount facts.care_school) expenses work.1 in
+    let disability = and_parts (is_amount facts.disability) (is_amount facts.medical && is_amount facts.welfare) school.1 in
+    let medical = and_parts (is_amount facts.medical) (is_amount facts.welfare) disability.1 in
+    record {
+      incomes = first.0;
+      assets = second.0;
+      disposals = third.0;
+      care_work = leb-true _ _ work.0;
+      care_school = leb-true _ _ school.0;
+      disability = leb-true _ _ disability.0;
+      medical = leb-true _ _ medical.0;
+    }
 
 -- a member was born by the day by which all were
 pub born_by : (members : List Member) (number day : ℕ) (member : Member) → list_all (λ m. nat_le m.born day) members ≡ true → slice_get members number ≡ Some member → member.born ≤ day

@@ -4,6 +4,7 @@ ghost use Rattle.income_rules.specs.Members.{is_head_or_partner, is_under};
 use days_core::{Day, age_on};
 use facts_core::{Member, Relation};
 
+/// The member of that number.
 pub fn member_at(members: &[Member], number: usize) -> Member
     requires { number < length members.now }
     ensures { slice_get members.now number ≡ Some result }
@@ -11,6 +12,7 @@ pub fn member_at(members: &[Member], number: usize) -> Member
     members[number]
 }
 
+/// Whether the relation is that of the head, the spouse or the co-head.
 pub fn is_head_or_partner(relation: Relation) -> bool
     ensures { result ≡ is_head_or_partner relation }
 {
@@ -20,6 +22,7 @@ pub fn is_head_or_partner(relation: Relation) -> bool
     }
 }
 
+/// Whether the member is younger on the day than so many years.
 pub fn is_under(years: u32, member: Member, day: Day) -> bool
     requires { member.born ≤ day }
     ensures { result ≡ is_under years member day }

@@ -1,0 +1,24 @@
+use Rattle.std.proofs.Common.{◌≡◌, ℕ, ◌+◌, length, ap, sym, ◌∙◌, arith}
+use Rattle.std.specs.Prelude.{sum_by}
+use Rattle.std.specs.List.{range_with_len}
+use Rattle.deduction_rules.specs.Deductions.{is_helped_adult}
+use Rattle.income_rules.proofs.Sums.{sum_by-range_more}
+use Rattle.deduction_rules.proofs.Bounds.{share_of, shares-le, earned_by-shares}
+use Rattle.deduction_rules.proofs.earners.earned_by_helped.Goals as goal
+
+pub overflow_add-total : goal.overflow_add-total
+overflow_add-total c =
+    let more = sum_by-range_more (share_of (is_helped_adult c.args.day) c.args.facts.now c.args.day) c.loop-number.number in
+    let within = shares-le (is_helped_adult c.args.day) c.args.facts.now c.args.day (c.loop-number.number + 1) c.requires in
+    omega (arith, more, within)
+
+pub loop-number-preserved : goal.loop-number-preserved
+loop-number-preserved c =
+    let more = sum_by-range_more (share_of (is_helped_adult c.args.day) c.args.facts.now c.args.day) c.loop-number.number in
+    omega (arith, more)
+
+pub returns : goal.returns
+returns c =
+    let ends : c.loop-number.number ≡ length c.args.facts.now.members = omega (arith, ap length c.as_slice-number-end.ensures) in
+    let shares : ℕ → ℕ = share_of (is_helped_adult c.args.day) c.args.facts.now c.args.day in
+    c.loop-number.invariant ∙ ap (λ n. sum_by shares (range_with_len 0 n)) ends ∙ sym (earned_by-shares (is_helped_adult c.args.day) c.args.facts.now c.args.day)
