@@ -1,4 +1,3 @@
 pub mod Facts
-pub mod Built
 pub mod Rules
 pub mod FactsData

@@ -4,7 +4,17 @@ use Rattle.std.specs.List.{list_all}
 use Rattle.facts_core.specs.declared.members.Relation.{Relation}
 use Rattle.facts_core.specs.declared.members.Relation.TheVariants as relation
 use Rattle.facts_core.specs.declared.facts.Facts.{Facts}
-use Rattle.facts_core.specs.Built.{is_head, is_amount}
+
+-- an amount of the facts, in whole dollars
+abbrev pub is_amount : ℕ → Bool
+is_amount amount = nat_le amount 9999999
+
+abbrev pub is_head : Relation → Bool
+is_head relation.Head = true
+is_head relation.Spouse = false
+is_head relation.Cohead = false
+is_head relation.Other = false
+is_head relation.Aide = false
 
 abbrev pub is_partner : Relation → Bool
 is_partner relation.Head = false

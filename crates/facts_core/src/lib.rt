@@ -1,7 +1,6 @@
 //! The facts of a household, how they are read of JSON and written as it, and the rules that they keep.
 #![tactic(auto)]
 
-mod built;
 mod facts;
 mod incomes;
 mod json;
@@ -9,7 +8,6 @@ mod members;
 mod property;
 mod rules;
 
-pub use built::{BuiltFault, built_facts};
 pub use facts::Facts;
 pub use incomes::{Income, IncomeKind};
 pub use json::{facts_of_value, facts_read_back, value_of_facts};

@@ -1,6 +1,6 @@
 ghost use Rattle.std.specs.Prelude.{◌≡◌, ◌&&◌, not, count_by, nat_lt, nat_le};
 ghost use Rattle.std.specs.List.{list_all};
-ghost use Rattle.facts_core.specs.Built.{is_head, is_amount};
+ghost use Rattle.facts_core.specs.Rules.{is_head, is_amount};
 ghost use Rattle.facts_core.specs.Rules as rule;
 
 use crate::facts::Facts;

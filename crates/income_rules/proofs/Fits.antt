@@ -12,7 +12,7 @@ use Rattle.facts_core.specs.declared.incomes.Income.{Income}
 use Rattle.facts_core.specs.declared.property.Asset.{Asset}
 use Rattle.facts_core.specs.declared.property.Disposal.{Disposal}
 use Rattle.facts_core.specs.declared.facts.Facts.{Facts}
-use Rattle.facts_core.specs.Built.{is_amount}
+use Rattle.facts_core.specs.Rules.{is_amount}
 use Rattle.facts_core.specs.Rules.{is_aide, broken_rule}
 use Rattle.income_rules.specs.Members.{is_head_or_partner, is_under}
 use Rattle.income_rules.specs.Income.{is_earned, is_adoption, is_counted_whole, sum_of, counted_of_earnings, counted_of_others, counted_earned_of, counted_unearned_of}

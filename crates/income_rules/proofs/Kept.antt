@@ -8,7 +8,7 @@ use Rattle.facts_core.specs.declared.incomes.Income.{Income}
 use Rattle.facts_core.specs.declared.property.Asset.{Asset}
 use Rattle.facts_core.specs.declared.property.Disposal.{Disposal}
 use Rattle.facts_core.specs.declared.facts.Facts.{Facts}
-use Rattle.facts_core.specs.Built.{is_amount}
+use Rattle.facts_core.specs.Rules.{is_amount}
 use Rattle.facts_core.specs.Rules.{has_one_head, has_at_most_one_partner, names_members, has_amounts, has_fair_disposals, is_in_size, has_births_by, is_aide, broken_rule}
 
 -- a rule that isn't broken, and the rest
