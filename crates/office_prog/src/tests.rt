@@ -6,7 +6,7 @@ use std::test::Fail;
 
 const BENEFITS: &str = "{\"member\":0,\"kind\":\"Benefits\",\"annual\":9600}";
 
-const UNBUILT: &str = "{\"refused\":{\"kind\":\"Unbuilt\"}}\n";
+const COSTS: &str = "\"disability\":0,\"medical\":1000,\"welfare\":0,\"exempt\":false";
 
 const USAGE: &str = "usage: office assess\n";
 
@@ -15,22 +15,13 @@ const PAID: &str = "{\"adjusted\":8488,\"annual\":9600,\"assistance\":548,\"reim
     \"tenant_rent\":152,\"ttp\":212}\n";
 
 /// The assess object of one person who turned 70 in the year before.
-fn household(
-    alloc: Global,
-    incomes: &str,
-    disability: u32,
-    medical: u32,
-    exempt: bool,
-) -> Result<Vec<u8>, AllocError> {
+fn household(alloc: Global, incomes: &str, costs: &str) -> Result<Vec<u8>, AllocError> {
     let terms = "\"day\":\"2024-01-01\",\"passbook\":200,\"contract_rent\":700,\"utility\":60";
     let head = "{\"relation\":\"Head\",\"born\":\"1953-06-01\",\"disabled\":false,\
         \"student\":false,\"helped\":false,\"cared\":false}";
-    let costs = format!(in alloc;
-        "\"care_work\":0,\"care_school\":0,\"disability\":{disability},\"medical\":{medical}"
-    )?;
     let text = format!(in alloc;
         "{{{terms},\"facts\":{{\"members\":[{head}],\"incomes\":[{incomes}],\
-         \"assets\":[],\"disposals\":[],{costs},\"welfare\":0,\"exempt\":{exempt}}}}}"
+         \"assets\":[],\"disposals\":[],\"care_work\":0,\"care_school\":0,{costs}}}}}"
     )?;
     Ok(text.into_bytes())
 }
@@ -55,19 +46,61 @@ fn ran(
 }
 
 #[test]
-fn assesses_one_elderly_household(rt: HostRuntime) -> Result<(), Fail> {
+fn assesses_a_household_or_says_why_not(rt: HostRuntime) -> Result<(), Fail> {
     let alloc = rt.alloc();
     let nothing = "{\"adjusted\":0,\"annual\":0,\"assistance\":735,\"reimbursement\":35,\
         \"tenant_rent\":0,\"ttp\":25}\n";
     let exempt = "{\"adjusted\":0,\"annual\":0,\"assistance\":760,\"reimbursement\":60,\
         \"tenant_rent\":0,\"ttp\":0}\n";
-    for (input, status, text) in [
-        (household(alloc, BENEFITS, 0, 1_000, false)?, 0, PAID),
-        (household(alloc, "", 0, 0, false)?, 0, nothing),
-        (household(alloc, "", 0, 0, true)?, 0, exempt),
-        (household(alloc, BENEFITS, 1, 1_000, false)?, 8, UNBUILT),
-        (Vec::new(alloc), 8, UNBUILT),
+    let helped = "{\"adjusted\":8487,\"annual\":9600,\"assistance\":548,\"reimbursement\":0,\
+        \"tenant_rent\":152,\"ttp\":212}\n";
+    for (incomes, costs, status, text) in [
+        (BENEFITS, COSTS, 0, PAID),
+        (
+            "",
+            "\"disability\":0,\"medical\":0,\"welfare\":0,\"exempt\":false",
+            0,
+            nothing,
+        ),
+        (
+            "",
+            "\"disability\":0,\"medical\":0,\"welfare\":0,\"exempt\":true",
+            0,
+            exempt,
+        ),
+        // Of costs of 1 and medical expenses of 1,000, what is above 288 is allowed.
+        (
+            BENEFITS,
+            "\"disability\":1,\"medical\":1000,\"welfare\":0,\"exempt\":false",
+            0,
+            helped,
+        ),
+        (
+            "{\"member\":1,\"kind\":\"Benefits\",\"annual\":9600}",
+            COSTS,
+            8,
+            "{\"refused\":{\"kind\":\"FactsRule\",\"number\":8,\"rule\":3}}\n",
+        ),
+        (
+            "{\"member\":0,\"kind\":\"Gifts\",\"annual\":9600}",
+            COSTS,
+            8,
+            "{\"refused\":{\"kind\":\"Form\",\"path\":\"facts.incomes[0].kind\"}}\n",
+        ),
+        (
+            BENEFITS,
+            "\"disability\":0,\"medical\":0,\"welfare\":0,\"exempt\":true,\"extra\":1",
+            8,
+            "{\"refused\":{\"kind\":\"Form\",\"path\":\"facts.?\"}}\n",
+        ),
+        (
+            BENEFITS,
+            "\"disability\":",
+            8,
+            "{\"refused\":{\"kind\":\"Form\",\"path\":\"\"}}\n",
+        ),
     ] {
+        let input = household(alloc, incomes, costs)?;
         let (ended, written) = ran(alloc, "assess", input, None, None)?;
         assert_eq!(rt; ended, status, "{text}");
         assert_eq!(rt; written.as_slice(), text.as_bytes());
@@ -78,7 +111,7 @@ fn assesses_one_elderly_household(rt: HostRuntime) -> Result<(), Fail> {
 #[test]
 fn takes_16384_bytes_and_its_one_word(rt: HostRuntime) -> Result<(), Fail> {
     let alloc = rt.alloc();
-    let mut input = household(alloc, BENEFITS, 0, 1_000, false)?;
+    let mut input = household(alloc, BENEFITS, COSTS)?;
     input.resize(16_384, b' ')?;
     let mut longer = input.clone()?;
     longer.push(b' ')?;
@@ -97,7 +130,7 @@ fn takes_16384_bytes_and_its_one_word(rt: HostRuntime) -> Result<(), Fail> {
 #[test]
 fn faults_end_the_program_at_each_call(rt: HostRuntime) -> Result<(), Fail> {
     let alloc = rt.alloc();
-    let whole = household(alloc, BENEFITS, 0, 1_000, false)?;
+    let whole = household(alloc, BENEFITS, COSTS)?;
     let reads = whole.len() as u64 / 7 + 1;
     for call in [0, 1, reads / 2, reads] {
         let (status, written) = ran(alloc, "assess", whole.clone()?, Some(call), None)?;
