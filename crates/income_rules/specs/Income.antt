@@ -41,9 +41,9 @@ abbrev pub sum_of : (IncomeKind → Bool) → List Income → ℕ → ℕ
 sum_of is_such incomes number =
     sum_by (λ income. income.annual) (filter (λ income. income.member == number && is_such income.kind) incomes)
 
--- What is counted of a member's earnings. Those of a live-in aide aren't (24 CFR 5.609(c)(5)), and of others than
--- the head, the spouse and the co-head those under 18 aren't (5.609(c)(1)), and those of a full-time student
--- up to 480 (5.609(c)(11)).
+-- What is counted of a member's earnings: of a live-in aide's nothing (24 CFR 5.609(c)(5)), and of the head's, the
+-- spouse's and the co-head's all. Of another member's under 18 nothing (5.609(c)(1)), of a full-time student's up to
+-- 480 (5.609(c)(11)), and else all.
 abbrev pub counted_of_earnings : Member → ℕ → ℕ → ℕ
 counted_of_earnings member day earnings =
     if is_aide member.relation then 0
@@ -57,8 +57,8 @@ abbrev pub counted_earned_of : Facts → ℕ → ℕ → ℕ
 counted_earned_of facts number day =
     option_map_or (λ member. counted_of_earnings member day (sum_of is_earned facts.incomes number)) (slice_get facts.members number) 0
 
--- What is counted of a member's other income: nothing of a live-in aide's (24 CFR 5.609(c)(5)), and for one child
--- up to 480 of the adoption assistance (5.609(c)(12)).
+-- What is counted of a member's other income: of a live-in aide's nothing (24 CFR 5.609(c)(5)), of the adoption
+-- assistance for one child up to 480 (5.609(c)(12)), and else all.
 abbrev pub counted_of_others : Member → ℕ → ℕ → ℕ
 counted_of_others member whole adoption = if is_aide member.relation then 0 else whole + min 480 adoption
 
