@@ -3,7 +3,6 @@ use Rattle.std.specs.Prelude.{ℕ, List, [], ◌∷◌, ◌++◌, Option, Some, 
 use Rattle.serde_json.specs.Data.{Data, object, number, string, unsigned, member, no_members}
 use Rattle.serde_json.specs.Written.{compact_text}
 use Rattle.facts_core.specs.Rules.{broken_rule}
-use Rattle.income_rules.specs.declared.figures.Annual.{Annual}
 use Rattle.income_rules.specs.Annual.{annual_income_of}
 use Rattle.deduction_rules.specs.Deductions.{adjusted_income_of}
 use Rattle.payment_rules.specs.declared.figures.Payment.{Payment}
