@@ -134,7 +134,7 @@ fn faults_end_the_program_at_each_call(rt: HostRuntime) -> Result<(), Fail> {
     let alloc = rt.alloc();
     let whole = household(alloc, "", "")?;
     let reads = whole.len() as u64 / 7 + 1;
-    for call in [0, 1, reads / 2, reads] {
+    for call in 0..=reads {
         let (status, written) = ran(alloc, "assess", whole.clone()?, Some(call), None)?;
         assert_eq!(rt; (status, written.len()), (3, 0), "read {call}");
     }
