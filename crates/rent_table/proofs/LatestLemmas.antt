@@ -1,0 +1,88 @@
+-- The latest row is one of the rows, and none comes after it.
+use Rattle.std.proofs.Common.{◌≡◌, ◌∙◌, sym, ℕ, Bool, true, false, List, [], ◌∷◌, refl, arith, nat_tests}
+use Rattle.std.specs.Prelude.{Option, Some, None, fold, filter, All, Contains, IfSome, IsSomeAnd, if◌then◌else◌}
+use Rattle.std.proofs.lemmas.List.Elements.{All-filter, All-contains_itself, filter_passes}
+use Rattle.rent_table.specs.Latest.{comes_before, later, latest, IsLatest}
+
+-- no row comes before itself, and what is after a row is behind nothing that the row is not behind
+pub record IsRowOrder {Row : Type 0} (before : Row → Row → Bool) : Type 0 where
+  pub itself : (row : Row) → before row row ≡ false
+  pub ahead : (best row other : Row) → before best row ≡ true → before best other ≡ false → before row other ≡ false
+
+pub All-both : {Row : Type 0} (P Q : Row → Type 0) (rows : List Row) → All P rows → All Q rows → All (λ row. P row × Q row) rows
+All-both P Q [] of_p of_q = tt
+All-both P Q (row ∷ rows) of_p of_q = ((of_p.0, of_q.0), All-both P Q rows of_p.1 of_q.1)
+
+kept_or_not : {Row : Type 0} (passes : Row → Bool) (P : Row → Type 0) (row : Row) (rows : List Row) (b : Bool) → passes row ≡ b →
+    All P (if b then row ∷ filter passes rows else filter passes rows) →
+    (All P (filter passes rows) → All (λ r. passes r ≡ true → P r) rows) →
+    All (λ r. passes r ≡ true → P r) (row ∷ rows)
+kept_or_not passes P row rows true is of_kept rest = (λ _. of_kept.0, rest of_kept.1)
+kept_or_not passes P row rows false is of_kept rest =
+    (λ passed. absurd (let clash : false ≡ true = sym is ∙ passed in cc), rest of_kept)
+
+-- what holds of all that a filter keeps holds of each that passes
+pub All-passing : {Row : Type 0} (passes : Row → Bool) (P : Row → Type 0) (rows : List Row) →
+    All P (filter passes rows) → All (λ row. passes row ≡ true → P row) rows
+All-passing passes P [] of_kept = tt
+All-passing passes P (row ∷ rows) of_kept = kept_or_not passes P row rows (passes row) refl of_kept (All-passing passes P rows)
+
+-- what holds of the rows holds of the latest
+pub latest-among : {Row : Type 0} (before : Row → Row → Bool) (P : Row → Type 0) (best : Option Row) (rows : List Row) →
+    IfSome best P → All P rows → IfSome (fold (later before) best rows) P
+latest-among before P best [] of_best of_rows = of_best
+latest-among before P None (row ∷ rows) of_best of_rows = latest-among before P (Some row) rows of_rows.0 of_rows.1
+latest-among before P (Some best) (row ∷ rows) of_best of_rows =
+    elim (before best row) as (λ b. IfSome (fold (later before) (if b then Some row else Some best) rows) P)
+        [ true ↦ latest-among before P (Some row) rows of_rows.0 of_rows.1
+        | false ↦ latest-among before P (Some best) rows of_best of_rows.1 ]
+
+-- the latest is not behind `other`
+abbrev NotBehind : {Row : Type 0} → (Row → Row → Bool) → Option Row → List Row → Row → Type 0
+NotBehind before best rows other = IsSomeAnd (fold (later before) best rows) (λ answer. before answer other ≡ false)
+
+not_behind_next : {Row : Type 0} (before : Row → Row → Bool) → IsRowOrder before → (best row other : Row) (rows : List Row) (b : Bool) →
+    before best row ≡ b → before best other ≡ false →
+    ((next : Row) → before next other ≡ false → NotBehind before (Some next) rows other) →
+    NotBehind before (if b then Some row else Some best) rows other
+not_behind_next before order best row other rows true is ahead rest = rest row (order.ahead best row other is ahead)
+not_behind_next before order best row other rows false is ahead rest = rest best ahead
+
+-- what the best so far is not behind the latest is not behind
+pub latest-not_behind : {Row : Type 0} (before : Row → Row → Bool) → IsRowOrder before → (best other : Row) (rows : List Row) →
+    before best other ≡ false → NotBehind before (Some best) rows other
+latest-not_behind before order best other [] ahead = ahead
+latest-not_behind before order best other (row ∷ rows) ahead =
+    not_behind_next before order best row other rows (before best row) refl ahead (λ next. latest-not_behind before order next other rows)
+
+last_next : {Row : Type 0} (before : Row → Row → Bool) → IsRowOrder before → (best row : Row) (rows : List Row) (b : Bool) →
+    before best row ≡ b → ((next : Row) → All (NotBehind before (Some next) rows) rows) →
+    All (NotBehind before (if b then Some row else Some best) rows) (row ∷ rows)
+last_next before order best row rows true is rest = (latest-not_behind before order row row rows (order.itself row), rest row)
+last_next before order best row rows false is rest = (latest-not_behind before order best row rows is, rest best)
+
+-- no row comes after the latest
+pub latest-last : {Row : Type 0} (before : Row → Row → Bool) → IsRowOrder before → (best : Option Row) (rows : List Row) →
+    All (NotBehind before best rows) rows
+latest-last before order best [] = tt
+latest-last before order None (row ∷ rows) =
+    (latest-not_behind before order row row rows (order.itself row), latest-last before order (Some row) rows)
+latest-last before order (Some best) (row ∷ rows) =
+    last_next before order best row rows (before best row) refl (λ next. latest-last before order (Some next) rows)
+
+pub latest-is : {Row : Type 0} (before : Row → Row → Bool) (passes : Row → Bool) (rows : List Row) → IsRowOrder before →
+    IsLatest before passes rows (latest before (filter passes rows))
+latest-is before passes rows order = record {
+    among = latest-among before (λ row. Contains rows row × (passes row ≡ true)) None (filter passes rows) tt
+        (All-both (Contains rows) (λ row. passes row ≡ true) (filter passes rows)
+            (All-filter passes (Contains rows) rows (All-contains_itself rows))
+            (filter_passes passes rows));
+    last = All-passing passes (NotBehind before None (filter passes rows)) rows (latest-last before order None (filter passes rows)) }
+
+pub comes_before-itself : (from act : ℕ) → comes_before from act from act ≡ false
+comes_before-itself from act = grind (arith, nat_tests)
+
+pub comes_before-ahead : (best_from best_act from act other_from other_act : ℕ) →
+    comes_before best_from best_act from act ≡ true → comes_before best_from best_act other_from other_act ≡ false →
+    comes_before from act other_from other_act ≡ false
+comes_before-ahead best_from best_act from act other_from other_act before ahead = grind (arith, nat_tests)

@@ -1,0 +1,54 @@
+-- An office's units, and which rents and income limits stand on a day.
+use Rattle.std.specs.Prelude.{ℕ, ◌&&◌, ◌==◌, nat_eq, nat_le, Bool, Option, List, filter, find}
+use Rattle.std.specs.Option.{option_map}
+use Rattle.std.specs.Cmp.Lexicographic.{pointwise}
+use Rattle.days_core.specs.declared.rents.Rents.{Rents}
+use Rattle.rent_table.specs.declared.rows.Unit.{Unit as UnitRow}
+use Rattle.rent_table.specs.declared.rows.RentRow.{RentRow}
+use Rattle.rent_table.specs.declared.rows.LimitRow.{LimitRow}
+use Rattle.rent_table.specs.Latest.{comes_before, latest}
+
+-- what an office has on record, in the order in which it came, and for how many more rows of each sort it has room
+pub record Table : Type 0 where
+  pub units : List UnitRow
+  pub rents : List RentRow
+  pub limits : List LimitRow
+  pub unit_room : ℕ
+  pub rent_room : ℕ
+  pub limit_room : ℕ
+
+-- the unit of that number
+abbrev pub unit_at : List UnitRow → ℕ → Option UnitRow
+unit_at units number = find (λ unit. unit.number == number) units
+
+-- the number of the unit of that name
+abbrev pub unit_named : List UnitRow → List ℕ → Option ℕ
+unit_named units name = option_map (λ unit. unit.number) (find (λ unit. pointwise nat_eq unit.name name) units)
+
+-- one row of rents comes before another
+abbrev pub rents_before : RentRow → RentRow → Bool
+rents_before row other = comes_before row.from row.act other.from other.act
+
+-- one row of limits comes before another
+abbrev pub limits_before : LimitRow → LimitRow → Bool
+limits_before row other = comes_before row.from row.act other.from other.act
+
+-- the row sets rents of the group, and begins by the day
+abbrev pub is_for_rents : ℕ → ℕ → RentRow → Bool
+is_for_rents group day row = row.group == group && nat_le row.from day
+
+-- the limits begin by the day
+abbrev pub begins_by : ℕ → LimitRow → Bool
+begins_by day row = nat_le row.from day
+
+-- the row that sets the rents of a group on a day
+abbrev pub rent_row_on : List RentRow → ℕ → ℕ → Option RentRow
+rent_row_on rows group day = latest rents_before (filter (is_for_rents group day) rows)
+
+-- the rents of a group on a day
+abbrev pub rents_on : List RentRow → ℕ → ℕ → Option Rents
+rents_on rows group day = option_map (λ row. row.rents) (rent_row_on rows group day)
+
+-- the income limits on a day
+abbrev pub limits_on : List LimitRow → ℕ → Option LimitRow
+limits_on rows day = latest limits_before (filter (begins_by day) rows)
