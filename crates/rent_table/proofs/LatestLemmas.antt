@@ -1,7 +1,9 @@
 -- The latest row is one of the rows, and none comes after it.
-use Rattle.std.proofs.Common.{◌≡◌, ◌∙◌, sym, ℕ, Bool, true, false, List, [], ◌∷◌, refl, arith, nat_tests}
+use Rattle.std.proofs.Common.{◌≡◌, ◌∙◌, sym, ℕ, Bool, true, false, List, [], ◌∷◌, refl, arith}
 use Rattle.std.specs.Prelude.{Option, Some, None, fold, filter, All, Contains, IfSome, IsSomeAnd, if◌then◌else◌}
-use Rattle.std.proofs.lemmas.List.Elements.{All-filter, All-contains_itself, filter_passes}
+use Rattle.std.proofs.lemmas.Bool.{false≢true}
+use Rattle.std.proofs.lemmas.Bool.Decides.{nat_tests}
+use Rattle.std.proofs.lemmas.List.Elements.{All-nil, All-cons, All-head, All-tail, All-filter, All-contains_itself, filter_passes}
 use Rattle.rent_table.specs.Latest.{comes_before, later, latest, IsLatest}
 
 -- no row comes before itself, and what is after a row is behind nothing that the row is not behind
@@ -10,32 +12,35 @@ pub record IsRowOrder {Row : Type 0} (before : Row → Row → Bool) : Type 0 wh
   pub ahead : (best row other : Row) → before best row ≡ true → before best other ≡ false → before row other ≡ false
 
 pub All-both : {Row : Type 0} (P Q : Row → Type 0) (rows : List Row) → All P rows → All Q rows → All (λ row. P row × Q row) rows
-All-both P Q [] of_p of_q = tt
-All-both P Q (row ∷ rows) of_p of_q = ((of_p.0, of_q.0), All-both P Q rows of_p.1 of_q.1)
+All-both P Q rows of_p of_q = λ k row within. (of_p k row within, of_q k row within)
 
 kept_or_not : {Row : Type 0} (passes : Row → Bool) (P : Row → Type 0) (row : Row) (rows : List Row) (b : Bool) → passes row ≡ b →
     All P (if b then row ∷ filter passes rows else filter passes rows) →
     (All P (filter passes rows) → All (λ r. passes r ≡ true → P r) rows) →
     All (λ r. passes r ≡ true → P r) (row ∷ rows)
-kept_or_not passes P row rows true is of_kept rest = (λ _. of_kept.0, rest of_kept.1)
+kept_or_not passes P row rows true is of_kept rest =
+    All-cons (λ r. passes r ≡ true → P r) row rows
+        (λ _. All-head P row (filter passes rows) of_kept)
+        (rest (All-tail P row (filter passes rows) of_kept))
 kept_or_not passes P row rows false is of_kept rest =
-    (λ passed. absurd (let clash : false ≡ true = sym is ∙ passed in cc), rest of_kept)
+    All-cons (λ r. passes r ≡ true → P r) row rows (λ passed. absurd (false≢true (sym is ∙ passed))) (rest of_kept)
 
 -- what holds of all that a filter keeps holds of each that passes
 pub All-passing : {Row : Type 0} (passes : Row → Bool) (P : Row → Type 0) (rows : List Row) →
     All P (filter passes rows) → All (λ row. passes row ≡ true → P row) rows
-All-passing passes P [] of_kept = tt
+All-passing passes P [] of_kept = All-nil (λ row. passes row ≡ true → P row)
 All-passing passes P (row ∷ rows) of_kept = kept_or_not passes P row rows (passes row) refl of_kept (All-passing passes P rows)
 
 -- what holds of the rows holds of the latest
 pub latest-among : {Row : Type 0} (before : Row → Row → Bool) (P : Row → Type 0) (best : Option Row) (rows : List Row) →
     IfSome best P → All P rows → IfSome (fold (later before) best rows) P
 latest-among before P best [] of_best of_rows = of_best
-latest-among before P None (row ∷ rows) of_best of_rows = latest-among before P (Some row) rows of_rows.0 of_rows.1
+latest-among before P None (row ∷ rows) of_best of_rows =
+    latest-among before P (Some row) rows (All-head P row rows of_rows) (All-tail P row rows of_rows)
 latest-among before P (Some best) (row ∷ rows) of_best of_rows =
     elim (before best row) as (λ b. IfSome (fold (later before) (if b then Some row else Some best) rows) P)
-        [ true ↦ latest-among before P (Some row) rows of_rows.0 of_rows.1
-        | false ↦ latest-among before P (Some best) rows of_best of_rows.1 ]
+        [ true ↦ latest-among before P (Some row) rows (All-head P row rows of_rows) (All-tail P row rows of_rows)
+        | false ↦ latest-among before P (Some best) rows of_best (All-tail P row rows of_rows) ]
 
 -- the latest is not behind `other`
 abbrev NotBehind : {Row : Type 0} → (Row → Row → Bool) → Option Row → List Row → Row → Type 0
@@ -58,15 +63,19 @@ latest-not_behind before order best other (row ∷ rows) ahead =
 last_next : {Row : Type 0} (before : Row → Row → Bool) → IsRowOrder before → (best row : Row) (rows : List Row) (b : Bool) →
     before best row ≡ b → ((next : Row) → All (NotBehind before (Some next) rows) rows) →
     All (NotBehind before (if b then Some row else Some best) rows) (row ∷ rows)
-last_next before order best row rows true is rest = (latest-not_behind before order row row rows (order.itself row), rest row)
-last_next before order best row rows false is rest = (latest-not_behind before order best row rows is, rest best)
+last_next before order best row rows true is rest =
+    All-cons (NotBehind before (Some row) rows) row rows (latest-not_behind before order row row rows (order.itself row)) (rest row)
+last_next before order best row rows false is rest =
+    All-cons (NotBehind before (Some best) rows) row rows (latest-not_behind before order best row rows is) (rest best)
 
 -- no row comes after the latest
 pub latest-last : {Row : Type 0} (before : Row → Row → Bool) → IsRowOrder before → (best : Option Row) (rows : List Row) →
     All (NotBehind before best rows) rows
-latest-last before order best [] = tt
+latest-last before order best [] = All-nil (NotBehind before best [])
 latest-last before order None (row ∷ rows) =
-    (latest-not_behind before order row row rows (order.itself row), latest-last before order (Some row) rows)
+    All-cons (NotBehind before (Some row) rows) row rows
+        (latest-not_behind before order row row rows (order.itself row))
+        (latest-last before order (Some row) rows)
 latest-last before order (Some best) (row ∷ rows) =
     last_next before order best row rows (before best row) refl (λ next. latest-last before order (Some next) rows)
 
