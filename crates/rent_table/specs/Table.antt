@@ -1,5 +1,5 @@
 -- An office's units, and which rents and income limits stand on a day.
-use Rattle.std.specs.Prelude.{ℕ, ◌&&◌, ◌==◌, nat_eq, nat_le, Bool, Option, List, filter, find}
+use Rattle.std.specs.Prelude.{◌≢◌, ◌<◌, ℕ, ◌&&◌, ◌==◌, nat_eq, nat_le, Bool, Option, List, AllPairs, filter, find}
 use Rattle.std.specs.Option.{option_map}
 use Rattle.std.specs.Cmp.Lexicographic.{pointwise}
 use Rattle.days_core.specs.declared.rents.Rents.{Rents}
@@ -24,6 +24,29 @@ unit_at units number = find (λ unit. unit.number == number) units
 -- the number of the unit of that name
 abbrev pub unit_named : List UnitRow → List ℕ → Option ℕ
 unit_named units name = option_map (λ unit. unit.number) (find (λ unit. pointwise nat_eq unit.name name) units)
+
+-- no two units have the same number
+abbrev pub HaveOwnNumbers : List UnitRow → Type 0
+HaveOwnNumbers units = AllPairs (λ unit other. unit.number ≢ other.number) units
+
+-- no two units have the same name
+abbrev pub HaveOwnNames : List UnitRow → Type 0
+HaveOwnNames units = AllPairs (λ unit other. unit.name ≢ other.name) units
+
+-- each act that set rents comes after those that set the earlier ones
+abbrev pub RentActsRise : List RentRow → Type 0
+RentActsRise rows = AllPairs (λ row next. row.act < next.act) rows
+
+-- each act that set limits comes after those that set the earlier ones
+abbrev pub LimitActsRise : List LimitRow → Type 0
+LimitActsRise rows = AllPairs (λ row next. row.act < next.act) rows
+
+-- what is true of the rows of every table
+pub record IsSound (units : List UnitRow) (rents : List RentRow) (limits : List LimitRow) : Type 0 where
+  pub numbers : HaveOwnNumbers units
+  pub names : HaveOwnNames units
+  pub rent_acts : RentActsRise rents
+  pub limit_acts : LimitActsRise limits
 
 -- one row of rents comes before another
 abbrev pub rents_before : RentRow → RentRow → Bool

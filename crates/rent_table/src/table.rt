@@ -1,6 +1,7 @@
 ghost use Rattle.std.specs.Prelude.{◌≡◌, ◌+◌, ◌<◌, ◌≤◌, [], ◌∷◌, ◌++◌, All, OnOk, IfOk};
 ghost use Rattle.std.specs.Option.{option_copied};
 ghost use Rattle.rent_table.specs.Table.{unit_at, unit_named, rents_on, limits_on};
+ghost use Rattle.rent_table.specs.Table.{HaveOwnNumbers, HaveOwnNames, RentActsRise, LimitActsRise};
 
 use crate::standing::{limit_row_on, rent_row_on};
 use crate::{LimitRow, RentRow, Unit};
@@ -19,7 +20,7 @@ pub struct RentTable {
 
 impl Model for RentTable {
     ghost use Rattle.std.specs.Prelude.{◌-◌, vec_len, vec_capacity};
-    ghost use Rattle.rent_table.specs.Table.{Table};
+    ghost use Rattle.rent_table.specs.Table.{Table, IsSound};
 
     ghost Value = { Table };
 
@@ -30,6 +31,8 @@ impl Model for RentTable {
         unit_room = vec_capacity table.units - vec_len table.units;
         rent_room = vec_capacity table.rents - vec_len table.rents;
         limit_room = vec_capacity table.limits - vec_len table.limits } };
+
+    ghost invariant = { λ table. IsSound table.units.items table.rents.items table.limits.items };
 }
 
 impl RentTable {
@@ -108,14 +111,16 @@ impl RentTable {
 
     /// The unit of that number.
     pub fn unit(&self, number: u32) -> Option<&Unit>
-        ensures { option_copied result ≡ unit_at self.now.units number }
+        ensures value { option_copied result ≡ unit_at self.now.units number }
+        ensures own_numbers { HaveOwnNumbers self.now.units }
     {
         self.units.iter().find(|unit| unit.number == number)
     }
 
     /// The number of the unit of that name.
     pub fn unit_named(&self, name: &Text) -> Option<u32>
-        ensures { result ≡ unit_named self.now.units name.now }
+        ensures value { result ≡ unit_named self.now.units name.now }
+        ensures own_names { HaveOwnNames self.now.units }
     {
         self.units
             .iter()
@@ -125,14 +130,16 @@ impl RentTable {
 
     /// The rents of a group of units on a day.
     pub fn rents_on(&self, group: u32, day: Day) -> Option<Rents>
-        ensures { result ≡ rents_on self.now.rents group day }
+        ensures value { result ≡ rents_on self.now.rents group day }
+        ensures acts_rise { RentActsRise self.now.rents }
     {
         rent_row_on(&self.rents, group, day).map(|row| row.rents)
     }
 
     /// The row with the income limits on a day.
     pub fn limits_on(&self, day: Day) -> Option<&LimitRow>
-        ensures { option_copied result ≡ limits_on self.now.limits day }
+        ensures value { option_copied result ≡ limits_on self.now.limits day }
+        ensures acts_rise { LimitActsRise self.now.limits }
     {
         limit_row_on(&self.limits, day)
     }
