@@ -20,8 +20,8 @@ kept_or_not : {Row : Type 0} (passes : Row → Bool) (P : Row → Type 0) (row :
     All (λ r. passes r ≡ true → P r) (row ∷ rows)
 kept_or_not passes P row rows true is of_kept rest =
     All-cons (λ r. passes r ≡ true → P r) row rows
-        (λ _. All-head P row (filter passes rows) of_kept)
-        (rest (All-tail P row (filter passes rows) of_kept))
+    (λ _. All-head P row (filter passes rows) of_kept)
+    (rest (All-tail P row (filter passes rows) of_kept))
 kept_or_not passes P row rows false is of_kept rest =
     All-cons (λ r. passes r ≡ true → P r) row rows (λ passed. absurd (false≢true (sym is ∙ passed))) (rest of_kept)
 
@@ -38,9 +38,10 @@ latest-among before P best [] of_best of_rows = of_best
 latest-among before P None (row ∷ rows) of_best of_rows =
     latest-among before P (Some row) rows (All-head P row rows of_rows) (All-tail P row rows of_rows)
 latest-among before P (Some best) (row ∷ rows) of_best of_rows =
-    elim (before best row) as (λ b. IfSome (fold (later before) (if b then Some row else Some best) rows) P)
-        [ true ↦ latest-among before P (Some row) rows (All-head P row rows of_rows) (All-tail P row rows of_rows)
-        | false ↦ latest-among before P (Some best) rows of_best (All-tail P row rows of_rows) ]
+    elim (before best row) as (λ b. IfSome (fold (later before) (if b then Some row else Some best) rows) P) [
+      | true ↦ latest-among before P (Some row) rows (All-head P row rows of_rows) (All-tail P row rows of_rows)
+      | false ↦ latest-among before P (Some best) rows of_best (All-tail P row rows of_rows)
+    ]
 
 -- the latest is not behind `other`
 abbrev NotBehind : {Row : Type 0} → (Row → Row → Bool) → Option Row → List Row → Row → Type 0
@@ -74,19 +75,20 @@ pub latest-last : {Row : Type 0} (before : Row → Row → Bool) → IsRowOrder 
 latest-last before order best [] = All-nil (NotBehind before best [])
 latest-last before order None (row ∷ rows) =
     All-cons (NotBehind before (Some row) rows) row rows
-        (latest-not_behind before order row row rows (order.itself row))
-        (latest-last before order (Some row) rows)
+    (latest-not_behind before order row row rows (order.itself row))
+    (latest-last before order (Some row) rows)
 latest-last before order (Some best) (row ∷ rows) =
     last_next before order best row rows (before best row) refl (λ next. latest-last before order (Some next) rows)
 
 pub latest-is : {Row : Type 0} (before : Row → Row → Bool) (passes : Row → Bool) (rows : List Row) → IsRowOrder before →
     IsLatest before passes rows (latest before (filter passes rows))
 latest-is before passes rows order = record {
-    among = latest-among before (λ row. Contains rows row × (passes row ≡ true)) None (filter passes rows) tt
-        (All-both (Contains rows) (λ row. passes row ≡ true) (filter passes rows)
-            (All-filter passes (Contains rows) rows (All-contains_itself rows))
-            (filter_passes passes rows));
-    last = All-passing passes (NotBehind before None (filter passes rows)) rows (latest-last before order None (filter passes rows)) }
+  among = latest-among before (λ row. Contains rows row × (passes row ≡ true)) None (filter passes rows) tt
+      (All-both (Contains rows) (λ row. passes row ≡ true) (filter passes rows)
+      (All-filter passes (Contains rows) rows (All-contains_itself rows))
+      (filter_passes passes rows));
+  last = All-passing passes (NotBehind before None (filter passes rows)) rows (latest-last before order None (filter passes rows));
+}
 
 pub comes_before-itself : (from act : ℕ) → comes_before from act from act ≡ false
 comes_before-itself from act = grind (arith, nat_tests)

@@ -23,7 +23,7 @@ pub HaveOwnNumbers-push : (units : List UnitRow) (unit : UnitRow) → HaveOwnNum
     HaveOwnNumbers (units ++ unit ∷ [])
 HaveOwnNumbers-push units unit own new =
     all_pairs_push (λ unit other. unit.number ≢ other.number) units unit own
-        (λ k d within. eqb-false _ _ (All-not_found (λ other. nat_eq other.number unit.number) units new k d within))
+    (λ k d within. eqb-false _ _ (All-not_found (λ other. nat_eq other.number unit.number) units new k d within))
 
 unmapped : {X Y : Type 0} (f : X → Y) (found : Option X) → option_map f found ≡ None → found ≡ None
 unmapped f None none = refl
@@ -33,7 +33,7 @@ pub HaveOwnNames-push : (units : List UnitRow) (unit : UnitRow) → HaveOwnNames
     HaveOwnNames (units ++ unit ∷ [])
 HaveOwnNames-push units unit own new =
     all_pairs_push (λ unit other. unit.name ≢ other.name) units unit own
-        (λ k d within. other_text _ _ (sym (All-not_found same_name units (unmapped (λ other. other.number) (find same_name units) new) k d within)))
+    (λ k d within. other_text _ _ (sym (All-not_found same_name units (unmapped (λ other. other.number) (find same_name units) new) k d within)))
   where
     same_name : UnitRow → Bool
     same_name other = pointwise nat_eq other.name unit.name

@@ -57,16 +57,16 @@ abbrev pub limits_before : LimitRow → LimitRow → Bool
 limits_before row other = comes_before row.from row.act other.from other.act
 
 -- the row sets rents of the group, and begins by the day
-abbrev pub is_for_rents : ℕ → ℕ → RentRow → Bool
-is_for_rents group day row = row.group == group && nat_le row.from day
+abbrev pub rents_begin_by : ℕ → ℕ → RentRow → Bool
+rents_begin_by group day row = row.group == group && nat_le row.from day
 
 -- the limits begin by the day
-abbrev pub begins_by : ℕ → LimitRow → Bool
-begins_by day row = nat_le row.from day
+abbrev pub limits_begin_by : ℕ → LimitRow → Bool
+limits_begin_by day row = nat_le row.from day
 
 -- the row that sets the rents of a group on a day
 abbrev pub rent_row_on : List RentRow → ℕ → ℕ → Option RentRow
-rent_row_on rows group day = latest rents_before (filter (is_for_rents group day) rows)
+rent_row_on rows group day = latest rents_before (filter (rents_begin_by group day) rows)
 
 -- the rents of a group on a day
 abbrev pub rents_on : List RentRow → ℕ → ℕ → Option Rents
@@ -74,4 +74,4 @@ rents_on rows group day = option_map (λ row. row.rents) (rent_row_on rows group
 
 -- the income limits on a day
 abbrev pub limits_on : List LimitRow → ℕ → Option LimitRow
-limits_on rows day = latest limits_before (filter (begins_by day) rows)
+limits_on rows day = latest limits_before (filter (limits_begin_by day) rows)

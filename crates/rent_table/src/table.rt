@@ -25,12 +25,13 @@ impl Model for RentTable {
     ghost Value = { Table };
 
     ghost view = { λ table. record {
-        units = table.units.items;
-        rents = table.rents.items;
-        limits = table.limits.items;
-        unit_room = vec_capacity table.units - vec_len table.units;
-        rent_room = vec_capacity table.rents - vec_len table.rents;
-        limit_room = vec_capacity table.limits - vec_len table.limits } };
+      units = table.units.items;
+      rents = table.rents.items;
+      limits = table.limits.items;
+      unit_room = vec_capacity table.units - vec_len table.units;
+      rent_room = vec_capacity table.rents - vec_len table.rents;
+      limit_room = vec_capacity table.limits - vec_len table.limits;
+    } };
 
     ghost invariant = { λ table. IsSound table.units.items table.rents.items table.limits.items };
 }

@@ -8,7 +8,8 @@ pub invariant_of-self : goal.invariant_of-self
 invariant_of-self c =
     let same : c.self.inside.units.items ≡ c.args.self.now.units = ap (λ table. table.units) c.self.view_is in
     rw c.push_reserved.ensures.items (record {
-        numbers = HaveOwnNumbers-push c.self.inside.units.items c.args.unit c.self.invariant.numbers (rw same c.requires.number);
-        names = HaveOwnNames-push c.self.inside.units.items c.args.unit c.self.invariant.names (rw same c.requires.name);
-        rent_acts = c.self.invariant.rent_acts;
-        limit_acts = c.self.invariant.limit_acts })
+      numbers = HaveOwnNumbers-push c.self.inside.units.items c.args.unit c.self.invariant.numbers (rw same c.requires.number);
+      names = HaveOwnNames-push c.self.inside.units.items c.args.unit c.self.invariant.names (rw same c.requires.name);
+      rent_acts = c.self.invariant.rent_acts;
+      limit_acts = c.self.invariant.limit_acts;
+    })
