@@ -11,9 +11,11 @@ pub record IsRowOrder {Row : Type 0} (before : Row → Row → Bool) : Type 0 wh
   pub itself : (row : Row) → before row row ≡ false
   pub ahead : (best row other : Row) → before best row ≡ true → before best other ≡ false → before row other ≡ false
 
+-- what holds of each of the rows, twice
 pub All-both : {Row : Type 0} (P Q : Row → Type 0) (rows : List Row) → All P rows → All Q rows → All (λ row. P row × Q row) rows
 All-both P Q rows of_p of_q = λ k row within. (of_p k row within, of_q k row within)
 
+-- whether the filter keeps the first row or not
 kept_or_not : {Row : Type 0} (passes : Row → Bool) (P : Row → Type 0) (row : Row) (rows : List Row) (b : Bool) → passes row ≡ b →
     All P (if b then row ∷ filter passes rows else filter passes rows) →
     (All P (filter passes rows) → All (λ r. passes r ≡ true → P r) rows) →
@@ -47,6 +49,7 @@ latest-among before P (Some best) (row ∷ rows) of_best of_rows =
 abbrev NotBehind : {Row : Type 0} → (Row → Row → Bool) → Option Row → List Row → Row → Type 0
 NotBehind before best rows other = IsSomeAnd (fold (later before) best rows) (λ answer. before answer other ≡ false)
 
+-- whichever of two rows is kept
 not_behind_next : {Row : Type 0} (before : Row → Row → Bool) → IsRowOrder before → (best row other : Row) (rows : List Row) (b : Bool) →
     before best row ≡ b → before best other ≡ false →
     ((next : Row) → before next other ≡ false → NotBehind before (Some next) rows other) →
@@ -61,6 +64,7 @@ latest-not_behind before order best other [] ahead = ahead
 latest-not_behind before order best other (row ∷ rows) ahead =
     not_behind_next before order best row other rows (before best row) refl ahead (λ next. latest-not_behind before order next other rows)
 
+-- whichever of two rows is kept
 last_next : {Row : Type 0} (before : Row → Row → Bool) → IsRowOrder before → (best row : Row) (rows : List Row) (b : Bool) →
     before best row ≡ b → ((next : Row) → All (NotBehind before (Some next) rows) rows) →
     All (NotBehind before (if b then Some row else Some best) rows) (row ∷ rows)
@@ -80,6 +84,7 @@ latest-last before order None (row ∷ rows) =
 latest-last before order (Some best) (row ∷ rows) =
     last_next before order best row rows (before best row) refl (λ next. latest-last before order (Some next) rows)
 
+-- the latest of the rows that pass is what the law says
 pub latest-is : {Row : Type 0} (before : Row → Row → Bool) (passes : Row → Bool) (rows : List Row) → IsRowOrder before →
     IsLatest before passes rows (latest before (filter passes rows))
 latest-is before passes rows order = record {
@@ -90,9 +95,11 @@ latest-is before passes rows order = record {
   last = All-passing passes (NotBehind before None (filter passes rows)) rows (latest-last before order None (filter passes rows));
 }
 
+-- nothing comes before itself
 pub comes_before-itself : (from act : ℕ) → comes_before from act from act ≡ false
 comes_before-itself from act = grind (arith, nat_tests)
 
+-- what comes after the best so far is not behind what that was not behind
 pub comes_before-ahead : (best_from best_act from act other_from other_act : ℕ) →
     comes_before best_from best_act from act ≡ true → comes_before best_from best_act other_from other_act ≡ false →
     comes_before from act other_from other_act ≡ false

@@ -14,7 +14,7 @@ later before (Some best) row = if before best row then Some row else Some best
 abbrev pub latest : {Row : Type 0} → (Row → Row → Bool) → List Row → Option Row
 latest before rows = fold (later before) None rows
 
--- It is the latest of the rows that pass: one of them, and none of them comes after it. Where there is none, no row
+-- It is the latest of the rows that pass: one of them, and none of them comes after it. It is None only where no row
 -- passes.
 pub record IsLatest {Row : Type 0} (before : Row → Row → Bool) (passes : Row → Bool) (rows : List Row) (answer : Option Row) : Type 0 where
   pub among : IfSome answer (λ row. Contains rows row × (passes row ≡ true))

@@ -21,9 +21,13 @@ pub record Table : Type 0 where
 abbrev pub unit_at : List UnitRow → ℕ → Option UnitRow
 unit_at units number = find (λ unit. unit.number == number) units
 
+-- the unit has that name, byte for byte
+abbrev pub has_name : List ℕ → UnitRow → Bool
+has_name name unit = pointwise nat_eq unit.name name
+
 -- the number of the unit of that name
 abbrev pub unit_named : List UnitRow → List ℕ → Option ℕ
-unit_named units name = option_map (λ unit. unit.number) (find (λ unit. pointwise nat_eq unit.name name) units)
+unit_named units name = option_map (λ unit. unit.number) (find (has_name name) units)
 
 -- no two units have the same number
 abbrev pub HaveOwnNumbers : List UnitRow → Type 0
@@ -41,7 +45,7 @@ RentActsRise rows = AllPairs (λ row next. row.act < next.act) rows
 abbrev pub LimitActsRise : List LimitRow → Type 0
 LimitActsRise rows = AllPairs (λ row next. row.act < next.act) rows
 
--- what is true of the rows of every table
+-- what is true of the rows of every table: the numbers and names of units are their own, and acts rise
 pub record IsSound (units : List UnitRow) (rents : List RentRow) (limits : List LimitRow) : Type 0 where
   pub numbers : HaveOwnNumbers units
   pub names : HaveOwnNames units

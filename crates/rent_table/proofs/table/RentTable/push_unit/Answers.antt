@@ -1,7 +1,5 @@
-use Rattle.std.proofs.Common.{sym, ap, ◌≡◌, subst}
-use Rattle.std.specs.Prelude.{None, Option}
+use Rattle.std.proofs.Common.{ap, ◌≡◌}
 use Rattle.rent_table.proofs.OwnLemmas.{HaveOwnNumbers-push, HaveOwnNames-push}
-use Rattle.rent_table.specs.Table.{unit_at, unit_named, Table}
 use Rattle.rent_table.proofs.table.RentTable.push_unit.Goals as goal
 
 pub invariant_of-self : goal.invariant_of-self
