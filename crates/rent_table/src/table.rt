@@ -1,4 +1,4 @@
-ghost use Rattle.std.specs.Prelude.{◌≡◌, ◌+◌, ◌<◌, ◌≤◌, [], ◌∷◌, ◌++◌, All, OnOk, IfOk};
+ghost use Rattle.std.specs.Prelude.{◌≡◌, ◌+◌, ◌<◌, ◌≤◌, [], ◌∷◌, ◌++◌, All, OnOk, IfOk, IsOk};
 ghost use Rattle.std.specs.Option.{option_copied};
 ghost use Rattle.rent_table.specs.Table.{unit_at, unit_named, rents_on, limits_on};
 ghost use Rattle.rent_table.specs.Table.{HaveOwnNumbers, HaveOwnNames, RentActsRise, LimitActsRise};
@@ -49,7 +49,7 @@ impl RentTable {
         })
     }
 
-    /// Makes room for one more row of each sort.
+    /// Makes room for one more row of each sort, and fails only where memory ran out.
     pub fn reserve(&mut self) -> Result<(), NoMemory>
         ensures units { self.new.units ≡ self.old.units }
         ensures rents { self.new.rents ≡ self.old.rents }
@@ -57,6 +57,7 @@ impl RentTable {
         ensures unit_room { OnOk result (1 ≤ self.new.unit_room) }
         ensures rent_room { OnOk result (1 ≤ self.new.rent_room) }
         ensures limit_room { OnOk result (1 ≤ self.new.limit_room) }
+        ensures succeeds { 1 ≤ self.old.unit_room → 1 ≤ self.old.rent_room → 1 ≤ self.old.limit_room → IsOk result }
         ensures unit_room_kept { self.old.unit_room ≤ self.new.unit_room }
         ensures rent_room_kept { self.old.rent_room ≤ self.new.rent_room }
         ensures limit_room_kept { self.old.limit_room ≤ self.new.limit_room }
