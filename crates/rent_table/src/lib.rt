@@ -1,0 +1,16 @@
+//! An office's plan, its units, and the rents and income limits that stand on a day.
+#![tactic(auto)]
+
+mod laws;
+mod plan;
+mod rows;
+mod standing;
+mod table;
+
+pub use laws::rows_stand_latest;
+pub use plan::{Bound, Plan};
+pub use rows::{LimitRow, RentRow, Unit};
+pub use table::RentTable;
+
+#[cfg(test)]
+mod tests;
