@@ -2,6 +2,11 @@
 #![tactic(auto)]
 
 mod force;
+mod history;
+mod lists;
 mod records;
+mod stretch;
 
+pub use history::History;
 pub use records::{Dates, Kind, Record};
+pub use stretch::{Stretch, add_day};
