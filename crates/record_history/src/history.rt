@@ -1,4 +1,5 @@
-use crate::{Dates, Record};
+use crate::runs::runs_among;
+use crate::{Dates, Record, Run};
 use crate::force::{in_force_among, is_live_among, newest_among, record_among};
 use crate::lists::{list_of, push_at, reserve_at};
 use days_core::Day;
@@ -27,8 +28,11 @@ impl Model for History {
 
 impl History {
     ghost use Rattle.std.specs.Prelude.{◌≡◌, ◌≤◌, ◌<◌, ◌+◌, ◌-◌, ◌==◌, ◌++◌, ◌∷◌, [], ℕ, All, length, slice_set, find, option_copied, is_ok, if◌then◌else◌, IfOk, OnOk, IfSome};
-    ghost use Rattle.record_history.specs.Records.{is_live_as_of, in_force, in_force_as_of, newest_number};
+    ghost use Rattle.record_history.specs.Records.{as_of, is_live_as_of, in_force, in_force_as_of, newest_number};
     ghost use Rattle.record_history.specs.Held.{records_of, room_of, with_place, with_record, IsWithin};
+    ghost use Rattle.std.specs.Prelude.{map, nat_eq};
+    ghost use Rattle.record_history.specs.Stretch.{stretches};
+    ghost use Rattle.record_history.specs.Runs.{number_on, run_of, CoverLongest};
 
     pub fn new(alloc: Global) -> Result<History, NoMemory>
         ensures { IfOk result (λ history. history ≡ record { households = []; room = [] }) }
@@ -100,5 +104,20 @@ impl History {
         ensures within { IfSome (option_copied result) IsWithin }
     {
         in_force_among(list_of(&self.lists, household), day, act)
+    }
+
+    /// The longest runs of days from the first to the last with one record in force, as known at the act.
+    pub fn runs(
+        &self,
+        alloc: Global,
+        household: u32,
+        first: Day,
+        last: Day,
+        act: u32,
+    ) -> Result<Vec<Run>, NoMemory>
+        ensures runs { IfOk result (λ runs. runs.items ≡ map run_of (stretches nat_eq (number_on (as_of act (records_of self.now.households household))) first (last + 1 - first))) }
+        ensures longest { IfOk result (λ runs. first ≤ last + 1 → CoverLongest (number_on (as_of act (records_of self.now.households household))) first (last + 1) runs.items) }
+    {
+        runs_among(alloc, list_of(&self.lists, household), first, last, act)
     }
 }
