@@ -1,7 +1,8 @@
 -- The record in force is the last of those that count.
 use Rattle.std.proofs.Common.{◌≡◌, ℕ, ◌<◌, ◌≤◌, List, [], ◌∷◌, Bool, true, false, Option, Some, None, refl, arith}
 use Rattle.std.specs.Prelude.{All, filter, fold, IfSome, nat_le, nat_lt, ◌==◌, ◌&&◌, ◌||◌, if◌then◌else◌}
-use Rattle.std.proofs.lemmas.Bool.{nat_tests, and_parts}
+use Rattle.std.proofs.lemmas.Bool.{and_parts}
+use Rattle.std.proofs.lemmas.Bool.Decides.{nat_tests}
 use Rattle.std.proofs.lemmas.List.Elements.{All-filter, filter_passes, All-cons, All-nil}
 use Rattle.record_history.specs.declared.records.Record.{Record}
 use Rattle.record_history.specs.Records.{is_live, live_records, comes_before, later, in_force}
