@@ -31,11 +31,11 @@ module _ {K : Type 0} (same : K → K → Bool) where
       let found : newest ≡ s = newest_is days s rest n newest is count at in
       let tested : same s.key key ≡ true = subst (λ (q : Stretch K). same q.key key ≡ true) found test in
       rw tested
-        (ap (λ (p : ℕ). set days p (record newest { last = day })) place
-        ∙ ap (λ (ds : List (Stretch K)). set ds (length (reverse rest)) (record newest { last = day })) back
-        ∙ ap (λ (q : Stretch K). set (reverse rest ++ s ∷ []) (length (reverse rest)) (record q { last = day })) found
-        ∙ set-append_seam (reverse rest) s [] (record s { last = day })
-        ∙ sym (reverse_onto rest (record s { last = day }) []))
+      (ap (λ (p : ℕ). set days p (record newest { last = day })) place
+      ∙ ap (λ (ds : List (Stretch K)). set ds (length (reverse rest)) (record newest { last = day })) back
+      ∙ ap (λ (q : Stretch K). set (reverse rest ++ s ∷ []) (length (reverse rest)) (record q { last = day })) found
+      ∙ set-append_seam (reverse rest) s [] (record s { last = day })
+      ∙ sym (reverse_onto rest (record s { last = day }) []))
 
   -- a day with another key begins a stretch
   pub begins : (days earlier : List (Stretch K)) (n : ℕ) (newest : Stretch K) (day : ℕ) (key : K) →
@@ -46,8 +46,8 @@ module _ {K : Type 0} (same : K → K → Bool) where
       let found : newest ≡ s = newest_is days s rest n newest is count at in
       let tested : same s.key key ≡ false = subst (λ (q : Stretch K). same q.key key ≡ false) found test in
       rw tested
-        (ap (λ (ds : List (Stretch K)). ds ++ record { first = day; last = day; key = key } ∷ []) is
-        ∙ sym (reverse_onto (s ∷ rest) (record { first = day; last = day; key = key }) []))
+      (ap (λ (ds : List (Stretch K)). ds ++ record { first = day; last = day; key = key } ∷ []) is
+      ∙ sym (reverse_onto (s ∷ rest) (record { first = day; last = day; key = key }) []))
 
   -- the first day begins one
   pub begins_first : (days earlier : List (Stretch K)) (day : ℕ) (key : K) → days ≡ reverse earlier → length days ≡ 0 →

@@ -33,7 +33,7 @@ records_are P households household all =
 pub in_force_is : (P : Record → Type 0) (records : List Record) (act day : ℕ) → All P records → IfSome (in_force_as_of act records day) P
 in_force_is P records act day all =
     latest_is P None (filter (λ r. nat_le r.from day) (live_records (as_of act records))) tt
-      (All-filter (λ r. nat_le r.from day) P (live_records (as_of act records)) (All-filter (is_live (as_of act records)) P (as_of act records) (All-filter (λ r. nat_le r.act act) P records all)))
+    (All-filter (λ r. nat_le r.from day) P (live_records (as_of act records)) (All-filter (is_live (as_of act records)) P (as_of act records) (All-filter (λ r. nat_le r.act act) P records all)))
 
 -- where no act is later, all records are known
 pub as_of_all : (act : ℕ) (records : List Record) → All (λ r. r.act ≤ act) records → as_of act records ≡ records

@@ -44,19 +44,20 @@ none_is_after p q best (x ∷ xs) = by_tests (q x) refl (p x) refl (λ b. none_i
         All (λ r. (q r && p r) ≡ true → IsNotAfter (fold later best (filter p (if a then x ∷ filter q xs else filter q xs))) r) (x ∷ xs)
     by_tests true e true f rest =
         rw f (All-cons (λ (r : Record). (q r && p r) ≡ true → IsNotAfter (fold later (later best x) (filter p (filter q xs))) r) x xs
-          (λ passes. at_once best x (filter p (filter q xs))) (rest (later best x)))
+        (λ passes. at_once best x (filter p (filter q xs))) (rest (later best x)))
     by_tests true e false f rest =
         rw f (All-cons (λ (r : Record). (q r && p r) ≡ true → IsNotAfter (fold later best (filter p (filter q xs))) r) x xs
-          (λ passes. (let both = and_parts (q x) (p x) passes in let no = both.1 in cc)) (rest best))
+        (λ passes. (let both = and_parts (q x) (p x) passes in let no = both.1 in cc)) (rest best))
     by_tests false e b f rest =
         All-cons (λ (r : Record). (q r && p r) ≡ true → IsNotAfter (fold later best (filter p (filter q xs))) r) x xs
-          (λ passes. (let both = and_parts (q x) (p x) passes in let no = both.0 in cc)) (rest best)
+        (λ passes. (let both = and_parts (q x) (p x) passes in let no = both.0 in cc)) (rest best)
 
 pub in_force_is_latest : InForceIsLatest
 in_force_is_latest records day =
     let begun : Record → Bool = λ r. nat_le r.from day in
     let live = All-filter (λ (r : Record). nat_le r.from day) (λ (r : Record). is_live records r ≡ true) (live_records records) (filter_passes (is_live records) records) in
-    let by_day = filter_passes (λ (r : Record). nat_le r.from day) (live_records records) in
-    (latest_is (λ (r : Record). is_candidate records day r ≡ true) None (filter (λ (r : Record). nat_le r.from day) (live_records records)) tt
-      (λ k d within. (let a = live k d within in let b = by_day k d within in rw (a, b) refl)),
-    none_is_after (λ (r : Record). nat_le r.from day) (is_live records) None records)
+    let by_day = filter_passes (λ (r : Record). nat_le r.from day) (live_records records) in (
+      latest_is (λ (r : Record). is_candidate records day r ≡ true) None (filter (λ (r : Record). nat_le r.from day) (live_records records)) tt
+          (λ k d within. (let a = live k d within in let b = by_day k d within in rw (a, b) refl)),
+      none_is_after (λ (r : Record). nat_le r.from day) (is_live records) None records,
+    )

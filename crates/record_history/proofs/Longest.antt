@@ -55,9 +55,13 @@ module _ (key_on : ℕ → ℕ) (first : ℕ) where
 
       by_key : (test : Bool) → nat_eq s.key (key_on next) ≡ test →
           AreNewestFirst (next + 1) (if test then record s { last = next } ∷ earlier else record { first = next; last = next; key = key_on next } ∷ s ∷ earlier)
-      by_key true e =
-          (refl, (let a = ends in let b = begins in omega arith),
-            λ day low high. by_day day low high (eqb-true s.key (key_on next) e) (cases_lt day next), all.3, all.4)
+      by_key true e = (
+        refl,
+        (let a = ends in let b = begins in omega arith),
+        λ day low high. by_day day low high (eqb-true s.key (key_on next) e) (cases_lt day next),
+        all.3,
+        all.4,
+      )
       by_key false e =
           (refl, omega arith, λ day low high. (let same : next ≡ day = omega arith in ap key_on same), eqb-false s.key (key_on next) e, all)
 
@@ -66,14 +70,14 @@ module _ (key_on : ℕ → ℕ) (first : ℕ) where
   newest (suc count) =
       let next : (first + count) + 1 ≡ first + suc count = omega arith in
       subst (λ (n : ℕ). AreNewestFirst n (newest_first nat_eq key_on first (suc count))) next
-        (added (first + count) (newest_first nat_eq key_on first count) (newest count))
+      (added (first + count) (newest_first nat_eq key_on first count) (newest count))
 
   turned : (newest rest : List (Stretch ℕ)) (mid next : ℕ) → AreNewestFirst mid newest → AreApart newest rest →
       CoverLongest key_on mid next (map run_of rest) → CoverLongest key_on first next (map run_of (reverse_aux newest rest))
   turned [] rest mid next e apart covers = subst (λ (m : ℕ). CoverLongest key_on m next (map run_of rest)) (sym e) covers
   turned (s ∷ earlier) rest mid next all apart covers =
       turned earlier (s ∷ rest) s.first next all.4 (apart_from_newest s earlier rest all.3)
-        (refl, all.1, all.2, apart, subst (λ (m : ℕ). CoverLongest key_on m next (map run_of rest)) (sym all.0) covers)
+      (refl, all.1, all.2, apart, subst (λ (m : ℕ). CoverLongest key_on m next (map run_of rest)) (sym all.0) covers)
 
   pub longest : (last : ℕ) → first ≤ last + 1 → CoverLongest key_on first (last + 1) (map run_of (stretches nat_eq key_on first (last + 1 - first)))
   longest last within =
@@ -81,7 +85,7 @@ module _ (key_on : ℕ → ℕ) (first : ℕ) where
       let next : first + (last + 1 - first) ≡ last + 1 = omega arith in
       let found : List (Stretch ℕ) = newest_first nat_eq key_on first (last + 1 - first) in
       subst (λ (n : ℕ). CoverLongest key_on first n (map run_of (stretches nat_eq key_on first (last + 1 - first)))) next
-        (turned found [] (first + (last + 1 - first)) (first + (last + 1 - first)) (newest (last + 1 - first)) (apart_from_none found) refl)
+      (turned found [] (first + (last + 1 - first)) (first + (last + 1 - first)) (newest (last + 1 - first)) (apart_from_none found) refl)
 
   all_by : (day next : ℕ) (xs : List (Stretch ℕ)) → AreNewestFirst next xs → next ≤ day + 1 → All (IsBy day) xs
   all_by day next [] all h = All-nil (IsBy day)
@@ -93,7 +97,7 @@ module _ (key_on : ℕ → ℕ) (first : ℕ) where
   pub stretches_by : (day count : ℕ) → first + count ≤ day + 1 → All (IsBy day) (stretches nat_eq key_on first count)
   stretches_by day count h =
       all_turned (IsBy day) (newest_first nat_eq key_on first count) []
-        (all_by day (first + count) (newest_first nat_eq key_on first count) (newest count) h) (All-nil (IsBy day))
+      (all_by day (first + count) (newest_first nat_eq key_on first count) (newest count) h) (All-nil (IsBy day))
 
 -- a day more
 pub one_more : (key_on : ℕ → ℕ) (first day key : ℕ) → first ≤ day → key ≡ key_on day →
@@ -110,6 +114,6 @@ pub are_longest : (key_on : ℕ → ℕ) (low high first last : ℕ) (days : Lis
     days ≡ stretches nat_eq key_on low (high + 1 - low) → runs ≡ map run_of days → first ≤ last + 1 → CoverLongest key_on first (last + 1) runs
 are_longest key_on low high first last days runs e f found made within =
     let all : runs ≡ map run_of (stretches nat_eq key_on first (last + 1 - first)) =
-        made ∙ ap (map run_of) found ∙ ap (λ (a : ℕ). map run_of (stretches nat_eq key_on a (high + 1 - a))) e
-        ∙ ap (λ (b : ℕ). map run_of (stretches nat_eq key_on first (b + 1 - first))) f in
+    made ∙ ap (map run_of) found ∙ ap (λ (a : ℕ). map run_of (stretches nat_eq key_on a (high + 1 - a))) e
+    ∙ ap (λ (b : ℕ). map run_of (stretches nat_eq key_on first (b + 1 - first))) f in
     subst (λ (rs : List Run). CoverLongest key_on first (last + 1) rs) (sym all) (longest key_on first last within)

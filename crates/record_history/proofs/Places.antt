@@ -48,7 +48,7 @@ module _ {T : Type 0} where
           subst (λ (o : ℕ). get_or (room_in vectors) o 0 ≤ get_or (room_in (set vectors place v)) o 0) (sym e) (omega arith)
       by_place (inr n) =
           let same : get_or (room_in (set vectors place v)) other 0 ≡ get_or (room_in vectors) other 0 =
-              ap (λ (xs : List ℕ). get_or xs other 0) (map-set spare vectors place v) ∙ get_or-set_other (room_in vectors) place other (spare v) 0 n in
+          ap (λ (xs : List ℕ). get_or xs other 0) (map-set spare vectors place v) ∙ get_or-set_other (room_in vectors) place other (spare v) 0 n in
           omega arith
 
   -- a place with room is one of a vector

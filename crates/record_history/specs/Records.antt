@@ -60,3 +60,7 @@ in_force_as_of act records day = in_force (as_of act records) day
 -- the greatest number that a record has, and 0 where there is none
 abbrev pub newest_number : List Record → ℕ
 newest_number records = fold (λ most r. max most r.number) 0 records
+
+-- the latest act that made one of the records, and 0 where there is none
+abbrev pub newest_act : List Record → ℕ
+newest_act records = fold (λ most r. max most r.act) 0 records

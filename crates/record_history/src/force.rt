@@ -2,7 +2,7 @@
 
 ghost use Rattle.std.specs.Prelude.{◌≡◌, ◌&&◌, ◌==◌, not, max, fold, find, option_copied};
 ghost use Rattle.std.specs.List.{list_any};
-ghost use Rattle.record_history.specs.Records.{as_of, is_withdrawal, is_live, is_live_as_of, comes_before, later, in_force_as_of, newest_number};
+ghost use Rattle.record_history.specs.Records.{as_of, is_withdrawal, is_live, is_live_as_of, comes_before, later, in_force_as_of, newest_number, newest_act};
 
 use crate::{Kind, Record};
 use days_core::Day;
@@ -13,6 +13,16 @@ pub fn newest_among(records: &[Record]) -> u32
     let mut newest = 0;
     for held in records {
         newest = held.number.max(newest);
+    }
+    newest
+}
+
+pub fn newest_act_among(records: &[Record]) -> u32
+    ensures { result ≡ newest_act records.now }
+{
+    let mut newest = 0;
+    for held in records {
+        newest = held.act.max(newest);
     }
     newest
 }
@@ -86,13 +96,7 @@ fn is_withdrawal(kind: Kind) -> bool
 {
     match kind {
         Kind::WD => true,
-        Kind::MI
-        | Kind::IC
-        | Kind::AR
-        | Kind::IR
-        | Kind::GR
-        | Kind::UT
-        | Kind::MO
-        | Kind::TM => false,
+        Kind::MI | Kind::IC | Kind::AR | Kind::IR | Kind::GR | Kind::UT | Kind::MO | Kind::TM =>
+            false,
     }
 }

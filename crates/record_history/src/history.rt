@@ -1,7 +1,7 @@
+use crate::force::{in_force_among, is_live_among, newest_act_among, newest_among, record_among};
+use crate::lists::{list_of, push_at, reserve_at};
 use crate::runs::runs_among;
 use crate::{Dates, Record, Run};
-use crate::force::{in_force_among, is_live_among, newest_among, record_among};
-use crate::lists::{list_of, push_at, reserve_at};
 use days_core::Day;
 use plain_data::NoMemory;
 use std::alloc::Global;
@@ -28,7 +28,7 @@ impl Model for History {
 
 impl History {
     ghost use Rattle.std.specs.Prelude.{◌≡◌, ◌≤◌, ◌<◌, ◌+◌, ◌-◌, ◌==◌, ◌++◌, ◌∷◌, [], ℕ, All, length, slice_set, find, option_copied, is_ok, if◌then◌else◌, IfOk, OnOk, IfSome};
-    ghost use Rattle.record_history.specs.Records.{as_of, is_live_as_of, in_force, in_force_as_of, newest_number};
+    ghost use Rattle.record_history.specs.Records.{as_of, is_live_as_of, in_force, in_force_as_of, newest_number, newest_act};
     ghost use Rattle.record_history.specs.Held.{records_of, room_of, with_place, with_record, IsWithin};
     ghost use Rattle.std.specs.Prelude.{map, nat_eq};
     ghost use Rattle.record_history.specs.Stretch.{stretches};
@@ -57,7 +57,7 @@ impl History {
     pub fn push(&mut self, held: Record)
         requires room { 1 ≤ room_of self.old.room held.household }
         requires number { held.number ≡ newest_number (records_of self.old.households held.household) + 1 }
-        requires act { All (λ r. r.act < held.act) (records_of self.old.households held.household) }
+        requires act { newest_act (records_of self.old.households held.household) < held.act }
         requires from { held.from ≤ 80353 }
         requires contract_rent { held.rents.contract_rent ≤ 99999 }
         requires utility { held.rents.utility ≤ 9999 }
@@ -65,6 +65,7 @@ impl History {
         ensures households { self.new.households ≡ with_record self.old.households held }
         ensures room { self.new.room ≡ slice_set self.old.room (held.household - 1) (room_of self.old.room held.household - 1) }
     {
+        // The check of the move below refuses a type that the function doesn't name, as Option and Dates.
         let _dates: Option<Dates> = held.dates;
         push_at(&mut self.lists, held.household as usize - 1, held);
     }
@@ -74,6 +75,13 @@ impl History {
         ensures { result ≡ newest_number (records_of self.now.households household) }
     {
         newest_among(list_of(&self.lists, household))
+    }
+
+    /// The latest act that made a record of the household, and 0 where it has none.
+    pub fn newest_act(&self, household: u32) -> u32
+        ensures { result ≡ newest_act (records_of self.now.households household) }
+    {
+        newest_act_among(list_of(&self.lists, household))
     }
 
     /// The household's record of that number.

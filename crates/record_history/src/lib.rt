@@ -14,3 +14,6 @@ pub use laws::in_force_is_latest;
 pub use records::{Dates, Kind, Record};
 pub use runs::Run;
 pub use stretch::{Stretch, add_day};
+
+#[cfg(test)]
+mod tests;

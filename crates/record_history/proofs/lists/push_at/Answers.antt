@@ -14,4 +14,4 @@ returns-clause-room g c =
     let vectors = c.args.lists.now.items in
     let at = c.index_mut.result.now in
     room_pushed vectors c.args.place c.push_reserved.new.self at (is_there vectors c.args.place c.requires)
-      (omega (arith, ap vec_capacity c.index_mut.ensures.value, ap vec_len c.index_mut.ensures.value, c.push_reserved.ensures.len, c.push_reserved.ensures.capacity))
+    (omega (arith, ap vec_capacity c.index_mut.ensures.value, ap vec_len c.index_mut.ensures.value, c.push_reserved.ensures.len, c.push_reserved.ensures.capacity))

@@ -10,7 +10,7 @@ returns-in_err-reserve-clause-lists g c =
 pub returns-in_err-reserve-clause-kept : goal.returns-in_err-reserve-clause-kept
 returns-in_err-reserve-clause-kept g c =
     room_kept c.args.lists.now.items c.args.place c.reserve.new.self c.index_mut.result.now c.requires
-      (omega (arith, ap vec_capacity c.index_mut.ensures.value, ap vec_len c.index_mut.ensures.value, c.reserve.ensures.len, c.reserve.ensures.capacity))
+    (omega (arith, ap vec_capacity c.index_mut.ensures.value, ap vec_len c.index_mut.ensures.value, c.reserve.ensures.len, c.reserve.ensures.capacity))
 
 pub returns-clause-lists : goal.returns-clause-lists
 returns-clause-lists g c =
@@ -23,4 +23,4 @@ returns-clause-room g c =
 pub returns-clause-kept : goal.returns-clause-kept
 returns-clause-kept g c =
     room_kept c.args.lists.now.items c.args.place c.reserve.new.self c.index_mut.result.now c.requires
-      (omega (arith, ap vec_capacity c.index_mut.ensures.value, ap vec_len c.index_mut.ensures.value, c.reserve.ensures.len, c.reserve.ensures.capacity))
+    (omega (arith, ap vec_capacity c.index_mut.ensures.value, ap vec_len c.index_mut.ensures.value, c.reserve.ensures.len, c.reserve.ensures.capacity))

@@ -9,7 +9,7 @@ pub returns-clause-latest : goal.returns-clause-latest
 returns-clause-latest c =
     let records : List Record = records_of (lists_in c.self.inside.lists.items) c.args.household in
     let all : All (λ (r : Record). r.act ≤ 4294967295) records =
-        λ k d within. (records_are IsWithin (lists_in c.self.inside.lists.items) c.args.household c.self.invariant k d within).act in
+    λ k d within. (records_are IsWithin (lists_in c.self.inside.lists.items) c.args.household c.self.invariant k d within).act in
     c.in_force_among.ensures
     ∙ ap (λ (rs : List Record). in_force_as_of 4294967295 rs c.args.day) c.list_of.ensures
     ∙ in_force_known 4294967295 records c.args.day all
@@ -18,5 +18,5 @@ returns-clause-latest c =
 pub returns-clause-within : goal.returns-clause-within
 returns-clause-within c =
     rw (c.in_force_among.ensures, c.list_of.ensures)
-      (in_force_is IsWithin (records_of (lists_in c.self.inside.lists.items) c.args.household) 4294967295 c.args.day
-        (records_are IsWithin (lists_in c.self.inside.lists.items) c.args.household c.self.invariant))
+    (in_force_is IsWithin (records_of (lists_in c.self.inside.lists.items) c.args.household) 4294967295 c.args.day
+    (records_are IsWithin (lists_in c.self.inside.lists.items) c.args.household c.self.invariant))

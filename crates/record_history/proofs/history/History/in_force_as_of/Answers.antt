@@ -6,5 +6,5 @@ use Rattle.record_history.proofs.history.History.in_force_as_of.Goals as goal
 pub returns-clause-within : goal.returns-clause-within
 returns-clause-within c =
     rw (c.in_force_among.ensures, c.list_of.ensures)
-      (in_force_is IsWithin (records_of (lists_in c.self.inside.lists.items) c.args.household) c.args.act c.args.day
-        (records_are IsWithin (lists_in c.self.inside.lists.items) c.args.household c.self.invariant))
+    (in_force_is IsWithin (records_of (lists_in c.self.inside.lists.items) c.args.household) c.args.act c.args.day
+    (records_are IsWithin (lists_in c.self.inside.lists.items) c.args.household c.self.invariant))
