@@ -24,12 +24,12 @@ latest_is P None (x ∷ xs) b all = latest_is P (Some x) xs (All-head P x xs all
 latest_is P (Some best) (x ∷ xs) b all =
     latest_is P (later (Some best) x) xs (either_is (λ (o : Option Record). IfSome o P) (comes_before best x) (Some x) (Some best) (All-head P x xs all) b) (All-tail P x xs all)
 
--- the records of a household are as all are
-pub records_are : (P : Record → Type 0) (households : List (List Record)) (household : ℕ) → All (All P) households → All P (records_of households household)
-records_are P households household all =
-    either_is (All P) (household == 0) [] (get_or households (household - 1) []) (All-nil P) (at_place (All P) households (household - 1) [] all (All-nil P))
+-- the records of a household are as those of each are
+pub records_are : (P : List Record → Type 0) (households : List (List Record)) (household : ℕ) → All P households → P [] → P (records_of households household)
+records_are P households household all none =
+    either_is P (household == 0) [] (get_or households (household - 1) []) none (at_place P households (household - 1) [] all none)
 
--- and so is the one in force
+-- and so is the one in force, where all are
 pub in_force_is : (P : Record → Type 0) (records : List Record) (act day : ℕ) → All P records → IfSome (in_force_as_of act records day) P
 in_force_is P records act day all =
     latest_is P None (filter (λ r. nat_le r.from day) (live_records (as_of act records))) tt

@@ -1,7 +1,8 @@
 -- What a history holds: the records of each household, and the room for more.
-use Rattle.std.specs.Prelude.{ℕ, ◌+◌, ◌-◌, ◌==◌, ◌≤◌, nat_lt, if◌then◌else◌, List, [], ◌∷◌, ◌++◌, length, map, slice_index_or, slice_set, vec_items, vec_len, vec_capacity}
+use Rattle.std.specs.Prelude.{ℕ, ◌+◌, ◌-◌, ◌==◌, ◌≤◌, ◌<◌, ◌≡◌, All, nat_lt, if◌then◌else◌, List, [], ◌∷◌, ◌++◌, length, map, slice_index_or, slice_set, vec_items, vec_len, vec_capacity}
 use Rattle.std.specs.Global.{Vec}
 use Rattle.record_history.specs.declared.records.Record.{Record}
+use Rattle.record_history.specs.Records.{newest_number}
 
 -- the records of household 1, 2 and so on in the order in which they came, and how many more fit for each
 pub record Held : Type 0 where
@@ -39,3 +40,13 @@ pub record IsWithin (r : Record) : Type 0 where
   pub contract_rent : r.rents.contract_rent ≤ 99999
   pub utility : r.rents.utility ≤ 9999
   pub assistance : r.assistance ≤ 109998
+
+-- the records have the numbers 1, 2 and so on in the order in which they came
+pub record AreNumbered (records : List Record) : Type 0 where
+  pub number : (place : ℕ) (d : Record) → place < length records → (slice_index_or records place d).number ≡ place + 1
+  pub newest : newest_number records ≡ length records
+
+-- what is true of the records of each household
+pub record AreKept (records : List Record) : Type 0 where
+  pub within : All IsWithin records
+  pub numbered : AreNumbered records

@@ -17,20 +17,19 @@ pub struct History {
 
 impl Model for History {
     ghost use Rattle.std.specs.Prelude.{All};
-    ghost use Rattle.record_history.specs.Held.{Held, lists_in, room_in, IsWithin};
+    ghost use Rattle.record_history.specs.Held.{Held, lists_in, room_in, AreKept};
 
     ghost Value = { Held };
 
     ghost view = { λ history. record { households = lists_in history.lists.items; room = room_in history.lists.items } };
 
-    ghost invariant = { λ history. All (All IsWithin) (lists_in history.lists.items) };
+    ghost invariant = { λ history. All AreKept (lists_in history.lists.items) };
 }
 
 impl History {
-    ghost use Rattle.std.specs.Prelude.{◌≡◌, ◌≤◌, ◌<◌, ◌+◌, ◌-◌, ◌==◌, ◌++◌, ◌∷◌, [], ℕ, All, length, slice_set, find, option_copied, is_ok, if◌then◌else◌, IfOk, OnOk, IfSome};
+    ghost use Rattle.std.specs.Prelude.{◌≡◌, ◌≤◌, ◌<◌, ◌+◌, ◌-◌, ◌==◌, [], ℕ, map, nat_eq, length, slice_set, find, option_copied, is_ok, if◌then◌else◌, IfOk, OnOk, IfSome};
     ghost use Rattle.record_history.specs.Records.{as_of, is_live_as_of, in_force, in_force_as_of, newest_number, newest_act};
-    ghost use Rattle.record_history.specs.Held.{records_of, room_of, with_place, with_record, IsWithin};
-    ghost use Rattle.std.specs.Prelude.{map, nat_eq};
+    ghost use Rattle.record_history.specs.Held.{records_of, room_of, with_place, with_record, IsWithin, AreNumbered};
     ghost use Rattle.record_history.specs.Stretch.{stretches};
     ghost use Rattle.record_history.specs.Runs.{number_on, run_of, CoverLongest};
 
@@ -72,7 +71,8 @@ impl History {
 
     /// The number of the household's newest record, and 0 where it has none.
     pub fn newest(&self, household: u32) -> u32
-        ensures { result ≡ newest_number (records_of self.now.households household) }
+        ensures value { result ≡ newest_number (records_of self.now.households household) }
+        ensures numbered { AreNumbered (records_of self.now.households household) }
     {
         newest_among(list_of(&self.lists, household))
     }
