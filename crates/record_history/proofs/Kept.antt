@@ -1,6 +1,6 @@
 -- What is kept of the records of each household.
-use Rattle.std.proofs.Common.{◌≡◌, ◌⊎◌, inl, inr, ℕ, zero, suc, ◌+◌, ◌-◌, ◌<◌, ◌≤◌, max, List, [], ◌∷◌, ◌++◌, length, get_or, set, refl, sym, ap, ◌∙◌, subst, arith, length-append}
-use Rattle.std.specs.Prelude.{All, fold, nat_lt, ◌==◌, if◌then◌else◌, Bool, false}
+use Rattle.std.proofs.Common.{◌≡◌, ◌⊎◌, inl, inr, ℕ, zero, suc, ◌+◌, ◌-◌, ◌<◌, ◌≤◌, max, List, [], ◌∷◌, ◌++◌, length, get_or, set, refl, sym, ap, ◌∙◌, arith, length-append}
+use Rattle.std.specs.Prelude.{All, nat_lt, ◌==◌, if◌then◌else◌, Bool, false}
 use Rattle.std.proofs.Math.Seq.{get_or-append_seam}
 use Rattle.std.proofs.lemmas.List.{get_or_append_left}
 use Rattle.std.proofs.lemmas.List.Sums.{fold-append}
@@ -53,7 +53,7 @@ records_at households household has =
 pub kept_place : (ok : Bool) (lists : List (List Record)) (place : ℕ) → All AreKept lists → All AreKept (if ok then with_place lists place else lists)
 kept_place ok lists place all =
     either_is (All AreKept) ok (with_place lists place) lists
-      (either_is (All AreKept) (nat_lt place (length lists)) lists (lists ++ [] ∷ []) all (All-push AreKept lists [] all kept_none)) all
+    (either_is (All AreKept) (nat_lt place (length lists)) lists (lists ++ [] ∷ []) all (All-push AreKept lists [] all kept_none)) all
 
 -- a record more is kept
 pub kept_push : (old : Held) (lists : List (List Record)) (held : Record) → lists ≡ old.households → All AreKept lists → IsWithin held →
@@ -63,12 +63,12 @@ kept_push old lists held same all within room next =
     let own : List Record = get_or lists (held.household - 1) [] in
     let before : AreKept (get_or lists (held.household - 1) []) = at_place AreKept lists (held.household - 1) [] all kept_none in
     let found : records_of old.households held.household ≡ get_or lists (held.household - 1) [] =
-        records_at old.households held.household (is_household old.room held.household room)
-        ∙ ap (λ (hs : List (List Record)). get_or hs (held.household - 1) []) (sym same) in
+    records_at old.households held.household (is_household old.room held.household room)
+    ∙ ap (λ (hs : List (List Record)). get_or hs (held.household - 1) []) (sym same) in
     let number : held.number ≡ newest_number (get_or lists (held.household - 1) []) + 1 = next ∙ ap (λ (rs : List Record). newest_number rs + 1) found in
     All-set AreKept lists (held.household - 1) (get_or lists (held.household - 1) [] ++ held ∷ [])
-      (record {
-        within = All-push IsWithin (get_or lists (held.household - 1) []) held before.within within;
-        numbered = numbered_push (get_or lists (held.household - 1) []) held before.numbered number;
-      })
-      all
+    (record {
+      within = All-push IsWithin (get_or lists (held.household - 1) []) held before.within within;
+      numbered = numbered_push (get_or lists (held.household - 1) []) held before.numbered number;
+    })
+    all

@@ -2,10 +2,10 @@
 use Rattle.std.proofs.Common.{◌≡◌, ℕ, zero, suc, ◌-◌, ◌≤◌, List, [], ◌∷◌, get_or, Bool, true, false, Option, Some, None, refl, ap}
 use Rattle.std.specs.Prelude.{All, filter, fold, IfSome, nat_le, ◌==◌, if◌then◌else◌}
 use Rattle.std.proofs.lemmas.Bool.{le-leb}
-use Rattle.std.proofs.lemmas.List.Elements.{All-filter, All-head, All-tail, All-nil}
+use Rattle.std.proofs.lemmas.List.Elements.{All-filter, All-head, All-tail}
 use Rattle.record_history.specs.declared.records.Record.{Record}
-use Rattle.record_history.specs.Records.{as_of, is_live, live_records, comes_before, later, latest, in_force, in_force_as_of}
-use Rattle.record_history.specs.Held.{IsWithin, records_of}
+use Rattle.record_history.specs.Records.{as_of, is_live, live_records, comes_before, later, in_force, in_force_as_of}
+use Rattle.record_history.specs.Held.{records_of}
 
 -- what is true of both is true of the one that is chosen
 pub either_is : {X : Type 0} (P : X → Type 0) (test : Bool) (x y : X) → P x → P y → P (if test then x else y)

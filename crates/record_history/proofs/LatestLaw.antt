@@ -1,11 +1,11 @@
 -- The record in force is the last of those that count.
-use Rattle.std.proofs.Common.{◌≡◌, ℕ, ◌<◌, ◌≤◌, List, [], ◌∷◌, Bool, true, false, Option, Some, None, refl, arith}
-use Rattle.std.specs.Prelude.{All, filter, fold, IfSome, nat_le, nat_lt, ◌==◌, ◌&&◌, ◌||◌, if◌then◌else◌}
+use Rattle.std.proofs.Common.{◌≡◌, ℕ, List, [], ◌∷◌, Bool, true, false, Option, Some, None, refl, arith}
+use Rattle.std.specs.Prelude.{All, filter, fold, nat_le, nat_lt, ◌==◌, ◌&&◌, ◌||◌, if◌then◌else◌}
 use Rattle.std.proofs.lemmas.Bool.{and_parts}
 use Rattle.std.proofs.lemmas.Bool.Decides.{nat_tests}
 use Rattle.std.proofs.lemmas.List.Elements.{All-filter, filter_passes, All-cons, All-nil}
 use Rattle.record_history.specs.declared.records.Record.{Record}
-use Rattle.record_history.specs.Records.{is_live, live_records, comes_before, later, in_force}
+use Rattle.record_history.specs.Records.{is_live, live_records, comes_before, later}
 use Rattle.record_history.specs.Law.{is_candidate, IsNotAfter, InForceIsLatest}
 use Rattle.record_history.proofs.Latest.{latest_is}
 

@@ -1,5 +1,5 @@
 -- Days one after another, joined where they have one key.
-use Rattle.std.specs.Prelude.{ℕ, zero, suc, ◌+◌, ◌≤◌, ◌≡◌, Bool, true, false, if◌then◌else◌, List, [], ◌∷◌, reverse}
+use Rattle.std.specs.Prelude.{ℕ, zero, suc, ◌+◌, Bool, if◌then◌else◌, List, [], ◌∷◌, reverse}
 use Rattle.record_history.specs.declared.stretch.Stretch.{Stretch}
 
 -- the day after those of the stretches, of which the newest is the first

@@ -1,4 +1,4 @@
-use Rattle.std.proofs.Common.{◌≡◌, ◌-◌, ◌++◌, ◌∷◌, [], get_or, ap, arith}
+use Rattle.std.proofs.Common.{ap, arith}
 use Rattle.std.specs.Prelude.{vec_items, vec_len, vec_capacity}
 use Rattle.record_history.proofs.Places.{is_there, lists_pushed, room_pushed}
 use Rattle.record_history.proofs.lists.push_at.Goals as goal

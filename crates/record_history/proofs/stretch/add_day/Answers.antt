@@ -1,4 +1,4 @@
-use Rattle.std.proofs.Common.{rules, ◌≡◌, ◌++◌, ◌∷◌, [], List, ◌∙◌, sym, ap, arith, length, ◌-◌}
+use Rattle.std.proofs.Common.{rules, ◌≡◌, ◌++◌, ◌∷◌, [], List, ◌∙◌, sym, ap, length}
 use Rattle.std.specs.Prelude.{vec_items}
 use Rattle.record_history.specs.declared.stretch.Stretch.{Stretch}
 use Rattle.record_history.proofs.Days.{joins, begins, begins_first, put_back, none_there}

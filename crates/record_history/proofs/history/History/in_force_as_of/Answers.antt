@@ -1,4 +1,3 @@
-use Rattle.std.proofs.Common.{IfSome, option_copied}
 use Rattle.record_history.specs.Held.{IsWithin, AreKept, records_of, lists_in}
 use Rattle.record_history.proofs.Latest.{in_force_is, records_are}
 use Rattle.record_history.proofs.Kept.{kept_none}

@@ -7,5 +7,5 @@ pub invariant_of-self : goal.invariant_of-self
 invariant_of-self c =
     let within : IsWithin c.args.held = search rules in
     rw c.push_at.ensures.lists
-      (kept_push c.args.self.now (lists_in c.self.inside.lists.items) c.args.held (ap (λ (held : Held). held.households) c.self.view_is)
-        c.self.invariant within c.requires.room c.requires.number)
+    (kept_push c.args.self.now (lists_in c.self.inside.lists.items) c.args.held (ap (λ (held : Held). held.households) c.self.view_is)
+    c.self.invariant within c.requires.room c.requires.number)
