@@ -1,0 +1,6 @@
+use Rattle.std.specs.Prelude.{◌≡◌, take}
+use Rattle.record_history.specs.Records.{newest_act}
+use Rattle.record_history.proofs.force.newest_act_among.Given as goal
+
+abbrev pub invariant-loop-held : goal.invariant-loop-held
+invariant-loop-held l = l.newest ≡ newest_act (take l.held-index l.records)

@@ -1,0 +1,21 @@
+use Rattle.std.proofs.Common.{◌≡◌, ◌∙◌, ◌+◌, ◌-◌, All, List, map, sym, subst, ℕ, arith}
+use Rattle.std.proofs.lemmas.Result.{IfOk-weaker}
+use Rattle.record_history.specs.declared.stretch.Stretch.{Stretch}
+use Rattle.record_history.specs.Records.{as_of}
+use Rattle.record_history.specs.Runs.{number_on, run_of, IsBy}
+use Rattle.record_history.proofs.Longest.{stretches_by, are_longest}
+use Rattle.record_history.proofs.runs.runs_among.Goals as goal
+
+pub runs_of-requires : goal.runs_of-requires
+runs_of-requires c =
+    let low : ℕ = c.number.result in
+    let high : ℕ = c.number-2.result in
+    subst (λ (days : List (Stretch ℕ)). All (IsBy 116877) days) (sym (c.deref.ensures.value ∙ c.in_ok-days.ensures))
+    (stretches_by (number_on (as_of c.args.act c.args.records.now)) c.number.result 116877 (c.number-2.result + 1 - c.number.result) (omega arith))
+
+pub returns-clause-longest : goal.returns-clause-longest
+returns-clause-longest c =
+    IfOk-weaker c.runs_of.result (λ runs. runs.items ≡ map run_of c.deref.result.now) _
+    (λ runs made within. are_longest (number_on (as_of c.args.act c.args.records.now)) c.number.result c.number-2.result c.args.first c.args.last
+    c.deref.result.now runs.items c.number.ensures.value c.number-2.ensures.value (c.deref.ensures.value ∙ c.in_ok-days.ensures) made within)
+    c.runs_of.ensures

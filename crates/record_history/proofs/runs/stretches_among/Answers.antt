@@ -1,0 +1,14 @@
+use Rattle.std.proofs.Common.{◌-◌, ◌∙◌, arith}
+use Rattle.std.specs.Prelude.{nat_eq}
+use Rattle.record_history.specs.Records.{as_of}
+use Rattle.record_history.specs.Stretch.{newest_first}
+use Rattle.record_history.specs.Runs.{number_on}
+use Rattle.record_history.proofs.Longest.{one_more}
+use Rattle.record_history.proofs.runs.stretches_among.Goals as goal
+
+pub loop-day-preserved : goal.loop-day-preserved
+loop-day-preserved c = (
+  c.in_ok-add_day.ensures.ok (newest_first nat_eq (number_on (as_of c.args.act c.args.records.now)) c.args.first (c.loop-day.day - c.args.first)) c.loop-day.invariant.0
+      ∙ one_more (number_on (as_of c.args.act c.args.records.now)) c.args.first c.loop-day.day c.number_on.result c.loop-day.auto.day c.number_on.ensures,
+  omega arith,
+)

@@ -1,0 +1,52 @@
+-- What a history holds: the records of each household, and the room for more.
+use Rattle.std.specs.Prelude.{ℕ, ◌+◌, ◌-◌, ◌==◌, ◌≤◌, ◌<◌, ◌≡◌, All, nat_lt, if◌then◌else◌, List, [], ◌∷◌, ◌++◌, length, map, slice_index_or, slice_set, vec_items, vec_len, vec_capacity}
+use Rattle.std.specs.Global.{Vec}
+use Rattle.record_history.specs.declared.records.Record.{Record}
+use Rattle.record_history.specs.Records.{newest_number}
+
+-- the records of household 1, 2 and so on in the order in which they came, and how many more fit for each
+pub record Held : Type 0 where
+  pub households : List (List Record)
+  pub room : List ℕ
+
+-- the records of that household, and none of one that isn't there
+abbrev pub records_of : List (List Record) → ℕ → List Record
+records_of households household = if household == 0 then [] else slice_index_or households (household - 1) []
+
+-- how many more records fit for that household
+abbrev pub room_of : List ℕ → ℕ → ℕ
+room_of room household = if household == 0 then 0 else slice_index_or room (household - 1) 0
+
+-- the lists with one at that place, which is there or the next
+abbrev pub with_place : {T : Type 0} → List (List T) → ℕ → List (List T)
+with_place lists place = if nat_lt place (length lists) then lists else lists ++ [] ∷ []
+
+-- the households with a record more
+abbrev pub with_record : List (List Record) → Record → List (List Record)
+with_record households held = slice_set households (held.household - 1) (records_of households held.household ++ held ∷ [])
+
+-- what vectors hold
+abbrev pub lists_in : {T : Type 0} → List (Vec T) → List (List T)
+lists_in vectors = map vec_items vectors
+
+-- the room that vectors have
+abbrev pub room_in : {T : Type 0} → List (Vec T) → List ℕ
+room_in vectors = map (λ v. vec_capacity v - vec_len v) vectors
+
+-- The bounds within which each record lies: it begins by 2099-12-31, and its amounts are those that a contract allows.
+pub record IsWithin (r : Record) : Type 0 where
+  pub act : r.act ≤ 4294967295
+  pub from : r.from ≤ 80353
+  pub contract_rent : r.rents.contract_rent ≤ 99999
+  pub utility : r.rents.utility ≤ 9999
+  pub assistance : r.assistance ≤ 109998
+
+-- the records have the numbers 1, 2 and so on in the order in which they came
+pub record AreNumbered (records : List Record) : Type 0 where
+  pub number : (place : ℕ) (d : Record) → place < length records → (slice_index_or records place d).number ≡ place + 1
+  pub newest : newest_number records ≡ length records
+
+-- what is true of the records of each household
+pub record AreKept (records : List Record) : Type 0 where
+  pub within : All IsWithin records
+  pub numbered : AreNumbered records

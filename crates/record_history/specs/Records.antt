@@ -1,0 +1,66 @@
+-- Which of a household's records count, as of an act and on a day.
+--
+-- Each definition but the last takes the records that are known, all of one household.
+use Rattle.std.specs.Prelude.{ℕ, ◌&&◌, ◌||◌, ◌==◌, not, nat_lt, nat_le, max, if◌then◌else◌, Bool, true, false, List, filter, fold, Option, Some, None}
+use Rattle.std.specs.List.{list_any}
+use Rattle.record_history.specs.declared.records.Kind.{Kind}
+use Rattle.record_history.specs.declared.records.Kind.TheVariants as kind
+use Rattle.record_history.specs.declared.records.Record.{Record}
+
+-- the records that the acts up to this one made
+abbrev pub as_of : ℕ → List Record → List Record
+as_of act records = filter (λ r. nat_le r.act act) records
+
+-- it withdraws another record, and certifies nothing
+abbrev pub is_withdrawal : Kind → Bool
+is_withdrawal kind.MI = false
+is_withdrawal kind.IC = false
+is_withdrawal kind.AR = false
+is_withdrawal kind.IR = false
+is_withdrawal kind.GR = false
+is_withdrawal kind.UT = false
+is_withdrawal kind.MO = false
+is_withdrawal kind.TM = false
+is_withdrawal kind.WD = true
+
+-- it withdraws nothing, and none of the records corrects or withdraws it, whether or not that one counts itself
+abbrev pub is_live : List Record → Record → Bool
+is_live records r = not (is_withdrawal r.kind) && not (list_any (λ other. other.corrects == r.number) records)
+
+-- the records that count
+abbrev pub live_records : List Record → List Record
+live_records records = filter (is_live records) records
+
+-- the record of that number counts as of the act
+abbrev pub is_live_as_of : ℕ → List Record → ℕ → Bool
+is_live_as_of act records number = list_any (λ r. r.number == number) (live_records (as_of act records))
+
+-- it begins earlier, or on the same day and has the smaller number
+abbrev pub comes_before : Record → Record → Bool
+comes_before a b = nat_lt a.from b.from || (a.from == b.from && nat_lt a.number b.number)
+
+-- the one of the two that comes last
+abbrev pub later : Option Record → Record → Option Record
+later None r = Some r
+later (Some best) r = if comes_before best r then Some r else Some best
+
+-- the record that begins last, and of those that begin on one day the one with the greatest number
+abbrev pub latest : List Record → Option Record
+latest records = fold later None records
+
+-- the record by which the household is certified on the day (an outline of Handbook 4350.3, chapter 7; that a greater
+-- number goes before on the same day is an own rule)
+abbrev pub in_force : List Record → ℕ → Option Record
+in_force records day = latest (filter (λ r. nat_le r.from day) (live_records records))
+
+-- the same, as anyone could know it at the act
+abbrev pub in_force_as_of : ℕ → List Record → ℕ → Option Record
+in_force_as_of act records day = in_force (as_of act records) day
+
+-- the greatest number that a record has, and 0 where there is none
+abbrev pub newest_number : List Record → ℕ
+newest_number records = fold (λ most r. max most r.number) 0 records
+
+-- the latest act that made one of the records, and 0 where there is none
+abbrev pub newest_act : List Record → ℕ
+newest_act records = fold (λ most r. max most r.act) 0 records

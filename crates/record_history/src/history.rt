@@ -1,0 +1,131 @@
+use crate::force::{in_force_among, is_live_among, newest_act_among, newest_among, record_among};
+use crate::lists::{list_of, push_at, reserve_at};
+use crate::runs::runs_among;
+use crate::{Dates, Record, Run};
+use days_core::Day;
+use plain_data::NoMemory;
+use std::alloc::Global;
+use std::marker::Model;
+
+/// The records of each household, which are numbered from 1 without gaps.
+///
+/// Contracts see the lists of records, and beside them the room that each has for more.
+#[derive(Drop)]
+pub struct History {
+    lists: Vec<Vec<Record>>,
+}
+
+impl Model for History {
+    ghost use Rattle.std.specs.Prelude.{All};
+    ghost use Rattle.record_history.specs.Held.{Held, lists_in, room_in, AreKept};
+
+    ghost Value = { Held };
+
+    ghost view = { λ history. record { households = lists_in history.lists.items; room = room_in history.lists.items } };
+
+    ghost invariant = { λ history. All AreKept (lists_in history.lists.items) };
+}
+
+impl History {
+    ghost use Rattle.std.specs.Prelude.{◌≡◌, ◌≤◌, ◌<◌, ◌+◌, ◌-◌, ◌==◌, [], ℕ, map, nat_eq, length, slice_set, find, option_copied, is_ok, if◌then◌else◌, IfOk, OnOk, IfSome};
+    ghost use Rattle.record_history.specs.Records.{as_of, is_live_as_of, in_force, in_force_as_of, newest_number, newest_act};
+    ghost use Rattle.record_history.specs.Held.{records_of, room_of, with_place, with_record, IsWithin, AreNumbered};
+    ghost use Rattle.record_history.specs.Stretch.{stretches};
+    ghost use Rattle.record_history.specs.Runs.{number_on, run_of, CoverLongest};
+
+    pub fn new(alloc: Global) -> Result<History, NoMemory>
+        ensures { IfOk result (λ history. history ≡ record { households = []; room = [] }) }
+    {
+        Ok(History {
+            lists: Vec::new(alloc),
+        })
+    }
+
+    /// Makes room for one more record of the household.
+    pub fn reserve(&mut self, alloc: Global, household: u32) -> Result<(), NoMemory>
+        requires first { 1 ≤ household }
+        requires next { household ≤ length self.old.households + 1 }
+        ensures households { self.new.households ≡ (if is_ok result then with_place self.old.households (household - 1) else self.old.households) }
+        ensures room { OnOk result (1 ≤ room_of self.new.room household) }
+        ensures kept { (other : ℕ) → room_of self.old.room other ≤ room_of self.new.room other }
+    {
+        reserve_at(alloc, &mut self.lists, household as usize - 1)
+    }
+
+    /// Holds a record more, for which there is room.
+    pub fn push(&mut self, held: Record)
+        requires room { 1 ≤ room_of self.old.room held.household }
+        requires number { held.number ≡ newest_number (records_of self.old.households held.household) + 1 }
+        requires act { newest_act (records_of self.old.households held.household) < held.act }
+        requires from { held.from ≤ 80353 }
+        requires contract_rent { held.rents.contract_rent ≤ 99999 }
+        requires utility { held.rents.utility ≤ 9999 }
+        requires assistance { held.assistance ≤ 109998 }
+        ensures households { self.new.households ≡ with_record self.old.households held }
+        ensures room { self.new.room ≡ slice_set self.old.room (held.household - 1) (room_of self.old.room held.household - 1) }
+    {
+        // The check of the move below refuses a type that the function doesn't name, as Option and Dates.
+        let _dates: Option<Dates> = held.dates;
+        push_at(&mut self.lists, held.household as usize - 1, held);
+    }
+
+    /// The number of the household's newest record, and 0 where it has none.
+    pub fn newest(&self, household: u32) -> u32
+        ensures value { result ≡ newest_number (records_of self.now.households household) }
+        ensures numbered { AreNumbered (records_of self.now.households household) }
+    {
+        newest_among(list_of(&self.lists, household))
+    }
+
+    /// The latest act that made a record of the household, and 0 where it has none.
+    pub fn newest_act(&self, household: u32) -> u32
+        ensures { result ≡ newest_act (records_of self.now.households household) }
+    {
+        newest_act_among(list_of(&self.lists, household))
+    }
+
+    /// The household's record of that number.
+    pub fn record_at(&self, household: u32, number: u32) -> Option<&Record>
+        ensures { option_copied result ≡ find (λ r. r.number == number) (records_of self.now.households household) }
+    {
+        record_among(list_of(&self.lists, household), number)
+    }
+
+    /// Whether the household's record of that number counts as of the act.
+    pub fn live(&self, household: u32, number: u32, act: u32) -> bool
+        ensures { result ≡ is_live_as_of act (records_of self.now.households household) number }
+    {
+        is_live_among(list_of(&self.lists, household), number, act)
+    }
+
+    /// The record by which the household is certified on the day, as it is known by now.
+    pub fn in_force(&self, household: u32, day: Day) -> Option<&Record>
+        ensures latest { option_copied result ≡ in_force (records_of self.now.households household) day }
+        ensures within { IfSome (option_copied result) IsWithin }
+    {
+        in_force_among(list_of(&self.lists, household), day, u32::MAX)
+    }
+
+    /// The record by which the household is certified on the day, as anyone could know it at the act.
+    pub fn in_force_as_of(&self, household: u32, day: Day, act: u32) -> Option<&Record>
+        ensures latest { option_copied result ≡ in_force_as_of act (records_of self.now.households household) day }
+        ensures within { IfSome (option_copied result) IsWithin }
+    {
+        in_force_among(list_of(&self.lists, household), day, act)
+    }
+
+    /// The longest runs of days from the first to the last with one record in force, as known at the act.
+    pub fn runs(
+        &self,
+        alloc: Global,
+        household: u32,
+        first: Day,
+        last: Day,
+        act: u32,
+    ) -> Result<Vec<Run>, NoMemory>
+        ensures runs { IfOk result (λ runs. runs.items ≡ map run_of (stretches nat_eq (number_on (as_of act (records_of self.now.households household))) first (last + 1 - first))) }
+        ensures longest { IfOk result (λ runs. first ≤ last + 1 → CoverLongest (number_on (as_of act (records_of self.now.households household))) first (last + 1) runs.items) }
+    {
+        runs_among(alloc, list_of(&self.lists, household), first, last, act)
+    }
+}

@@ -1,0 +1,83 @@
+ghost use Rattle.std.specs.Prelude.{◌≡◌, ◌≤◌, ◌+◌, ◌-◌, nat_eq, map, All, IfOk};
+ghost use Rattle.record_history.specs.Records.{as_of};
+ghost use Rattle.record_history.specs.Stretch.{stretches};
+ghost use Rattle.record_history.specs.Runs.{number_on, run_of, CoverLongest, IsBy};
+
+use crate::force::in_force_among;
+use crate::stretch::add_day;
+use crate::{Record, Stretch};
+use days_core::Day;
+use plain_data::NoMemory;
+use std::alloc::Global;
+
+/// Days one after another with one record in force, or with none.
+#[derive(Clone, Copy, Debug, PartialEq, Eq)]
+pub struct Run {
+    pub first: Day,
+    pub last: Day,
+    /// The number of the record in force, or 0.
+    pub number: u32,
+}
+
+pub fn runs_among(
+    alloc: Global,
+    records: &[Record],
+    first: Day,
+    last: Day,
+    act: u32,
+) -> Result<Vec<Run>, NoMemory>
+    ensures runs { IfOk result (λ runs. runs.items ≡ map run_of (stretches nat_eq (number_on (as_of act records.now)) first (last + 1 - first))) }
+    ensures longest { IfOk result (λ runs. first ≤ last + 1 → CoverLongest (number_on (as_of act records.now)) first (last + 1) runs.items) }
+{
+    let days = stretches_among(alloc, records, first.number(), last.number(), act)?;
+    runs_of(alloc, &days)
+}
+
+fn stretches_among(
+    alloc: Global,
+    records: &[Record],
+    first: u32,
+    last: u32,
+    act: u32,
+) -> Result<Vec<Stretch<u32>>, NoMemory>
+    requires { last ≤ 116877 }
+    ensures { IfOk result (λ days. days.items ≡ stretches nat_eq (number_on (as_of act records.now)) first (last + 1 - first)) }
+{
+    let mut days = Vec::new(alloc);
+    for day in first..last + 1 {
+        add_day(&mut days, day, number_on(records, day, act))?;
+    }
+    Ok(days)
+}
+
+fn number_on(records: &[Record], day: u32, act: u32) -> u32
+    requires { day ≤ 116877 }
+    ensures { result ≡ number_on (as_of act records.now) day }
+{
+    match in_force_among(records, Day::from_number(day).unwrap(), act) {
+        Some(held) => held.number,
+        None => 0,
+    }
+}
+
+fn runs_of(alloc: Global, days: &[Stretch<u32>]) -> Result<Vec<Run>, NoMemory>
+    requires { All (IsBy 116877) days.now }
+    ensures { IfOk result (λ runs. runs.items ≡ map run_of days.now) }
+{
+    let mut runs = Vec::new(alloc);
+    for stretch in days {
+        runs.push(run_of(stretch))?;
+    }
+    Ok(runs)
+}
+
+fn run_of(stretch: &Stretch<u32>) -> Run
+    requires { IsBy 116877 stretch.now }
+    ensures { result ≡ run_of stretch.now }
+{
+    Run {
+        first: Day::from_number(stretch.first).unwrap(),
+        last: Day::from_number(stretch.last).unwrap(),
+        number: stretch.key,
+    }
+}
