@@ -1,2 +1,1 @@
-pub mod LatestLemmas
 pub mod OwnLemmas

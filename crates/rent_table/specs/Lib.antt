@@ -1,2 +1,2 @@
-pub mod Latest
 pub mod Table
+pub mod Admission

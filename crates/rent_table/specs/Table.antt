@@ -6,7 +6,7 @@ use Rattle.days_core.specs.declared.rents.Rents.{Rents}
 use Rattle.rent_table.specs.declared.rows.Unit.{Unit as UnitRow}
 use Rattle.rent_table.specs.declared.rows.RentRow.{RentRow}
 use Rattle.rent_table.specs.declared.rows.LimitRow.{LimitRow}
-use Rattle.rent_table.specs.Latest.{comes_before, latest}
+use Rattle.row_choice.specs.Latest.{comes_before, latest}
 
 -- what an office has on record, in the order in which it came, and for how many more rows of each sort it has room
 pub record Table : Type 0 where

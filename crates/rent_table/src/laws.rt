@@ -1,7 +1,7 @@
 ghost use Rattle.std.specs.Prelude.{ℕ, List};
 ghost use Rattle.rent_table.specs.declared.rows.RentRow.{RentRow};
 ghost use Rattle.rent_table.specs.declared.rows.LimitRow.{LimitRow};
-ghost use Rattle.rent_table.specs.Latest.{IsLatest};
+ghost use Rattle.row_choice.specs.Latest.{IsLatest};
 ghost use Rattle.rent_table.specs.Table.{rents_before, limits_before, rents_begin_by, limits_begin_by};
 ghost use Rattle.rent_table.specs.Table.{rent_row_on, limits_on};
 

@@ -1,12 +1,14 @@
 //! An office's plan, its units, and the rents and income limits that stand on a day.
 #![tactic(auto)]
 
+mod admission;
 mod laws;
 mod plan;
 mod rows;
 mod standing;
 mod table;
 
+pub use admission::{admission_limit, has_extremely_low_income, suits};
 pub use laws::rows_stand_latest;
 pub use plan::{Bound, Plan};
 pub use rows::{LimitRow, RentRow, Unit};

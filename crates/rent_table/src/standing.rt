@@ -1,6 +1,6 @@
 ghost use Rattle.std.specs.Prelude.{◌≡◌};
 ghost use Rattle.std.specs.Option.{option_copied};
-ghost use Rattle.rent_table.specs.Latest.{comes_before, later, latest};
+ghost use Rattle.row_choice.specs.Latest.{comes_before, later, latest};
 ghost use Rattle.rent_table.specs.Table.{rents_before, limits_before, rent_row_on, limits_on};
 
 use crate::{LimitRow, RentRow};

@@ -130,6 +130,14 @@ impl RentTable {
             .map(|unit| unit.number)
     }
 
+    /// The rents that were ever set, in the order of their acts.
+    pub fn rent_rows(&self) -> &[RentRow]
+        ensures rows { result.now ≡ self.now.rents }
+        ensures acts_rise { RentActsRise self.now.rents }
+    {
+        &self.rents
+    }
+
     /// The rents of a group of units on a day.
     pub fn rents_on(&self, group: u32, day: Day) -> Option<Rents>
         ensures value { result ≡ rents_on self.now.rents group day }
