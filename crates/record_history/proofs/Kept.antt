@@ -1,11 +1,12 @@
 -- What is kept of the records of each household.
 use Rattle.std.proofs.Common.{◌≡◌, ◌⊎◌, inl, inr, ℕ, zero, suc, ◌+◌, ◌-◌, ◌<◌, ◌≤◌, max, List, [], ◌∷◌, ◌++◌, length, get_or, set, refl, sym, ap, ◌∙◌, arith, length-append}
-use Rattle.std.specs.Prelude.{All, nat_lt, ◌==◌, if◌then◌else◌, Bool, false}
+use Rattle.std.specs.Prelude.{All, nat_lt, ◌==◌, if◌then◌else◌, Bool, true, false}
 use Rattle.std.proofs.Math.Seq.{get_or-append_seam}
 use Rattle.std.proofs.lemmas.List.{get_or_append_left}
 use Rattle.std.proofs.lemmas.List.Sums.{fold-append}
 use Rattle.std.proofs.lemmas.List.Elements.{All-nil, All-push, All-set}
 use Rattle.std.proofs.lemmas.Bool.{cases_lt, ne_eqb}
+use Rattle.std.proofs.lemmas.Bool.Decides.{nat_tests}
 use Rattle.record_history.specs.declared.records.Record.{Record}
 use Rattle.record_history.specs.Records.{newest_number}
 use Rattle.record_history.specs.Held.{Held, IsWithin, AreNumbered, AreKept, records_of, room_of, with_place}
@@ -54,6 +55,20 @@ pub kept_place : (ok : Bool) (lists : List (List Record)) (place : ℕ) → All 
 kept_place ok lists place all =
     either_is (All AreKept) ok (with_place lists place) lists
     (either_is (All AreKept) (nat_lt place (length lists)) lists (lists ++ [] ∷ []) all (All-push AreKept lists [] all kept_none)) all
+
+-- a place more is one for a household whose number fits
+pub few_place : (ok : Bool) (lists : List (List Record)) (place : ℕ) → length lists ≤ 4294967295 → place < 4294967295 →
+    length (if ok then with_place lists place else lists) ≤ 4294967295
+few_place ok lists place few fits =
+    either_is (λ (now : List (List Record)). length now ≤ 4294967295) ok (with_place lists place) lists
+    (by_test (nat_lt place (length lists)) refl) few
+  where
+    past : nat_lt place (length lists) ≡ false → length lists ≤ place
+    past is = grind (arith, nat_tests)
+
+    by_test : (there : Bool) → nat_lt place (length lists) ≡ there → length (if there then lists else lists ++ [] ∷ []) ≤ 4294967295
+    by_test true is = few
+    by_test false is = omega (arith, length-append lists ([] ∷ []), past is, fits)
 
 -- a record more is kept
 pub kept_push : (old : Held) (lists : List (List Record)) (held : Record) → lists ≡ old.households → All AreKept lists → IsWithin held →

@@ -1,10 +1,11 @@
 -- What is true of the record in force.
-use Rattle.std.proofs.Common.{◌≡◌, ℕ, zero, suc, ◌-◌, ◌≤◌, List, [], ◌∷◌, get_or, Bool, true, false, Option, Some, None, refl, ap}
-use Rattle.std.specs.Prelude.{All, filter, fold, IfSome, nat_le, ◌==◌, if◌then◌else◌}
+use Rattle.std.proofs.Common.{◌≡◌, ℕ, zero, suc, ◌-◌, ◌≤◌, List, [], ◌∷◌, get_or, Bool, true, false, None, refl, ap}
+use Rattle.std.specs.Prelude.{All, filter, IfSome, nat_le, ◌==◌, if◌then◌else◌}
 use Rattle.std.proofs.lemmas.Bool.{le-leb}
 use Rattle.std.proofs.lemmas.List.Elements.{All-filter, All-head, All-tail}
+use Rattle.row_choice.proofs.LatestLemmas.{latest-among, filter-alike}
 use Rattle.record_history.specs.declared.records.Record.{Record}
-use Rattle.record_history.specs.Records.{as_of, is_live, live_records, comes_before, later, in_force, in_force_as_of}
+use Rattle.record_history.specs.Records.{as_of, is_live, live_records, comes_before, latest, in_force, in_force_as_of}
 use Rattle.record_history.specs.Held.{records_of}
 
 -- what is true of both is true of the one that is chosen
@@ -18,12 +19,6 @@ at_place P [] place d all p = p
 at_place P (x ∷ xs) zero d all p = All-head P x xs all
 at_place P (x ∷ xs) (suc place) d all p = at_place P xs place d (All-tail P x xs all) p
 
-pub latest_is : (P : Record → Type 0) (best : Option Record) (xs : List Record) → IfSome best P → All P xs → IfSome (fold later best xs) P
-latest_is P best [] b all = b
-latest_is P None (x ∷ xs) b all = latest_is P (Some x) xs (All-head P x xs all) (All-tail P x xs all)
-latest_is P (Some best) (x ∷ xs) b all =
-    latest_is P (later (Some best) x) xs (either_is (λ (o : Option Record). IfSome o P) (comes_before best x) (Some x) (Some best) (All-head P x xs all) b) (All-tail P x xs all)
-
 -- the records of a household are as those of each are
 pub records_are : (P : List Record → Type 0) (households : List (List Record)) (household : ℕ) → All P households → P [] → P (records_of households household)
 records_are P households household all none =
@@ -32,7 +27,7 @@ records_are P households household all none =
 -- and so is the one in force, where all are
 pub in_force_is : (P : Record → Type 0) (records : List Record) (act day : ℕ) → All P records → IfSome (in_force_as_of act records day) P
 in_force_is P records act day all =
-    latest_is P None (filter (λ r. nat_le r.from day) (live_records (as_of act records))) tt
+    latest-among comes_before P None (filter (λ r. nat_le r.from day) (live_records (as_of act records))) tt
     (All-filter (λ r. nat_le r.from day) P (live_records (as_of act records)) (All-filter (is_live (as_of act records)) P (as_of act records) (All-filter (λ r. nat_le r.act act) P records all)))
 
 -- where no act is later, all records are known
@@ -45,3 +40,10 @@ as_of_all act (r ∷ rs) all =
 -- and the record in force as of that act is in force
 pub in_force_known : (act : ℕ) (records : List Record) (day : ℕ) → All (λ r. r.act ≤ act) records → in_force_as_of act records day ≡ in_force records day
 in_force_known act records day all = ap (λ (known : List Record). in_force known day) (as_of_all act records all)
+
+-- where no record begins between two days the same is in force on both
+pub in_force_alike : (records : List Record) (day next : ℕ) → All (λ r. nat_le r.from day ≡ nat_le r.from next) records →
+    in_force records day ≡ in_force records next
+in_force_alike records day next alike =
+    ap latest (filter-alike (λ (r : Record). r.from) day next (live_records records)
+    (All-filter (is_live records) (λ (r : Record). nat_le r.from day ≡ nat_le r.from next) records alike))

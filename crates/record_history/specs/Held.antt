@@ -50,3 +50,8 @@ pub record AreNumbered (records : List Record) : Type 0 where
 pub record AreKept (records : List Record) : Type 0 where
   pub within : All IsWithin records
   pub numbered : AreNumbered records
+
+-- what is true of the lists of all households
+pub record AreSound (households : List (List Record)) : Type 0 where
+  pub few : length households ≤ 4294967295
+  pub kept : All AreKept households

@@ -1,11 +1,12 @@
 -- Which of a household's records count, as of an act and on a day.
 --
 -- Each definition but the last takes the records that are known, all of one household.
-use Rattle.std.specs.Prelude.{ℕ, ◌&&◌, ◌||◌, ◌==◌, not, nat_lt, nat_le, max, if◌then◌else◌, Bool, true, false, List, filter, fold, Option, Some, None}
+use Rattle.std.specs.Prelude.{ℕ, ◌&&◌, ◌==◌, not, nat_le, max, Bool, true, false, List, filter, fold, Option}
 use Rattle.std.specs.List.{list_any}
 use Rattle.record_history.specs.declared.records.Kind.{Kind}
 use Rattle.record_history.specs.declared.records.Kind.TheVariants as kind
 use Rattle.record_history.specs.declared.records.Record.{Record}
+use Rattle.row_choice.specs.Latest.{comes_before as pair_comes_before, later as later_by, latest as latest_by}
 
 -- the records that the acts up to this one made
 abbrev pub as_of : ℕ → List Record → List Record
@@ -37,16 +38,15 @@ is_live_as_of act records number = list_any (λ r. r.number == number) (live_rec
 
 -- it begins earlier, or on the same day and has the smaller number
 abbrev pub comes_before : Record → Record → Bool
-comes_before a b = nat_lt a.from b.from || (a.from == b.from && nat_lt a.number b.number)
+comes_before a b = pair_comes_before a.from a.number b.from b.number
 
 -- the one of the two that comes last
 abbrev pub later : Option Record → Record → Option Record
-later None r = Some r
-later (Some best) r = if comes_before best r then Some r else Some best
+later best r = later_by comes_before best r
 
 -- the record that begins last, and of those that begin on one day the one with the greatest number
 abbrev pub latest : List Record → Option Record
-latest records = fold later None records
+latest records = latest_by comes_before records
 
 -- the record by which the household is certified on the day (an outline of Handbook 4350.3, chapter 7; that a greater
 -- number goes before on the same day is an own rule)

@@ -16,18 +16,17 @@ pub struct History {
 }
 
 impl Model for History {
-    ghost use Rattle.std.specs.Prelude.{All};
-    ghost use Rattle.record_history.specs.Held.{Held, lists_in, room_in, AreKept};
+    ghost use Rattle.record_history.specs.Held.{Held, lists_in, room_in, AreSound};
 
     ghost Value = { Held };
 
     ghost view = { λ history. record { households = lists_in history.lists.items; room = room_in history.lists.items } };
 
-    ghost invariant = { λ history. All AreKept (lists_in history.lists.items) };
+    ghost invariant = { λ history. AreSound (lists_in history.lists.items) };
 }
 
 impl History {
-    ghost use Rattle.std.specs.Prelude.{◌≡◌, ◌≤◌, ◌<◌, ◌+◌, ◌-◌, ◌==◌, [], ℕ, map, nat_eq, length, slice_set, find, option_copied, is_ok, if◌then◌else◌, IfOk, OnOk, IfSome};
+    ghost use Rattle.std.specs.Prelude.{◌≡◌, ◌≤◌, ◌<◌, ◌+◌, ◌-◌, ◌==◌, [], ℕ, map, nat_eq, length, slice_set, find, option_copied, is_ok, if◌then◌else◌, All, IfOk, OnOk, IsOk, IfSome};
     ghost use Rattle.record_history.specs.Records.{as_of, is_live_as_of, in_force, in_force_as_of, newest_number, newest_act};
     ghost use Rattle.record_history.specs.Held.{records_of, room_of, with_place, with_record, IsWithin, AreNumbered};
     ghost use Rattle.record_history.specs.Stretch.{stretches};
@@ -48,6 +47,7 @@ impl History {
         ensures households { self.new.households ≡ (if is_ok result then with_place self.old.households (household - 1) else self.old.households) }
         ensures room { OnOk result (1 ≤ room_of self.new.room household) }
         ensures kept { (other : ℕ) → room_of self.old.room other ≤ room_of self.new.room other }
+        ensures succeeds { 1 ≤ room_of self.old.room household → IsOk result }
     {
         reserve_at(alloc, &mut self.lists, household as usize - 1)
     }
@@ -67,6 +67,22 @@ impl History {
         // The check of the move below refuses a type that the function doesn't name, as Option and Dates.
         let _dates: Option<Dates> = held.dates;
         push_at(&mut self.lists, held.household as usize - 1, held);
+    }
+
+    /// How many households there are.
+    pub fn households(&self) -> u32
+        ensures { result ≡ length self.now.households }
+    {
+        self.lists.len() as u32
+    }
+
+    /// The household's records in the order in which they came, whether they count or not.
+    pub fn records(&self, household: u32) -> &[Record]
+        ensures records { result.now ≡ records_of self.now.households household }
+        ensures within { All IsWithin result.now }
+        ensures numbered { AreNumbered result.now }
+    {
+        list_of(&self.lists, household)
     }
 
     /// The number of the household's newest record, and 0 where it has none.

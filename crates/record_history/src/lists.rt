@@ -1,6 +1,6 @@
 //! The vectors of a history, by the place of a household.
 
-ghost use Rattle.std.specs.Prelude.{◌≡◌, ◌≤◌, ◌<◌, ◌+◌, ◌-◌, ◌++◌, ◌∷◌, [], ℕ, length, slice_index_or, slice_set, is_ok, if◌then◌else◌, OnOk};
+ghost use Rattle.std.specs.Prelude.{◌≡◌, ◌≤◌, ◌<◌, ◌+◌, ◌-◌, ◌++◌, ◌∷◌, [], ℕ, length, slice_index_or, slice_set, is_ok, if◌then◌else◌, OnOk, IsOk};
 ghost use Rattle.record_history.specs.Held.{records_of, with_place, lists_in, room_in};
 
 use crate::Record;
@@ -28,6 +28,7 @@ pub fn reserve_at<T: Drop>(
     ensures lists { lists_in lists.new.items ≡ (if is_ok result then with_place (lists_in lists.old.items) place else lists_in lists.old.items) }
     ensures room { OnOk result (1 ≤ slice_index_or (room_in lists.new.items) place 0) }
     ensures kept { (other : ℕ) → slice_index_or (room_in lists.old.items) other 0 ≤ slice_index_or (room_in lists.new.items) other 0 }
+    ensures succeeds { 1 ≤ slice_index_or (room_in lists.old.items) place 0 → IsOk result }
 {
     if place < lists.len() {
         reserve_there(lists, place)
@@ -41,6 +42,7 @@ fn reserve_there<T>(lists: &mut Vec<Vec<T>>, place: usize) -> Result<(), NoMemor
     ensures lists { lists_in lists.new.items ≡ lists_in lists.old.items }
     ensures room { OnOk result (1 ≤ slice_index_or (room_in lists.new.items) place 0) }
     ensures kept { (other : ℕ) → slice_index_or (room_in lists.old.items) other 0 ≤ slice_index_or (room_in lists.new.items) other 0 }
+    ensures succeeds { 1 ≤ slice_index_or (room_in lists.old.items) place 0 → IsOk result }
 {
     lists[place].reserve(1)?;
     Ok(())

@@ -1,5 +1,8 @@
-use Rattle.record_history.proofs.LatestLaw.{in_force_is_latest}
+use Rattle.row_choice.proofs.LatestLemmas.{latest-is, filter-filter, pairs_order}
+use Rattle.record_history.specs.Records.{comes_before}
+use Rattle.record_history.specs.Law.{is_candidate}
 use Rattle.record_history.proofs.laws.in_force_is_latest.Goals as goal
 
 pub returns : goal.returns
-returns c = in_force_is_latest
+returns c records day =
+    rw filter-filter (latest-is comes_before (is_candidate records day) records (pairs_order (λ r. r.from) (λ r. r.number)))

@@ -5,6 +5,6 @@ use Rattle.record_history.proofs.history.History.in_force_as_of.Goals as goal
 
 pub returns-clause-within : goal.returns-clause-within
 returns-clause-within c =
-    let kept = records_are AreKept (lists_in c.self.inside.lists.items) c.args.household c.self.invariant kept_none in
+    let kept = records_are AreKept (lists_in c.self.inside.lists.items) c.args.household c.self.invariant.kept kept_none in
     rw (c.in_force_among.ensures, c.list_of.ensures)
     (in_force_is IsWithin (records_of (lists_in c.self.inside.lists.items) c.args.household) c.args.act c.args.day kept.within)

@@ -6,5 +6,5 @@ use Rattle.record_history.proofs.history.History.newest.Goals as goal
 
 pub returns-clause-numbered : goal.returns-clause-numbered
 returns-clause-numbered c =
-    let kept = records_are AreKept (lists_in c.self.inside.lists.items) c.args.household c.self.invariant kept_none in
+    let kept = records_are AreKept (lists_in c.self.inside.lists.items) c.args.household c.self.invariant.kept kept_none in
     subst (λ (held : Held). AreNumbered (records_of held.households c.args.household)) c.self.view_is kept.numbered
