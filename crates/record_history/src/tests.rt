@@ -79,6 +79,9 @@ fn tells_what_was_known_at_each_act(rt: HostRuntime) -> Result<(), Fail> {
     assert_eq!(rt; number_of(history.in_force(1, day(&rt, "2023-12-31"))), 0);
     assert_eq!(rt; number_of(history.record_at(1, 2)), 2);
     assert_eq!(rt; number_of(history.record_at(2, 2)), 0);
+    assert_eq!(rt; history.households(), 1);
+    assert_eq!(rt; history.records(1).len(), 3);
+    assert_eq!(rt; history.records(2).len(), 0);
     assert!(rt; history.live(1, 2, 10));
     assert!(rt; !history.live(1, 2, 11));
 

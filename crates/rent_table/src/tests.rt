@@ -1,7 +1,7 @@
 use super::*;
 use crate::standing::{limit_row_on, rent_row_on};
-use days_core::{Day, Rents, day_of_text};
-use plain_data::Text;
+use days_core::{Day, Rents, day_of_text, month_of};
+use plain_data::{Listed, Text};
 use std::alloc::Global;
 use std::process::Abort;
 use std::test::Fail;
@@ -110,6 +110,65 @@ fn keeps_units_and_rows(rt: HostRuntime) -> Result<(), Fail> {
         table.rents_on(1, from).map(|rents| rents.contract_rent),
         Some(700)
     );
+    assert_eq!(rt; table.rent_rows(), [rents(1, from, 3, 700)].as_slice());
     assert_eq!(rt; table.limits_on(from).map(|row| row.low[0]), Some(50_000));
     Ok(())
+}
+
+fn plan(rt: &impl Abort, alloc: Global, early: bool) -> Plan {
+    let bounds = [(1, 1), (1, 2), (2, 4), (3, 6), (4, 8), (5, 10)];
+    Plan {
+        first: month_of(day(rt, "2024-01-01")),
+        early,
+        method: 1,
+        fiscal_month: 1,
+        report_days: 30,
+        passbook: 200,
+        expected: 10,
+        bounds: bounds.map(|(least, most)| Bound { least, most }),
+        ranks: Listed::new(Vec::new(alloc)),
+    }
+}
+
+// A unit of two bedrooms is for 2 to 4 persons, by that plan's third bounds.
+#[test]
+fn a_unit_is_for_so_many_persons(rt: HostRuntime) -> Result<(), Fail> {
+    let plan = plan(&rt, rt.alloc(), false);
+    let unit = unit(rt.alloc(), 7, b"12B")?;
+    for (persons, fit) in [(0, false), (1, false), (2, true), (4, true), (5, false)] {
+        assert!(rt; unit.bedrooms <= 5);
+        assert_eq!(rt; suits(&plan, &unit, persons), fit, "{persons} persons");
+    }
+    Ok(())
+}
+
+// The low limit holds for a contract before October 1981, the very low one for a later contract.
+#[test]
+fn a_limit_goes_by_contract_and_size(rt: HostRuntime) {
+    let mut row = limits(day(&rt, "2024-01-01"), 3, 48_000);
+    row.very_low[11] = 44_100;
+    row.extremely_low[11] = 26_500;
+    for (early, size, limit) in [
+        (true, 1, 48_000),
+        (true, 12, 48_000),
+        (false, 1, 31_250),
+        (false, 12, 44_100),
+    ] {
+        assert!(rt; 1 <= size && size <= 12);
+        let plan = plan(&rt, rt.alloc(), early);
+        assert_eq!(rt; admission_limit(&plan, &row, size), limit, "{early} {size}");
+    }
+    for (size, annual, low) in [
+        (1, 18_750, true),
+        (1, 18_751, false),
+        (12, 18_751, true),
+        (12, 26_501, false),
+    ] {
+        assert!(rt; 1 <= size && size <= 12);
+        assert_eq!(rt;
+            has_extremely_low_income(&row, size, annual),
+            low,
+            "{size} {annual}"
+        );
+    }
 }
