@@ -58,7 +58,7 @@ int main(int count, char **argument) {
     if (turn >= 0) times[turn] = time, base_times[turn] = base_time;
   }
   double middle = median(times, runs), base_middle = median(base_times, runs);
-  printf("time    %.0f us, the echo %.0f us: %.2f times\n", middle * 1e6, base_middle * 1e6, middle / base_middle);
-  printf("memory  %.1f MiB, the echo %.1f MiB\n", memory / 1024.0, base_memory / 1024.0);
+  printf("time    %.0f us, beside %.0f us: %.2f times\n", middle * 1e6, base_middle * 1e6, middle / base_middle);
+  printf("memory  %.1f MiB, beside %.1f MiB\n", memory / 1024.0, base_memory / 1024.0);
   return 0;
 }
