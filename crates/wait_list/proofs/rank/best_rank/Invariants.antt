@@ -1,0 +1,7 @@
+use Rattle.std.proofs.Common.{◌≡◌, take, min}
+use Rattle.std.specs.List.{filter_map, reduce}
+use Rattle.wait_list.specs.Rank.{rank_of}
+use Rattle.wait_list.proofs.rank.best_rank.Given as goal
+
+abbrev pub invariant-loop-code : goal.invariant-loop-code
+invariant-loop-code l = l.best ≡ reduce min (filter_map (rank_of l.ranks) (take l.code-index l.preferences))
