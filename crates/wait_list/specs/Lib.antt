@@ -1,3 +1,6 @@
 pub mod Waiting
 pub mod Rank
 pub mod Target
+pub mod Next
+pub mod Group
+pub mod Law

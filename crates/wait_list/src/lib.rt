@@ -2,11 +2,16 @@
 #![tactic(auto)]
 
 mod applicant;
+mod ask;
+mod laws;
 mod list;
+mod next;
 mod rank;
 mod targets;
 
 pub use applicant::Applicant;
+pub use ask::{Ask, Candidate};
+pub use laws::next_suits;
 pub use list::WaitList;
 pub use rank::best_rank;
 pub use targets::{Targets, wants_extremely_low};

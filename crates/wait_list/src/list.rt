@@ -1,4 +1,5 @@
-use crate::Applicant;
+use crate::next::next_among;
+use crate::{Applicant, Ask, Candidate};
 use plain_data::NoMemory;
 use std::alloc::Global;
 use std::marker::Model;
@@ -27,6 +28,7 @@ impl Model for WaitList {
 
 impl WaitList {
     ghost use Rattle.std.specs.Prelude.{◌≡◌, ◌+◌, ◌<◌, ◌≤◌, [], ◌∷◌, ◌++◌, false, if◌then◌else◌, All, OnOk, IfOk, IsOk};
+    ghost use Rattle.wait_list.specs.Next.{asked_by, next_candidate};
     ghost use Rattle.wait_list.specs.Waiting.{is_listed, without, HaveOwnNumbers, ActsRise, HaveSizes};
 
     pub fn new(alloc: Global) -> Result<WaitList, NoMemory>
@@ -90,5 +92,14 @@ impl WaitList {
         ensures sizes { HaveSizes self.now.applicants }
     {
         &self.applicants
+    }
+
+    /// Who is next for a unit, and `None` where there is no mover and no applicant could be admitted to it.
+    pub fn next_for(&self, ask: &Ask) -> Option<Candidate>
+        requires bedrooms { ask.now.unit.now.bedrooms ≤ 5 }
+        requires needing { ask.now.unit.now.accessible ≡ false → ask.now.needing ≡ None }
+        ensures { result ≡ next_candidate (asked_by ask.now) self.now.applicants }
+    {
+        next_among(&self.applicants, ask)
     }
 }

@@ -1,0 +1,11 @@
+-- The applicants that one scan of the list looks at.
+use Rattle.std.specs.Prelude.{not, Bool, true}
+use Rattle.wait_list.specs.declared.applicant.Applicant.{Applicant}
+use Rattle.wait_list.specs.declared.next.Group.{Group}
+use Rattle.wait_list.specs.declared.next.Group.TheVariants.{Needing, NotNeeding, Everyone}
+
+-- the applicant is of the group
+abbrev pub is_of : Group → Applicant → Bool
+is_of Needing applicant = applicant.accessible
+is_of NotNeeding applicant = not applicant.accessible
+is_of Everyone applicant = true
