@@ -9,7 +9,7 @@ use Rattle.row_choice.proofs.LatestLemmas.{latest-is, pairs_order-turned, filter
 use Rattle.wait_list.specs.declared.applicant.Applicant.{Applicant}
 use Rattle.wait_list.specs.declared.ask.Candidate.{Candidate}
 use Rattle.wait_list.specs.declared.ask.Candidate.TheVariants as candidate
-use Rattle.wait_list.specs.Next.{Asked, is_within_limit, is_extremely_low, is_candidate, stands_behind, first_of, next_of, mover_of, next_applicant, first_there}
+use Rattle.wait_list.specs.Next.{Asked, is_within_limit, is_extremely_low, is_candidate, candidates, stands_behind, first_of, next_of, mover_of, next_needing, next_not_needing, next_of_all, first_there}
 use Rattle.wait_list.specs.Law.{needs, goes_before, NoMoverNeeds, NoApplicantNeeds, ApplicantIsFirst, IsRightful, NextIsRightful}
 
 -- whether one other goes before the next: w says that an extremely low-income one is wanted, e that the other is one, n
@@ -104,7 +104,7 @@ pub record NextOfNeed (asked : Asked) (applicants : List Applicant) (need : Bool
 of_need : (asked : Asked) (applicants : List Applicant) (need : Bool) (is_of : Applicant → Bool) →
     ((applicant : Applicant) → is_of applicant ≡ true → needs asked applicant ≡ need) →
     ((applicant : Applicant) → needs asked applicant ≡ need → is_of applicant ≡ true) →
-    NextOfNeed asked applicants need (next_of asked (filter is_of (filter (is_candidate asked) applicants)))
+    NextOfNeed asked applicants need (next_of asked (filter is_of (candidates asked applicants)))
 of_need asked applicants need is_of told tells =
     rw (filter-filter is_of (is_candidate asked) applicants)
     (by_next (next_of asked (filter is_candidate_of applicants)) (next_of-is asked applicants is_candidate_of))
@@ -194,16 +194,12 @@ no_need unit false of_unit neither = refl
 
 -- in a unit that has accessible features
 in_accessible : (asked : Asked) (applicants : List Applicant) → asked.unit.accessible ≡ true →
-    IsRightful asked applicants (first_there (
-    mover_of asked.needing
-    ∷ next_applicant asked (λ applicant. applicant.accessible) applicants
-    ∷ mover_of asked.other
-    ∷ next_applicant asked (λ applicant. not applicant.accessible) applicants
-    ∷ []))
+    IsRightful asked applicants
+    (first_there (mover_of asked.needing ∷ next_needing asked applicants ∷ mover_of asked.other ∷ next_not_needing asked applicants ∷ []))
 in_accessible asked applicants is =
     in_turn asked applicants asked.needing asked.other
-    (next_of asked (filter (λ applicant. applicant.accessible) (filter (is_candidate asked) applicants)))
-    (next_of asked (filter (λ applicant. not applicant.accessible) (filter (is_candidate asked) applicants)))
+    (next_of asked (filter (λ applicant. applicant.accessible) (candidates asked applicants)))
+    (next_of asked (filter (λ applicant. not applicant.accessible) (candidates asked applicants)))
     (by_needing asked.needing refl) refl
     (of_need asked applicants true (λ applicant. applicant.accessible)
     (λ applicant. both_pass asked.unit.accessible applicant.accessible is)
@@ -219,10 +215,10 @@ in_accessible asked applicants is =
 
 -- in another unit
 in_another : (asked : Asked) (applicants : List Applicant) → asked.unit.accessible ≡ false →
-    IsRightful asked applicants (first_there (mover_of asked.other ∷ next_applicant asked (λ applicant. true) applicants ∷ []))
+    IsRightful asked applicants (first_there (mover_of asked.other ∷ next_of_all asked applicants ∷ []))
 in_another asked applicants is =
     in_turn asked applicants None asked.other None
-    (next_of asked (filter (λ applicant. true) (filter (is_candidate asked) applicants)))
+    (next_of asked (filter (λ applicant. true) (candidates asked applicants)))
     (λ accessible. absurd (false≢true (sym is ∙ accessible))) refl
     (record { among = tt; first = λ k d within passed needed. absurd (false≢true (sym (none_needs (get_or applicants k d)) ∙ needed)) })
     (of_need asked applicants false (λ applicant. true) (λ applicant _. none_needs applicant) (λ applicant _. refl))
@@ -234,14 +230,9 @@ pub next-is_rightful : NextIsRightful
 next-is_rightful asked applicants = by_unit asked.unit.accessible refl
   where
     by_unit : (accessible : Bool) → asked.unit.accessible ≡ accessible →
-        IsRightful asked applicants (
+        IsRightful asked applicants (first_there (
         if accessible
-        then first_there (
-        mover_of asked.needing
-        ∷ next_applicant asked (λ applicant. applicant.accessible) applicants
-        ∷ mover_of asked.other
-        ∷ next_applicant asked (λ applicant. not applicant.accessible) applicants
-        ∷ [])
-        else first_there (mover_of asked.other ∷ next_applicant asked (λ applicant. true) applicants ∷ []))
+        then mover_of asked.needing ∷ next_needing asked applicants ∷ mover_of asked.other ∷ next_not_needing asked applicants ∷ []
+        else mover_of asked.other ∷ next_of_all asked applicants ∷ []))
     by_unit true is = in_accessible asked applicants is
     by_unit false is = in_another asked applicants is

@@ -61,28 +61,43 @@ abbrev pub next_of : Asked → List Applicant → Option Applicant
 next_of asked group =
     if asked.wanted then option_or (first_of (filter (is_extremely_low asked) group)) (first_of group) else first_of group
 
+-- those on the list who could be admitted
+abbrev pub candidates : Asked → List Applicant → List Applicant
+candidates asked applicants = filter (is_candidate asked) applicants
+
+-- the one who is next of the candidates of a group
+abbrev pub next_applicant : Asked → (Applicant → Bool) → List Applicant → Option Candidate
+next_applicant asked is_of_group applicants =
+    option_map (λ applicant. candidate.Applicant applicant.number) (next_of asked (filter is_of_group (candidates asked applicants)))
+
+-- of those who need accessible features
+abbrev pub next_needing : Asked → List Applicant → Option Candidate
+next_needing asked applicants = next_applicant asked (λ applicant. applicant.accessible) applicants
+
+-- of the others
+abbrev pub next_not_needing : Asked → List Applicant → Option Candidate
+next_not_needing asked applicants = next_applicant asked (λ applicant. not applicant.accessible) applicants
+
+-- of all
+abbrev pub next_of_all : Asked → List Applicant → Option Candidate
+next_of_all asked applicants = next_applicant asked (λ applicant. true) applicants
+
 -- a household that would move
 abbrev pub mover_of : Option ℕ → Option Candidate
 mover_of household = option_map (λ number. candidate.Household number) household
 
--- the one who is next of a group of those on the list who could be admitted
-abbrev pub next_applicant : Asked → (Applicant → Bool) → List Applicant → Option Candidate
-next_applicant asked is_of_group applicants =
-    option_map (λ applicant. candidate.Applicant applicant.number) (next_of asked (filter is_of_group (filter (is_candidate asked) applicants)))
+-- Who is next of each group, the first group first: those who need accessible features go first to a unit that has them
+-- (24 CFR 8.27), and movers before applicants (own rule).
+abbrev pub groups : Asked → List Applicant → List (Option Candidate)
+groups asked applicants =
+    if asked.unit.accessible
+    then mover_of asked.needing ∷ next_needing asked applicants ∷ mover_of asked.other ∷ next_not_needing asked applicants ∷ []
+    else mover_of asked.other ∷ next_of_all asked applicants ∷ []
 
 -- the next of the first group that isn't empty
 abbrev pub first_there : List (Option Candidate) → Option Candidate
-first_there groups = fold option_or None groups
+first_there nexts = fold option_or None nexts
 
--- who is next for the unit: those who need accessible features go first to a unit that has them (24 CFR 8.27), and
--- movers before applicants (own rule)
+-- who is next for the unit
 abbrev pub next_candidate : Asked → List Applicant → Option Candidate
-next_candidate asked applicants =
-    if asked.unit.accessible
-    then first_there (
-    mover_of asked.needing
-    ∷ next_applicant asked (λ applicant. applicant.accessible) applicants
-    ∷ mover_of asked.other
-    ∷ next_applicant asked (λ applicant. not applicant.accessible) applicants
-    ∷ [])
-    else first_there (mover_of asked.other ∷ next_applicant asked (λ applicant. true) applicants ∷ [])
+next_candidate asked applicants = first_there (groups asked applicants)

@@ -8,7 +8,7 @@ pub enum Candidate {
 }
 
 /// What is asked about a unit on a day.
-#[derive(Clone, Copy)]
+#[derive(Clone, Copy, Debug)]
 pub struct Ask<'a> {
     /// Of at most 5 bedrooms.
     pub unit: &'a Unit,
