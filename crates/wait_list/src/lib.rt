@@ -15,3 +15,6 @@ pub use laws::next_suits;
 pub use list::WaitList;
 pub use rank::best_rank;
 pub use targets::{Targets, wants_extremely_low};
+
+#[cfg(test)]
+mod tests;
