@@ -5,7 +5,7 @@ ghost use Rattle.std.specs.Option.{option_copied, option_map, option_or};
 ghost use Rattle.row_choice.specs.Latest.{later};
 ghost use Rattle.wait_list.specs.Waiting.{HaveSizes, IsSize};
 ghost use Rattle.wait_list.specs.Next.{asked_by, is_within_limit, is_extremely_low, is_candidate, candidates, stands_behind, first_of, next_of, next_applicant, mover_of, next_candidate};
-ghost use Rattle.wait_list.specs.Group.{is_of};
+ghost use Rattle.wait_list.specs.Group.{is_of, candidates_of};
 
 use crate::{Applicant, Ask, Candidate};
 use rent_table::{admission_limit, has_extremely_low_income, suits};
@@ -15,6 +15,7 @@ use rent_table::{admission_limit, has_extremely_low_income, suits};
 pub enum Group {
     /// Those who need accessible features.
     Needing,
+    /// The others.
     NotNeeding,
     Everyone,
 }
@@ -64,7 +65,7 @@ fn next_applicant(applicants: &[Applicant], ask: &Ask, group: Group) -> Option<C
 fn next_of<'a>(applicants: &'a [Applicant], ask: &Ask, group: Group) -> Option<&'a Applicant>
     requires bedrooms { ask.now.unit.now.bedrooms ≤ 5 }
     requires sizes { HaveSizes applicants.now }
-    ensures { option_copied result ≡ next_of (asked_by ask.now) (filter (is_of group) (candidates (asked_by ask.now) applicants.now)) }
+    ensures { let asked = asked_by ask.now in option_copied result ≡ next_of asked (candidates_of asked group applicants.now) }
 {
     let first = first_of(applicants, ask, group);
     if ask.wanted {
@@ -78,7 +79,7 @@ fn next_of<'a>(applicants: &'a [Applicant], ask: &Ask, group: Group) -> Option<&
 fn first_of<'a>(applicants: &'a [Applicant], ask: &Ask, group: Group) -> Option<&'a Applicant>
     requires bedrooms { ask.now.unit.now.bedrooms ≤ 5 }
     requires sizes { HaveSizes applicants.now }
-    ensures { option_copied result ≡ first_of (filter (is_of group) (candidates (asked_by ask.now) applicants.now)) }
+    ensures { option_copied result ≡ first_of (candidates_of (asked_by ask.now) group applicants.now) }
 {
     let mut first = None;
     for applicant in applicants {
@@ -97,7 +98,8 @@ fn first_extremely_low<'a>(
 ) -> Option<&'a Applicant>
     requires bedrooms { ask.now.unit.now.bedrooms ≤ 5 }
     requires sizes { HaveSizes applicants.now }
-    ensures { option_copied result ≡ first_of (filter (is_extremely_low (asked_by ask.now)) (filter (is_of group) (candidates (asked_by ask.now) applicants.now))) }
+    ensures { let asked = asked_by ask.now in
+        option_copied result ≡ first_of (filter (is_extremely_low asked) (candidates_of asked group applicants.now)) }
 {
     let mut first = None;
     for applicant in applicants {
