@@ -1,7 +1,7 @@
 //! The scans of the list for the one who is next.
 
-ghost use Rattle.std.specs.Prelude.{◌≡◌, ◌≤◌, ◌&&◌, filter, fold, Option};
-ghost use Rattle.std.specs.Option.{option_copied, option_map, option_or};
+ghost use Rattle.std.specs.Prelude.{◌≡◌, ◌≤◌, filter};
+ghost use Rattle.std.specs.Option.{option_copied, option_or};
 ghost use Rattle.row_choice.specs.Latest.{later};
 ghost use Rattle.wait_list.specs.Waiting.{HaveSizes, IsSize};
 ghost use Rattle.wait_list.specs.Next.{asked_by, is_within_limit, is_extremely_low, is_candidate, candidates, stands_behind, first_of, next_of, next_applicant, mover_of, next_candidate};
