@@ -1,0 +1,3 @@
+pub mod LeastLemmas
+pub mod MonthLemmas
+pub mod RightfulLemmas

@@ -1,0 +1,18 @@
+use Rattle.std.proofs.Common.{◌≡◌, ◌≤◌, ◌+◌, ◌∙◌, sym, ap, arith}
+use Rattle.days_core.specs.Calendar.{month_of, first_of}
+use Rattle.due_dates.specs.Rightful.{has_anniversary_after}
+use Rattle.due_dates.proofs.MonthLemmas.{first_month_that-is, anniversary, wait_of, month_of_by}
+use Rattle.due_dates.proofs.rightful.next_anniversary.Goals as goal
+
+pub month_start-requires : goal.month_start-requires
+month_start-requires c = omega (arith, month_of_by c.args.after (omega arith), c.month_of.ensures, c.number-next.ensures.value)
+
+pub returns : goal.returns
+returns c =
+    let after : c.number-next.result ≡ month_of c.args.after = cc in
+    let opening : c.number.result ≡ month_of c.args.opening = cc in
+    let found = first_month_that-is (has_anniversary_after c.args.opening c.args.after) (month_of c.args.after + 1 + wait_of c.args.opening c.args.after)
+    (anniversary c.args.opening c.args.after c.requires)
+    in
+    let start : c.month_start.result ≡ first_of (month_of c.args.after + 1 + wait_of c.args.opening c.args.after) = rw (sym after, sym opening) c.month_start.ensures in
+    start ∙ sym (ap first_of found)

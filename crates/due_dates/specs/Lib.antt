@@ -1,0 +1,4 @@
+pub mod Least
+pub mod Rightful
+pub mod Overdue
+pub mod Law

@@ -1,0 +1,15 @@
+//! The day on which a certification may take effect, and what is due by a day.
+#![tactic(auto)]
+
+mod due;
+mod lateness;
+mod laws;
+mod rightful;
+
+pub use due::Due;
+pub use lateness::overdue;
+pub use laws::{
+    annuals_begin_with_the_next_anniversary, assistance_resumes_with_a_month,
+    interims_follow_their_table,
+};
+pub use rightful::rightful_day;
