@@ -1,4 +1,5 @@
 pub mod Least
 pub mod Rightful
 pub mod Overdue
+pub mod Stale
 pub mod Law

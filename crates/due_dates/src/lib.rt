@@ -5,6 +5,7 @@ mod due;
 mod lateness;
 mod laws;
 mod rightful;
+mod stale;
 
 pub use due::Due;
 pub use lateness::overdue;
