@@ -1,3 +1,5 @@
 pub mod LeastLemmas
 pub mod MonthLemmas
 pub mod RightfulLemmas
+pub mod StaleLemmas
+pub mod ReviewLemmas

@@ -1,10 +1,10 @@
 -- The least number of a span that passes a test.
-use Rattle.std.specs.Prelude.{ℕ, ◌+◌, ◌-◌, ◌<◌, ◌≤◌, ◌≡◌, Bool, true, false, Option, Some, None, find}
-use Rattle.std.specs.List.{range_with_len}
+use Rattle.std.specs.Prelude.{ℕ, ◌+◌, ◌-◌, ◌<◌, ◌≤◌, ◌≡◌, Bool, true, false, Option, Some, None}
+use Rattle.row_choice.specs.FirstDay.{first_day}
 
 -- the least number from the first to the last that passes
 unfoldable pub least_that : (ℕ → Bool) → ℕ → ℕ → Option ℕ
-least_that passes first last = find passes (range_with_len first (last + 1 - first))
+least_that passes first last = first_day passes first (last + 1 - first)
 
 -- what it says of a number that it is the least one: it lies in the span and passes, and no earlier one there does
 pub record IsLeastOne (passes : ℕ → Bool) (first last least : ℕ) : Type 0 where

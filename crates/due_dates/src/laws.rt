@@ -1,6 +1,13 @@
-ghost use Rattle.std.specs.Prelude.{ℕ, ◌+◌, ◌<◌, ◌≤◌, true, false};
+ghost use Rattle.std.specs.Prelude.{◌≡◌, ℕ, ◌+◌, ◌<◌, ◌≤◌, true, false, List};
+ghost use Rattle.days_core.specs.Calendar.{month_of};
 ghost use Rattle.record_history.specs.declared.records.Dates.{Dates};
+ghost use Rattle.record_history.specs.declared.records.Record.{Record};
+ghost use Rattle.rent_table.specs.declared.rows.Unit.{Unit as UnitRow};
+ghost use Rattle.rent_table.specs.declared.rows.RentRow.{RentRow};
 ghost use Rattle.due_dates.specs.declared.due.Due.TheVariants as due;
+ghost use Rattle.due_dates.specs.Least.{IsLeast};
+ghost use Rattle.due_dates.specs.Overdue.{is_overdue};
+ghost use Rattle.due_dates.specs.Stale.{is_rent_stale_on, rent_due_day_of, gross_day_of};
 ghost use Rattle.due_dates.specs.Rightful.{IsInRange, rightful_day_of};
 ghost use Rattle.due_dates.specs.Law.{IsMonthAfter, IsFirstStart, IsNextAnniversary};
 
@@ -16,12 +23,23 @@ pub fn interims_follow_their_table()
         IsMonthAfter dates.done (rightful_day_of (due.Interim dates false report_days)) }
 {}
 
-/// An annual recertification begins with the least anniversary later than the last full certification. It does nothing.
+/// An annual recertification begins with the least anniversary later than the last full certification, before the
+/// household is overdue, and two months later it would not be either. It does nothing.
 pub fn annuals_begin_with_the_next_anniversary()
-    ensures { (opening after : ℕ) → IsInRange (due.Annual opening after) → IsNextAnniversary opening after (rightful_day_of (due.Annual opening after)) }
+    ensures not_overdue { (opening after : ℕ) → IsInRange (due.Annual opening after) → is_overdue after (month_of (rightful_day_of (due.Annual opening after)) + 2) ≡ false }
+    ensures anniversary { (opening after : ℕ) → IsInRange (due.Annual opening after) → IsNextAnniversary opening after (rightful_day_of (due.Annual opening after)) }
 {}
 
 /// Assistance resumes with the month after the work was done. It does nothing.
 pub fn assistance_resumes_with_a_month()
     ensures { (done : ℕ) → IsInRange (due.Resume done) → IsMonthAfter done (rightful_day_of (due.Resume done)) }
+{}
+
+/// A gross rent change begins with the least day on which the household's rents are stale, and there is no such
+/// day only where they never are. It does nothing.
+pub fn gross_changes_begin_when_rents_are_stale()
+    ensures gross_day { (records : List Record) (units : List UnitRow) (rows : List RentRow) →
+        IsLeast (is_rent_stale_on records units rows) 0 80353 (gross_day_of records units rows) }
+    ensures rent_due_day { (records : List Record) (units : List UnitRow) (rows : List RentRow) (first last : ℕ) →
+        IsLeast (is_rent_stale_on records units rows) first last (rent_due_day_of records units rows first last) }
 {}

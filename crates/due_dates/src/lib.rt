@@ -4,6 +4,7 @@
 mod due;
 mod lateness;
 mod laws;
+mod review;
 mod rightful;
 mod stale;
 
@@ -13,4 +14,5 @@ pub use laws::{
     annuals_begin_with_the_next_anniversary, assistance_resumes_with_a_month,
     interims_follow_their_table,
 };
+pub use review::{gross_day, rent_due_day};
 pub use rightful::rightful_day;

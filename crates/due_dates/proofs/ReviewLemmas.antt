@@ -1,0 +1,43 @@
+-- The least day on which rents are stale is found among the first day and the beginnings.
+use Rattle.std.proofs.Common.{◌≡◌, ◌∙◌, sym, refl, ℕ, ◌+◌, ◌-◌, ◌≤◌, Bool, true, false, List, [], ◌∷◌, ◌++◌, Option, None, ap, map, arith}
+use Rattle.std.specs.Prelude.{filter, fold, nat_le, nat_lt, ◌&&◌, if◌then◌else◌}
+use Rattle.std.proofs.lemmas.Bool.Decides.{nat_tests}
+use Rattle.std.proofs.lemmas.List.Sums.{fold-append}
+use Rattle.std.proofs.lemmas.List.Elements.{filter_agree}
+use Rattle.row_choice.specs.Latest.{later}
+use Rattle.row_choice.specs.FirstDay.{first_day, earliest, is_within, ChangesAtBeginnings}
+use Rattle.row_choice.proofs.FirstDayLemmas.{first_day-is}
+use Rattle.due_dates.specs.Least.{least_that}
+use Rattle.due_dates.specs.Review.{with_day, with_days}
+
+-- a day that doesn't pass is passed over
+with_days-filter : (passes : ℕ → Bool) (best : Option ℕ) (days : List ℕ) →
+    with_days passes best days ≡ fold (later (λ day other. nat_lt other day)) best (filter passes days)
+with_days-filter passes best [] = refl
+with_days-filter passes best (day ∷ days) = by_test (passes day) (λ next. with_days-filter passes next days)
+  where
+    by_test : (test : Bool) → ((next : Option ℕ) → with_days passes next days ≡ fold (later (λ day other. nat_lt other day)) next (filter passes days)) →
+        with_days passes (if test then later (λ day other. nat_lt other day) best day else best) days
+        ≡ fold (later (λ day other. nat_lt other day)) best (if test then day ∷ filter passes days else filter passes days)
+    by_test true rest = rest (later (λ day other. nat_lt other day) best day)
+    by_test false rest = rest best
+
+-- the two ways to say that a day lies in a span
+same_span : (first last day : ℕ) → is_within first (last + 1 - first) day ≡ (nat_le first day && nat_le day last)
+same_span first last day = grind (arith, nat_tests)
+
+-- where the test changes only at beginnings, looking at the first day and at the beginnings finds the least that passes
+pub with_days-least : (passes : ℕ → Bool) (first last : ℕ) (days more : List ℕ) → ChangesAtBeginnings passes (days ++ more) →
+    with_days (λ day. (nat_le first day && nat_le day last) && passes day)
+    (with_days (λ day. (nat_le first day && nat_le day last) && passes day) (with_day (λ day. (nat_le first day && nat_le day last) && passes day) None first) days) more
+    ≡ least_that passes first last
+unfolding least_that
+with_days-least passes first last days more changes =
+    let counts : ℕ → Bool = λ day. (nat_le first day && nat_le day last) && passes day in
+    let joined = fold-append (with_day counts) (with_day counts None first) days more in
+    let found = with_days-filter counts None (first ∷ days ++ more) in
+    let agree = filter_agree (λ day. is_within first (last + 1 - first) day && passes day) counts
+    (λ day. ap (λ (test : Bool). test && passes day) (same_span first last day)) (first ∷ days ++ more)
+    in
+    let first_is = first_day-is passes (days ++ more) first (last + 1 - first) changes in
+    sym joined ∙ found ∙ ap earliest (sym agree) ∙ sym first_is

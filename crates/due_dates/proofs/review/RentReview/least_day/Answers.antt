@@ -1,0 +1,16 @@
+use Rattle.std.proofs.Common.{◌≡◌, ◌∙◌, map}
+use Rattle.record_history.specs.Held.{records_of}
+use Rattle.due_dates.specs.Stale.{is_rent_stale_on}
+use Rattle.due_dates.specs.Review.{is_due_on, with_days}
+use Rattle.due_dates.proofs.StaleLemmas.{changes_at_beginnings}
+use Rattle.due_dates.proofs.ReviewLemmas.{with_days-least}
+use Rattle.due_dates.proofs.review.RentReview.least_day.Goals as goal
+
+pub returns : goal.returns
+returns c =
+    let review = c.args.self.now in
+    let records = records_of review.history.now.households review.household in
+    let found = with_days-least (is_rent_stale_on records review.table.now.units review.table.now.rents) review.first review.last
+    (map (λ r. r.from) records) (map (λ row. row.from) review.table.now.rents)
+    (changes_at_beginnings records review.table.now.units review.table.now.rents)
+    in cc
