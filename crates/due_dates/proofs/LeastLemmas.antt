@@ -1,9 +1,9 @@
 -- The least number that passes is found by a search through the span, and is the only one of which that is true.
-use Rattle.std.proofs.Common.{◌≡◌, ◌∙◌, ℕ, zero, suc, ◌+◌, ◌-◌, ◌<◌, ◌≤◌, Bool, true, false, Option, Some, None, refl, sym, ap, arith, inl, inr, subst}
+use Rattle.std.proofs.Common.{◌≡◌, ◌∙◌, ℕ, zero, suc, ◌+◌, ◌-◌, ◌<◌, ◌≤◌, Bool, true, false, Option, Some, None, refl, ap, arith, inl, inr, subst}
 use Rattle.std.specs.Prelude.{find, if◌then◌else◌}
 use Rattle.std.specs.List.{range_with_len}
 use Rattle.std.proofs.lemmas.Bool.{cases_order, cases_lt}
-use Rattle.due_dates.specs.Least.{least_that, IsLeastOne, IsLeast}
+use Rattle.due_dates.specs.Least.{least_that, IsLeast}
 
 module _ (passes : ℕ → Bool) where
   -- so many numbers from the first on, of which none passes

@@ -1,11 +1,11 @@
 -- The least day on which rents are stale is found among the first day and the beginnings.
-use Rattle.std.proofs.Common.{◌≡◌, ◌∙◌, sym, refl, ℕ, ◌+◌, ◌-◌, ◌≤◌, Bool, true, false, List, [], ◌∷◌, ◌++◌, Option, None, ap, map, arith}
+use Rattle.std.proofs.Common.{◌≡◌, ◌∙◌, sym, refl, ℕ, ◌+◌, ◌-◌, Bool, true, false, List, [], ◌∷◌, ◌++◌, Option, None, ap, arith}
 use Rattle.std.specs.Prelude.{filter, fold, nat_le, nat_lt, ◌&&◌, if◌then◌else◌}
 use Rattle.std.proofs.lemmas.Bool.Decides.{nat_tests}
 use Rattle.std.proofs.lemmas.List.Sums.{fold-append}
 use Rattle.std.proofs.lemmas.List.Elements.{filter_agree}
 use Rattle.row_choice.specs.Latest.{later}
-use Rattle.row_choice.specs.FirstDay.{first_day, earliest, is_within, ChangesAtBeginnings}
+use Rattle.row_choice.specs.FirstDay.{earliest, is_within, ChangesAtBeginnings}
 use Rattle.row_choice.proofs.FirstDayLemmas.{first_day-is}
 use Rattle.due_dates.specs.Least.{least_that}
 use Rattle.due_dates.specs.Review.{with_day, with_days}

@@ -1,6 +1,6 @@
 -- Rents become stale only where a record or a row of rents begins.
-use Rattle.std.proofs.Common.{◌≡◌, ◌∙◌, sym, ℕ, ◌≤◌, List, [], ◌∷◌, ◌++◌, Option, None, Some, Bool, false, refl, ap, map}
-use Rattle.std.specs.Prelude.{All, filter, nat_le, nat_eq, not, ◌&&◌, ◌==◌}
+use Rattle.std.proofs.Common.{◌≡◌, ◌∙◌, sym, ℕ, List, [], ◌∷◌, ◌++◌, Option, None, Some, Bool, false, refl, ap, map}
+use Rattle.std.specs.Prelude.{All, filter, nat_le, not, ◌&&◌, ◌==◌}
 use Rattle.std.specs.Option.{option_map, option_map_or, option_and_then}
 use Rattle.std.proofs.lemmas.List.Elements.{All-nil, All-cons, All-head, All-tail, All-filter}
 use Rattle.days_core.specs.declared.rents.Rents.{Rents}
@@ -9,9 +9,9 @@ use Rattle.record_history.specs.Records.{in_force}
 use Rattle.record_history.proofs.Latest.{in_force_alike}
 use Rattle.rent_table.specs.declared.rows.Unit.{Unit as UnitRow}
 use Rattle.rent_table.specs.declared.rows.RentRow.{RentRow}
-use Rattle.rent_table.specs.Table.{unit_at, rents_before, rents_begin_by, rent_row_on, rents_on}
+use Rattle.rent_table.specs.Table.{unit_at, rents_before, rents_begin_by, rents_on}
 use Rattle.row_choice.specs.Latest.{latest}
-use Rattle.row_choice.specs.FirstDay.{NothingBegins, ChangesAtBeginnings}
+use Rattle.row_choice.specs.FirstDay.{ChangesAtBeginnings}
 use Rattle.row_choice.proofs.LatestLemmas.{filter-alike, filter-filter}
 use Rattle.due_dates.specs.Stale.{ends_assistance, unit_rents_on, are_other_rents, has_stale_rents, is_rent_stale_on}
 

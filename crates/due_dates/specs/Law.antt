@@ -22,7 +22,7 @@ pub record IsAnniversary (opening day : ℕ) : Type 0 where
   pub begins : BeginsMonth day
   pub same_month : month_in_year day ≡ month_in_year opening
 
--- the day is the least anniversary later than the one before, and begins by the same month of the next year
+-- the day is the least anniversary later than the other day, in a month that is at most twelve months after
 pub record IsNextAnniversary (opening after day : ℕ) : Type 0 where
   pub anniversary : IsAnniversary opening day
   pub later : after < day

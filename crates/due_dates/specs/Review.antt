@@ -1,4 +1,4 @@
--- How the least day is looked for among some days, one after another.
+-- How the code looks for the least day among some days, one after another.
 use Rattle.std.specs.Prelude.{ℕ, ◌&&◌, nat_lt, nat_le, if◌then◌else◌, Bool, Option, List, fold}
 use Rattle.record_history.specs.Held.{records_of}
 use Rattle.row_choice.specs.Latest.{later}

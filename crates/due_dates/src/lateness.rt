@@ -6,8 +6,8 @@ use days_core::{Day, Month, month_of};
 /// How many months a household's last move-in, initial or annual certification serves.
 const SERVES_MONTHS: u32 = 15;
 
-/// Whether the household can't be paid for the month, since its last move-in, initial or annual
-/// certification, of that first day, lies fifteen or more months before (own rule).
+/// Whether a household is overdue for the month: its last move-in, initial or annual certification, of that
+/// first day, begins in a month that is fifteen or more months before (own rule).
 pub fn overdue(base: Day, month: Month) -> bool
     ensures { result ≡ is_overdue base month }
 {

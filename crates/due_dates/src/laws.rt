@@ -23,11 +23,11 @@ pub fn interims_follow_their_table()
         IsMonthAfter dates.done (rightful_day_of (due.Interim dates false report_days)) }
 {}
 
-/// An annual recertification begins with the least anniversary later than the last full certification, before the
-/// household is overdue, and two months later it would not be either. It does nothing.
+/// An annual recertification begins with the least anniversary later than the last full certification. In its
+/// month and in the next two the household isn't overdue yet. It does nothing.
 pub fn annuals_begin_with_the_next_anniversary()
-    ensures not_overdue { (opening after : ℕ) → IsInRange (due.Annual opening after) → is_overdue after (month_of (rightful_day_of (due.Annual opening after)) + 2) ≡ false }
     ensures anniversary { (opening after : ℕ) → IsInRange (due.Annual opening after) → IsNextAnniversary opening after (rightful_day_of (due.Annual opening after)) }
+    ensures not_overdue { (opening after : ℕ) → IsInRange (due.Annual opening after) → is_overdue after (month_of (rightful_day_of (due.Annual opening after)) + 2) ≡ false }
 {}
 
 /// Assistance resumes with the month after the work was done. It does nothing.
@@ -35,8 +35,8 @@ pub fn assistance_resumes_with_a_month()
     ensures { (done : ℕ) → IsInRange (due.Resume done) → IsMonthAfter done (rightful_day_of (due.Resume done)) }
 {}
 
-/// A gross rent change begins with the least day on which the household's rents are stale, and there is no such
-/// day only where they never are. It does nothing.
+/// A gross rent change begins with the least day on which the household's rents are stale, and there is no day
+/// for it only where they never are. It does nothing.
 pub fn gross_changes_begin_when_rents_are_stale()
     ensures gross_day { (records : List Record) (units : List UnitRow) (rows : List RentRow) →
         IsLeast (is_rent_stale_on records units rows) 0 80353 (gross_day_of records units rows) }

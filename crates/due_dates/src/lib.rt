@@ -1,4 +1,4 @@
-//! The day on which a certification may take effect, and what is due by a day.
+//! The days on which certifications may take effect, and when a household is overdue.
 #![tactic(auto)]
 
 mod due;
@@ -12,7 +12,7 @@ pub use due::Due;
 pub use lateness::overdue;
 pub use laws::{
     annuals_begin_with_the_next_anniversary, assistance_resumes_with_a_month,
-    interims_follow_their_table,
+    gross_changes_begin_when_rents_are_stale, interims_follow_their_table,
 };
 pub use review::{gross_day, rent_due_day};
 pub use rightful::rightful_day;

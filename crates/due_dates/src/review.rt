@@ -22,7 +22,8 @@ pub fn gross_day(history: &History, table: &RentTable, household: u32) -> Option
     rent_due_day(history, table, household, first, last)
 }
 
-/// The least such day from the first to the last.
+/// The least day from the first to the last on which the household's record in force is neither a move-out nor a
+/// termination and has other rents than its unit on that day, as for `gross_day`.
 pub fn rent_due_day(
     history: &History,
     table: &RentTable,

@@ -64,7 +64,7 @@ fn first_start_from(number: u32) -> Day
     if start == day { day } else { next_month(day) }
 }
 
-/// The first anniversary of the opening day later than the other.
+/// The first anniversary of the opening day that is later than the other day.
 fn next_anniversary(opening: Day, after: Day) -> Day
     requires { after ≤ 80353 }
     ensures { result ≡ next_anniversary opening after }

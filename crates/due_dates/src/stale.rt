@@ -6,7 +6,7 @@ use days_core::{Day, Rents};
 use record_history::{Dates, History, Kind, Record};
 use rent_table::{RentTable, Unit};
 
-/// Whether the household is certified by other rents than its unit has on the day.
+/// Whether the household has assistance on the day, by other rents than its unit has then.
 pub fn is_rent_stale_on(history: &History, table: &RentTable, household: u32, day: Day) -> bool
     ensures { result ≡ is_rent_stale_on (records_of history.now.households household) table.now.units table.now.rents day }
 {

@@ -1,4 +1,4 @@
-use Rattle.std.proofs.Common.{◌≡◌, ◌≤◌, ◌+◌, ◌∙◌, sym, ap, arith}
+use Rattle.std.proofs.Common.{◌≡◌, ◌+◌, ◌∙◌, sym, ap, arith}
 use Rattle.days_core.specs.Calendar.{month_of, first_of}
 use Rattle.due_dates.specs.Rightful.{has_anniversary_after}
 use Rattle.due_dates.proofs.MonthLemmas.{first_month_that-is, anniversary, wait_of, month_of_by}

@@ -1,4 +1,4 @@
-use Rattle.std.proofs.Common.{◌≡◌, ◌≤◌, ◌+◌, arith}
+use Rattle.std.proofs.Common.{arith}
 use Rattle.due_dates.proofs.MonthLemmas.{month_of_by}
 use Rattle.due_dates.proofs.rightful.next_month.Goals as goal
 

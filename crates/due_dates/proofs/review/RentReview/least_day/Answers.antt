@@ -1,7 +1,6 @@
-use Rattle.std.proofs.Common.{◌≡◌, ◌∙◌, map}
+use Rattle.std.proofs.Common.{map}
 use Rattle.record_history.specs.Held.{records_of}
 use Rattle.due_dates.specs.Stale.{is_rent_stale_on}
-use Rattle.due_dates.specs.Review.{is_due_on, with_days}
 use Rattle.due_dates.proofs.StaleLemmas.{changes_at_beginnings}
 use Rattle.due_dates.proofs.ReviewLemmas.{with_days-least}
 use Rattle.due_dates.proofs.review.RentReview.least_day.Goals as goal
