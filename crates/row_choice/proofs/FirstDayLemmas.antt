@@ -9,7 +9,7 @@ use Rattle.row_choice.specs.FirstDay.{first_day, earliest, is_within, NothingBeg
 use Rattle.row_choice.proofs.LatestLemmas.{latest-is}
 
 -- what a search among days in a row finds: the first that passes
-abbrev IsFirst : (ℕ → Bool) → ℕ → ℕ → Option ℕ → Type 0
+abbrev pub IsFirst : (ℕ → Bool) → ℕ → ℕ → Option ℕ → Type 0
 IsFirst passes first count None = (day : ℕ) → first ≤ day → day < first + count → passes day ≡ false
 IsFirst passes first count (Some found) =
     (first ≤ found) × (found < first + count) × (passes found ≡ true)
@@ -40,7 +40,7 @@ goes_on passes first count fails (Some found) (after, by, is, none) =
     by_case day from to (inl same) = subst (λ (d : ℕ). passes d ≡ false) same fails
     by_case day from to (inr next) = none day next to
 
-first-is : (passes : ℕ → Bool) (first count : ℕ) → IsFirst passes first count (first_day passes first count)
+pub first-is : (passes : ℕ → Bool) (first count : ℕ) → IsFirst passes first count (first_day passes first count)
 first-is passes first zero = λ day from to. absurd (omega (arith, from, to))
 first-is passes first (suc count) = by_test (passes first) refl (first-is passes (first + 1) count)
   where
