@@ -1,0 +1,70 @@
+-- Which records may follow each other (own rules, for the certifications of Handbook 4350.3 REV-1, chapters 5 and 7).
+--
+-- Each definition takes the live records of one household.
+use Rattle.std.specs.Prelude.{ℕ, ◌&&◌, ◌||◌, ◌==◌, not, if◌then◌else◌, Bool, true, false, List, filter, fold, Option, Some, None}
+use Rattle.std.specs.Option.{option_map}
+use Rattle.record_history.specs.declared.records.Kind.{Kind}
+use Rattle.record_history.specs.declared.records.Kind.TheVariants as kind
+use Rattle.record_history.specs.declared.records.Record.{Record}
+use Rattle.record_history.specs.Records.{comes_before, latest}
+
+-- a move-in
+abbrev pub is_move_in : Kind → Bool
+is_move_in kind.MI = true
+is_move_in _ = false
+
+-- an initial certification
+abbrev pub is_initial : Kind → Bool
+is_initial kind.IC = true
+is_initial _ = false
+
+-- a unit transfer
+abbrev pub is_transfer : Kind → Bool
+is_transfer kind.UT = true
+is_transfer _ = false
+
+-- a move-out
+abbrev pub is_move_out : Kind → Bool
+is_move_out kind.MO = true
+is_move_out _ = false
+
+-- the kinds that may stand first: a move-in or an initial certification
+abbrev pub may_begin : Kind → Bool
+may_begin kind = is_move_in kind || is_initial kind
+
+-- The kinds that may stand right after a kind: after a move-out none, after a termination of assistance an initial
+-- certification or a move-out, and after any other all but a move-in and an initial certification.
+abbrev pub may_follow : Kind → Kind → Bool
+may_follow kind.MO next = false
+may_follow kind.TM next = is_initial next || is_move_out next
+may_follow _ next = not (may_begin next)
+
+-- a transfer is to another unit, and every other record is for the unit of the record before it
+abbrev pub has_its_unit : Record → Record → Bool
+has_its_unit earlier next = if is_transfer next.kind then not (next.unit == earlier.unit) else next.unit == earlier.unit
+
+-- the record right before it, in the order of first day and number
+abbrev pub record_before : List Record → Record → Option Record
+record_before records r = latest (filter (λ earlier. comes_before earlier r) records)
+
+-- the record may stand right after that one, or first where there is none
+abbrev pub is_in_order : Option Record → Record → Bool
+is_in_order None r = may_begin r.kind
+is_in_order (Some earlier) r = may_follow earlier.kind r.kind && has_its_unit earlier r
+
+-- the one of the two that comes first
+abbrev pub sooner : Option Record → Record → Option Record
+sooner None r = Some r
+sooner (Some best) r = if comes_before r best then Some r else Some best
+
+-- the record that comes first
+abbrev pub earliest : List Record → Option Record
+earliest records = fold sooner None records
+
+-- the record may not stand where it stands among the records
+unfoldable pub is_out_of_order : List Record → Record → Bool
+is_out_of_order records r = not (is_in_order (record_before records r) r)
+
+-- the first record that may not stand where it stands
+abbrev pub first_out_of_order : List Record → Option Record
+first_out_of_order records = earliest (filter (is_out_of_order records) records)

@@ -1,0 +1,8 @@
+//! Which records of a household may follow each other, and that no unit has two households.
+#![tactic(auto)]
+
+mod change;
+mod changed;
+mod order;
+
+pub use change::Change;

@@ -1,0 +1,82 @@
+//! Which records may follow each other.
+
+ghost use Rattle.std.specs.Prelude.{◌≡◌, option_copied};
+ghost use Rattle.tenancy_rules.specs.Changed.{changed_records};
+ghost use Rattle.tenancy_rules.specs.Order.{may_begin, may_follow, has_its_unit, is_in_order, is_out_of_order, sooner, record_before, first_out_of_order};
+
+use crate::Change;
+use crate::changed::{comes_before, is_kept, latest_before};
+use record_history::{Kind, Record};
+
+/// The first of the changed records that may not stand where it stands.
+pub fn first_out_of_order<'a>(records: &'a [Record], change: &'a Change) -> Option<&'a Record>
+    ensures { option_copied result ≡ first_out_of_order (changed_records records.now change.now) }
+{
+    let mut first = None;
+    for held in records {
+        if is_kept(records, change, held) && is_out_of_order(records, change, held) {
+            first = sooner(first, held);
+        }
+    }
+    match &change.add {
+        Some(added) if is_out_of_order(records, change, added) => sooner(first, added),
+        _ => first,
+    }
+}
+
+#[tactic(auto, unfolding(crate::specs::Order::is_out_of_order))]
+fn is_out_of_order(records: &[Record], change: &Change, held: &Record) -> bool
+    ensures { result ≡ is_out_of_order (changed_records records.now change.now) held.now }
+{
+    !is_in_order(record_before(records, change, held), held)
+}
+
+fn record_before<'a>(records: &'a [Record], change: &'a Change, next: &Record) -> Option<&'a Record>
+    ensures { option_copied result ≡ record_before (changed_records records.now change.now) next.now }
+{
+    latest_before(records, change, next.from.number(), next.number)
+}
+
+fn sooner<'a>(first: Option<&'a Record>, held: &'a Record) -> Option<&'a Record>
+    ensures { option_copied result ≡ sooner (option_copied first.entry) held.now }
+{
+    match first {
+        Some(best) if !comes_before(held, best) => Some(best),
+        _ => Some(held),
+    }
+}
+
+fn is_in_order(earlier: Option<&Record>, next: &Record) -> bool
+    ensures { result ≡ is_in_order (option_copied earlier.entry) next.now }
+{
+    match earlier {
+        None => may_begin(next.kind),
+        Some(earlier) => may_follow(earlier.kind, next.kind) && has_its_unit(earlier, next),
+    }
+}
+
+fn may_begin(kind: Kind) -> bool
+    ensures { result ≡ may_begin kind }
+{
+    matches!(kind, Kind::MI | Kind::IC)
+}
+
+fn may_follow(earlier: Kind, next: Kind) -> bool
+    ensures { result ≡ may_follow earlier next }
+{
+    match earlier {
+        Kind::MO => false,
+        Kind::TM => matches!(next, Kind::IC | Kind::MO),
+        _ => !may_begin(next),
+    }
+}
+
+fn has_its_unit(earlier: &Record, next: &Record) -> bool
+    ensures { result ≡ has_its_unit earlier.now next.now }
+{
+    if next.kind == Kind::UT {
+        next.unit != earlier.unit
+    } else {
+        next.unit == earlier.unit
+    }
+}
