@@ -1,2 +1,4 @@
 pub mod Changed
 pub mod Order
+pub mod Occupancy
+pub mod Beginnings

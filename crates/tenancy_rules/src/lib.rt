@@ -3,6 +3,7 @@
 
 mod change;
 mod changed;
+mod occupancy;
 mod order;
 
 pub use change::Change;

@@ -1,0 +1,89 @@
+//! Which unit a household has, and where one unit would have two.
+
+ghost use Rattle.std.specs.Prelude.{◌≡◌, ◌+◌, option_copied, option_and_then, fold, nat_le, filter};
+ghost use Rattle.record_history.specs.Records.{latest};
+ghost use Rattle.tenancy_rules.specs.Changed.{changed_records};
+ghost use Rattle.tenancy_rules.specs.Occupancy.{unit_kept, is_one_unit, shares_unit_on, first_day};
+ghost use Rattle.tenancy_rules.specs.Beginnings.{sooner_beginning};
+
+use crate::Change;
+use crate::changed::latest_before;
+use days_core::Day;
+use record_history::{History, Kind, Record};
+
+/// A household after a change, and another.
+struct Pair<'a> {
+    history: &'a History,
+    household: u32,
+    change: &'a Change,
+    other: u32,
+}
+
+impl Pair<'_> {
+    /// The first day on which both have one unit, of the days before the end.
+    ///
+    /// That changes only on days on which a record of either begins. One that doesn't count does no harm here: on its
+    /// day the households have one unit or not, as on any other.
+    fn first_day(&self, end: u32) -> Option<Day>
+        ensures { result ≡ first_day (shares_unit_on self.now.history.now.households self.now.household self.now.change.now self.now.other) end }
+    {
+        let first = self.first_beginning(end, None, self.history.records(self.household));
+        let first = self.first_beginning(end, first, self.history.records(self.other));
+        match &self.change.add {
+            Some(added) => self.sooner_beginning(end, first, added),
+            None => first,
+        }
+    }
+
+    fn first_beginning(&self, end: u32, first: Option<Day>, records: &[Record]) -> Option<Day>
+        ensures { result ≡ fold (sooner_beginning (shares_unit_on self.now.history.now.households self.now.household self.now.change.now self.now.other) end) first records.now }
+    {
+        let mut first = first;
+        for held in records {
+            first = self.sooner_beginning(end, first, held);
+        }
+        first
+    }
+
+    fn sooner_beginning(&self, end: u32, first: Option<Day>, held: &Record) -> Option<Day>
+        ensures { result ≡ sooner_beginning (shares_unit_on self.now.history.now.households self.now.household self.now.change.now self.now.other) end first held.now }
+    {
+        let end = match first {
+            Some(first) => first.number(),
+            None => end,
+        };
+        let is_sooner = held.from.number() < end && self.have_one_unit_on(held.from);
+        if is_sooner { Some(held.from) } else { first }
+    }
+
+    #[tactic(auto, unfolding(crate::specs::Occupancy::shares_unit_on))]
+    fn have_one_unit_on(&self, day: Day) -> bool
+        ensures { result ≡ shares_unit_on self.now.history.now.households self.now.household self.now.change.now self.now.other day }
+    {
+        let own = changed_in_force(self.history.records(self.household), self.change, day);
+        is_one_unit(unit_kept(own), unit_kept(self.history.in_force(self.other, day)))
+    }
+}
+
+/// The record in force on the day, after the change.
+fn changed_in_force<'a>(records: &'a [Record], change: &'a Change, day: Day) -> Option<&'a Record>
+    ensures { option_copied result ≡ latest (filter (λ r. nat_le r.from day) (changed_records records.now change.now)) }
+{
+    // Records are numbered from 1, so each that comes before number 0 of the next day has begun by this one.
+    latest_before(records, change, day.number() + 1, 0)
+}
+
+fn unit_kept(held: Option<&Record>) -> Option<u32>
+    ensures { result ≡ option_and_then unit_kept (option_copied held.entry) }
+{
+    match held {
+        Some(held) if held.kind != Kind::MO => Some(held.unit),
+        _ => None,
+    }
+}
+
+fn is_one_unit(unit: Option<u32>, other: Option<u32>) -> bool
+    ensures { result ≡ is_one_unit unit other }
+{
+    unit.is_some() && unit == other
+}
