@@ -99,7 +99,7 @@ last_beginning P (c ∷ cs) first day of_first all le = by_rest (last_beginning 
         (b : ℕ) × P b × (first ≤ b) × (b ≤ day) × NothingBegins (c ∷ cs) b day
     by_rest (b, p, from, to, none) = by_tests b p from to none (nat_le c day) refl (nat_le c b) refl
 
-earliest_order : IsRowOrder (λ (day other : ℕ). nat_lt other day)
+pub earliest_order : IsRowOrder (λ (day other : ℕ). nat_lt other day)
 earliest_order = record {
   itself = λ day. never day;
   ahead = λ best day other. ahead best day other;

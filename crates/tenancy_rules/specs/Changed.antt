@@ -1,5 +1,6 @@
 -- What an act does to the live records of a household.
-use Rattle.std.specs.Prelude.{ℕ, ◌+◌, ◌≡◌, ◌==◌, ◌&&◌, ◌||◌, nat_lt, not, Bool, List, [], ◌∷◌, ◌++◌, filter, Option, Some, None, IfSome}
+use Rattle.std.specs.Prelude.{ℕ, ◌+◌, ◌≡◌, ◌==◌, not, Bool, List, [], ◌∷◌, ◌++◌, filter, Option, Some, None, IfSome}
+use Rattle.row_choice.specs.Latest.{comes_before as pair_comes_before}
 use Rattle.record_history.specs.declared.records.Record.{Record}
 use Rattle.record_history.specs.Records.{live_records, newest_number}
 use Rattle.tenancy_rules.specs.declared.change.Change.{Change}
@@ -24,4 +25,4 @@ AddsNext records household change =
 
 -- the record comes before that place in the order of first day and number
 abbrev pub is_before : ℕ → ℕ → Record → Bool
-is_before day number r = nat_lt r.from day || (r.from == day && nat_lt r.number number)
+is_before day number r = pair_comes_before r.from r.number day number

@@ -2,6 +2,7 @@
 use Rattle.std.specs.Prelude.{ℕ, ◌&&◌, ◌==◌, not, nat_le, if◌then◌else◌, Bool, false, List, length, filter, find, Option, Some, None, is_some, option_and_then}
 use Rattle.std.specs.Option.{option_map}
 use Rattle.std.specs.List.{range_with_len}
+use Rattle.row_choice.specs.FirstDay.{first_day}
 use Rattle.record_history.specs.declared.records.Record.{Record}
 use Rattle.record_history.specs.Records.{live_records, latest}
 use Rattle.record_history.specs.Held.{records_of}
@@ -40,15 +41,15 @@ is_rival_on households household change day other = not (other == household) && 
 abbrev pub first_rival_on : (ℕ → ℕ → Bool) → ℕ → ℕ → Option ℕ
 first_rival_on is_rival count day = find (is_rival day) (range_with_len 1 count)
 
--- the first of so many days, from 1880-01-01 on, that passes
-unfoldable pub first_day : (ℕ → Bool) → ℕ → Option ℕ
-first_day passes count = find passes (range_with_len 0 count)
+-- the first day, from 1880-01-01 on, that passes and comes before the end
+unfoldable pub first_day_before : ℕ → (ℕ → Bool) → Option ℕ
+first_day_before end passes = first_day passes 0 end
 
--- the first of so many days on which there is a rival, with the first rival on that day
+-- the first day before the end on which there is a rival, with the first rival on that day
 abbrev pub first_rivalry : (ℕ → ℕ → Bool) → ℕ → ℕ → Option (ℕ × ℕ)
-first_rivalry is_rival count days =
+first_rivalry is_rival count end =
     option_and_then (λ day. option_map (λ other. (other, day)) (first_rival_on is_rival count day))
-    (first_day (λ day. is_some (first_rival_on is_rival count day)) days)
+    (first_day_before end (λ day. is_some (first_rival_on is_rival count day)))
 
 -- the first day through 2099-12-31 on which one unit would have this household and another, and the first such other
 abbrev pub first_double_use : List (List Record) → ℕ → Change → Option (ℕ × ℕ)

@@ -1,8 +1,8 @@
 -- Which records may follow each other (own rules, for the certifications of Handbook 4350.3 REV-1, chapters 5 and 7).
 --
 -- Each definition takes the live records of one household.
-use Rattle.std.specs.Prelude.{ℕ, ◌&&◌, ◌||◌, ◌==◌, not, if◌then◌else◌, Bool, true, false, List, filter, fold, Option, Some, None}
-use Rattle.std.specs.Option.{option_map}
+use Rattle.std.specs.Prelude.{ℕ, ◌&&◌, ◌||◌, ◌==◌, not, if◌then◌else◌, Bool, true, false, List, filter, Option, Some, None}
+use Rattle.row_choice.specs.Latest.{later as later_by, latest as latest_by}
 use Rattle.record_history.specs.declared.records.Kind.{Kind}
 use Rattle.record_history.specs.declared.records.Kind.TheVariants as kind
 use Rattle.record_history.specs.declared.records.Record.{Record}
@@ -52,14 +52,17 @@ abbrev pub is_in_order : Option Record → Record → Bool
 is_in_order None r = may_begin r.kind
 is_in_order (Some earlier) r = may_follow earlier.kind r.kind && has_its_unit earlier r
 
+-- it begins later, or on the same day and has the greater number
+abbrev pub comes_after : Record → Record → Bool
+comes_after a b = comes_before b a
+
 -- the one of the two that comes first
 abbrev pub sooner : Option Record → Record → Option Record
-sooner None r = Some r
-sooner (Some best) r = if comes_before r best then Some r else Some best
+sooner best r = later_by comes_after best r
 
 -- the record that comes first
 abbrev pub earliest : List Record → Option Record
-earliest records = fold sooner None records
+earliest records = latest_by comes_after records
 
 -- the record may not stand where it stands among the records
 unfoldable pub is_out_of_order : List Record → Record → Bool

@@ -3,7 +3,7 @@
 ghost use Rattle.std.specs.Prelude.{◌≡◌, ◌+◌, option_copied, option_and_then, fold, nat_le, filter};
 ghost use Rattle.record_history.specs.Records.{latest};
 ghost use Rattle.tenancy_rules.specs.Changed.{changed_records};
-ghost use Rattle.tenancy_rules.specs.Occupancy.{unit_kept, is_one_unit, shares_unit_on, first_day};
+ghost use Rattle.tenancy_rules.specs.Occupancy.{unit_kept, is_one_unit, shares_unit_on, first_day_before};
 ghost use Rattle.tenancy_rules.specs.Beginnings.{sooner_beginning};
 
 use crate::Change;
@@ -25,7 +25,7 @@ impl Pair<'_> {
     /// That changes only on days on which a record of either begins. One that doesn't count does no harm here: on its
     /// day the households have one unit or not, as on any other.
     fn first_day(&self, end: u32) -> Option<Day>
-        ensures { result ≡ first_day (shares_unit_on self.now.history.now.households self.now.household self.now.change.now self.now.other) end }
+        ensures { result ≡ first_day_before end (shares_unit_on self.now.history.now.households self.now.household self.now.change.now self.now.other) }
     {
         let first = self.first_beginning(end, None, self.history.records(self.household));
         let first = self.first_beginning(end, first, self.history.records(self.other));

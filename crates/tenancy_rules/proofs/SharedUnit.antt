@@ -1,0 +1,109 @@
+-- Whether two households have one unit changes only as their records begin.
+use Rattle.std.proofs.Common.{◌≡◌, ◌∙◌, sym, ap, subst, refl, ℕ, ◌≤◌, Bool, true, false, List, [], ◌∷◌, ◌++◌, length, Option, Some, None, arith}
+use Rattle.std.specs.Prelude.{◌==◌, not, nat_le, map, filter, fold, option_and_then, All, Contains, IfSome}
+use Rattle.std.proofs.Math.ListN.{get_or-map, length-map}
+use Rattle.std.proofs.lemmas.Bool.{false≢true}
+use Rattle.std.proofs.lemmas.Bool.Decides.{nat_tests}
+use Rattle.std.proofs.lemmas.List.Sums.{fold-append}
+use Rattle.std.proofs.lemmas.List.Elements.{All-nil, All-cons, All-append, All-contains, All-contains_itself, All-filter, All-weaker, Contains-append_left, Contains-append_right, filter_passes}
+use Rattle.row_choice.specs.FirstDay.{ChangesAtBeginnings}
+use Rattle.row_choice.proofs.LatestLemmas.{All-both, latest-among, filter-alike}
+use Rattle.record_history.specs.declared.records.Record.{Record}
+use Rattle.record_history.specs.Records.{is_live, live_records, comes_before, latest}
+use Rattle.record_history.specs.Held.{records_of}
+use Rattle.tenancy_rules.specs.declared.change.Change.{Change}
+use Rattle.tenancy_rules.specs.Changed.{without, listed, changed_records}
+use Rattle.tenancy_rules.specs.Occupancy.{unit_kept, occupied_unit_on, is_one_unit, have_one_unit_on, shares_unit_on, first_day_before}
+use Rattle.tenancy_rules.specs.Beginnings.{sooner_beginning}
+use Rattle.tenancy_rules.proofs.Beginning.{All-unmap, first_beginning-is}
+
+-- what holds of each record holds of each that is among them
+among_all : (P : Record → Type 0) (records some : List Record) → All (Contains records) some → All P records → All P some
+among_all P records some among all = All-weaker (Contains records) P (λ r contains. All-contains P records r all contains) some among
+
+-- the first and the last of records joined are among them
+among_left : (records others : List Record) → All (Contains (records ++ others)) records
+among_left records others =
+    All-weaker (Contains records) (Contains (records ++ others)) (Contains-append_left records others) records (All-contains_itself records)
+
+among_right : (records others : List Record) → All (Contains (records ++ others)) others
+among_right records others =
+    All-weaker (Contains others) (Contains (records ++ others)) (Contains-append_right records others) others (All-contains_itself others)
+
+Contains-map : {X Y : Type 0} (f : X → Y) (xs : List X) (x : X) → Contains xs x → Contains (map f xs) (f x)
+Contains-map f xs x (k, within, is) = (k, rw length-map within, get_or-map f xs k x ∙ ap f is)
+
+-- where no record begins between two days the household has one unit on both
+occupied-alike : (records : List Record) (day next : ℕ) → All (λ r. nat_le r.from day ≡ nat_le r.from next) records →
+    occupied_unit_on records day ≡ occupied_unit_on records next
+occupied-alike records day next alike =
+    ap (λ (begun : List Record). option_and_then unit_kept (latest begun)) (filter-alike (λ (r : Record). r.from) day next records alike)
+
+module _ (records others beginning : List Record) (among : All (Contains beginning) records) (others_among : All (Contains beginning) others) where
+  -- so whether two have one unit changes only as a record of either begins
+  one_unit-changes : ChangesAtBeginnings (have_one_unit_on records others) (map (λ r. r.from) beginning)
+  one_unit-changes day next le nothing =
+      let alike : Record → Type 0 = λ r. nat_le r.from day ≡ nat_le r.from next in
+      let all = All-unmap (λ (b : ℕ). nat_le b day ≡ nat_le b next) (λ (r : Record). r.from) beginning nothing in
+      ap (λ (unit : Option ℕ). is_one_unit unit (occupied_unit_on others day)) (occupied-alike records day next (among_all alike beginning records among all))
+      ∙ ap (is_one_unit (occupied_unit_on records next)) (occupied-alike others day next (among_all alike beginning others others_among all))
+
+  -- and on the first day of all they have only where one begins then
+  one_unit-on_first : have_one_unit_on records others 0 ≡ true → Contains (map (λ r. r.from) beginning) 0
+  one_unit-on_first have =
+      let begun : List Record = filter (λ r. nat_le r.from 0) records in
+      by_force (latest begun)
+      (latest-among comes_before (λ r. Contains beginning r × (nat_le r.from 0 ≡ true)) None begun tt
+      (All-both (Contains beginning) (λ r. nat_le r.from 0 ≡ true) begun
+      (All-filter (λ r. nat_le r.from 0) (Contains beginning) records among)
+      (filter_passes (λ r. nat_le r.from 0) records)))
+      have
+    where
+      first : (day : ℕ) → nat_le day 0 ≡ true → day ≡ 0
+      first day is = grind (arith, nat_tests)
+
+      by_force : (force : Option Record) → IfSome force (λ r. Contains beginning r × (nat_le r.from 0 ≡ true)) →
+          is_one_unit (option_and_then unit_kept force) (occupied_unit_on others 0) ≡ true → Contains (map (λ r. r.from) beginning) 0
+      by_force None has is = absurd (false≢true is)
+      by_force (Some r) (contains, by) is =
+          subst (Contains (map (λ (q : Record). q.from) beginning)) (first r.from by) (Contains-map (λ (q : Record). q.from) beginning r contains)
+
+-- the days on which records of either household begin show the first on which they have one unit
+pub first_shared-is : (households : List (List Record)) (household : ℕ) (change : Change) (other end : ℕ) →
+    let step = sooner_beginning (shares_unit_on households household change other) end in
+    fold step (fold step (fold step None (records_of households household)) (records_of households other)) (listed change.add)
+    ≡ first_day_before end (shares_unit_on households household change other)
+unfolding shares_unit_on
+first_shared-is households household change other end =
+    let step = sooner_beginning (shares_unit_on households household change other) end in
+    let own : List Record = records_of households household in
+    let others : List Record = records_of households other in
+    let added : List Record = listed change.add in
+    let beginning : List Record = (own ++ others) ++ added in
+    let own_among : All (Contains beginning) own =
+      among_all (Contains beginning) (own ++ others) own (among_left own others) (among_left (own ++ others) added) in
+    let others_among : All (Contains beginning) others =
+      among_all (Contains beginning) (own ++ others) others (among_right own others) (among_left (own ++ others) added) in
+    let changed_among : All (Contains beginning) (changed_records own change) =
+      All-append (Contains beginning) (without change.«drop» (live_records own)) added
+      (All-filter (λ (r : Record). not (r.number == change.«drop»)) (Contains beginning) (live_records own)
+      (All-filter (is_live own) (Contains beginning) own own_among))
+      (among_right (own ++ others) added) in
+    let live_among : All (Contains beginning) (live_records others) = All-filter (is_live others) (Contains beginning) others others_among in
+    ap (λ (first : Option ℕ). fold step first added) (sym (fold-append step None own others))
+    ∙ sym (fold-append step None (own ++ others) added)
+    ∙ first_beginning-is (shares_unit_on households household change other) end beginning
+    (one_unit-changes (changed_records own change) (live_records others) beginning changed_among live_among)
+    (one_unit-on_first (changed_records own change) (live_records others) beginning changed_among live_among)
+
+-- two searches one after the other, and the step for the added record, are the search through all
+module _ (step : Option ℕ → Record → Option ℕ) (own others own_read others_read : List Record) (change : Change) (by_own by_both found : Option ℕ) where
+  pub searched-added : (added : Record) (last : Option ℕ) → own_read ≡ own → others_read ≡ others → by_own ≡ fold step None own_read →
+      by_both ≡ fold step by_own others_read → change.add ≡ Some added → last ≡ step by_both added →
+      fold step (fold step (fold step None own) others) (listed change.add) ≡ found → last ≡ found
+  searched-added added last own_is others_is own_by both_by add_is last_is all = cc
+
+  pub searched-none : own_read ≡ own → others_read ≡ others → by_own ≡ fold step None own_read →
+      by_both ≡ fold step by_own others_read → change.add ≡ None →
+      fold step (fold step (fold step None own) others) (listed change.add) ≡ found → by_both ≡ found
+  searched-none own_is others_is own_by both_by add_is all = cc
