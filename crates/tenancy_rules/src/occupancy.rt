@@ -1,17 +1,42 @@
 //! Which unit a household has, and where one unit would have two.
 
 ghost use Rattle.std.specs.Prelude.{◌≡◌, ◌+◌, option_copied, option_and_then, fold, nat_le, filter};
+ghost use Rattle.std.specs.Option.{option_map_or};
 ghost use Rattle.record_history.specs.Records.{latest};
-ghost use Rattle.tenancy_rules.specs.Changed.{changed_records};
-ghost use Rattle.tenancy_rules.specs.Occupancy.{unit_kept, is_one_unit, shares_unit_on, first_day_before};
-ghost use Rattle.tenancy_rules.specs.Beginnings.{sooner_beginning};
+ghost use Rattle.record_history.specs.Held.{records_of};
+ghost use Rattle.tenancy_rules.specs.Changed.{changed_records, AddsNext};
+ghost use Rattle.tenancy_rules.specs.Occupancy.{unit_kept, is_one_unit, shares_unit_on, is_rival_on, first_day_before, first_double_use};
+ghost use Rattle.tenancy_rules.specs.Beginnings.{sooner_beginning, sooner_rivalry};
 
 use crate::Change;
 use crate::changed::latest_before;
 use days_core::Day;
 use record_history::{History, Kind, Record};
 
+/// How many days there are from 1880-01-01 through 2099-12-31.
+const DAYS: u32 = 80_354;
+
+/// The first day through 2099-12-31 on which one unit would have the household and another, after the change, and the
+/// least of such others on that day.
+pub fn double_use(history: &History, household: u32, change: &Change) -> Option<(u32, Day)>
+    requires next { AddsNext (records_of history.now.households household) household change.now }
+    ensures { result ≡ first_double_use history.now.households household change.now }
+{
+    let mut first = None;
+    for place in 0..history.households() {
+        let pair = Pair {
+            history,
+            household,
+            change,
+            other: place + 1,
+        };
+        first = pair.sooner_rivalry(first);
+    }
+    first
+}
+
 /// A household after a change, and another.
+#[derive(Clone, Copy)]
 struct Pair<'a> {
     history: &'a History,
     household: u32,
@@ -20,6 +45,19 @@ struct Pair<'a> {
 }
 
 impl Pair<'_> {
+    /// The other household and the first day on which it is a rival, where that comes before the day so far.
+    fn sooner_rivalry(&self, first: Option<(u32, Day)>) -> Option<(u32, Day)>
+        ensures { result ≡ sooner_rivalry (is_rival_on self.now.history.now.households self.now.household self.now.change.now) 80354 first self.now.other }
+    {
+        if self.other == self.household {
+            return first;
+        }
+        match self.first_day(end_of(&first)) {
+            Some(day) => Some((self.other, day)),
+            None => first,
+        }
+    }
+
     /// The first day on which both have one unit, of the days before the end.
     ///
     /// That changes only on days on which a record of either begins. One that doesn't count does no harm here: on its
@@ -62,6 +100,16 @@ impl Pair<'_> {
     {
         let own = changed_in_force(self.history.records(self.household), self.change, day);
         is_one_unit(unit_kept(own), unit_kept(self.history.in_force(self.other, day)))
+    }
+}
+
+/// The number of the day before which an earlier double use would lie.
+fn end_of(first: &Option<(u32, Day)>) -> u32
+    ensures { result ≡ option_map_or (λ rivalry. rivalry.1) first.now 80354 }
+{
+    match first {
+        Some((_, day)) => day.number(),
+        None => DAYS,
     }
 }
 
