@@ -1,3 +1,4 @@
 pub mod Beginning
 pub mod SharedUnit
 pub mod Rivals
+pub mod Numbers

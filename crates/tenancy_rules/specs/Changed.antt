@@ -1,5 +1,5 @@
 -- What an act does to the live records of a household.
-use Rattle.std.specs.Prelude.{ℕ, ◌+◌, ◌≡◌, ◌==◌, not, Bool, List, [], ◌∷◌, ◌++◌, filter, Option, Some, None, IfSome}
+use Rattle.std.specs.Prelude.{ℕ, ◌+◌, ◌<◌, ◌≡◌, ◌==◌, not, Bool, List, [], ◌∷◌, ◌++◌, filter, Option, Some, None, AllPairs, IfSome}
 use Rattle.row_choice.specs.Latest.{comes_before as pair_comes_before}
 use Rattle.record_history.specs.declared.records.Record.{Record}
 use Rattle.record_history.specs.Records.{live_records, newest_number}
@@ -22,6 +22,10 @@ changed_records records change = without change.«drop» (live_records records) 
 abbrev pub AddsNext : List Record → ℕ → Change → Type 0
 AddsNext records household change =
     IfSome change.add (λ r. (r.household ≡ household) × (r.number ≡ newest_number records + 1))
+
+-- the numbers rise, so that each is that of one record
+abbrev pub NumbersRise : List Record → Type 0
+NumbersRise records = AllPairs (λ r next. r.number < next.number) records
 
 -- the record comes before that place in the order of first day and number
 abbrev pub is_before : ℕ → ℕ → Record → Bool

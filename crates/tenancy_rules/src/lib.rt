@@ -7,3 +7,9 @@ mod occupancy;
 mod order;
 
 pub use change::Change;
+pub use occupancy::double_use;
+pub use order::order_fault;
+pub use rent_table::{admission_limit, suits};
+
+#[cfg(test)]
+mod tests;

@@ -1,12 +1,24 @@
 //! Which records may follow each other.
 
 ghost use Rattle.std.specs.Prelude.{◌≡◌, option_copied};
-ghost use Rattle.tenancy_rules.specs.Changed.{changed_records};
+ghost use Rattle.std.specs.Option.{option_map};
+ghost use Rattle.record_history.specs.Held.{records_of};
+ghost use Rattle.tenancy_rules.specs.Changed.{changed_records, AddsNext, NumbersRise};
 ghost use Rattle.tenancy_rules.specs.Order.{may_begin, may_follow, has_its_unit, is_in_order, is_out_of_order, sooner, record_before, first_out_of_order};
 
 use crate::Change;
 use crate::changed::{comes_before, is_kept, latest_before};
-use record_history::{Kind, Record};
+use record_history::{History, Kind, Record};
+
+/// The number of the first record that would be out of order after the change, where the live records of the household
+/// stand in the order of their first days and of their numbers.
+pub fn order_fault(history: &History, household: u32, change: &Change) -> Option<u32>
+    requires next { AddsNext (records_of history.now.households household) household change.now }
+    ensures value { result ≡ option_map (λ r. r.number) (first_out_of_order (changed_records (records_of history.now.households household) change.now)) }
+    ensures own_number { NumbersRise (changed_records (records_of history.now.households household) change.now) }
+{
+    first_out_of_order(history.records(household), change).map(|held| held.number)
+}
 
 /// The first of the changed records that may not stand where it stands.
 pub fn first_out_of_order<'a>(records: &'a [Record], change: &'a Change) -> Option<&'a Record>

@@ -1,0 +1,10 @@
+use Rattle.std.proofs.Common.{List, subst}
+use Rattle.record_history.specs.declared.records.Record.{Record}
+use Rattle.record_history.specs.Held.{AreNumbered, records_of}
+use Rattle.tenancy_rules.proofs.Numbers.{changed-rise}
+use Rattle.tenancy_rules.proofs.order.order_fault.Goals as goal
+
+pub returns-clause-own_number : goal.returns-clause-own_number
+returns-clause-own_number c =
+    changed-rise (records_of c.args.history.now.households c.args.household) c.args.household c.args.change.now
+    (subst (λ (records : List Record). AreNumbered records) c.records.ensures.records c.records.ensures.numbered) c.requires.next
