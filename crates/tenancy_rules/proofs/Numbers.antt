@@ -28,8 +28,8 @@ added-rise records household number None numbered none =
     subst NumbersRise (sym (append-nil (without number (live_records records)))) (kept-rise records number numbered)
 added-rise records household number (Some r) numbered is =
     let below : All (λ kept. kept.number < newest_number records + 1) (without number (live_records records)) =
-      All-filter (λ (kept : Record). not (kept.number == number)) (λ (kept : Record). kept.number < newest_number records + 1) (live_records records)
-      (All-filter (is_live records) (λ (kept : Record). kept.number < newest_number records + 1) records (none_above records numbered)) in
+    All-filter (λ (kept : Record). not (kept.number == number)) (λ (kept : Record). kept.number < newest_number records + 1) (live_records records)
+    (All-filter (is_live records) (λ (kept : Record). kept.number < newest_number records + 1) records (none_above records numbered)) in
     all_pairs_push (λ (kept next : Record). kept.number < next.number) (without number (live_records records)) r (kept-rise records number numbered)
     (λ k d within. omega (arith, below k d within, is.1))
 

@@ -81,14 +81,14 @@ first_shared-is households household change other end =
     let added : List Record = listed change.add in
     let beginning : List Record = (own ++ others) ++ added in
     let own_among : All (Contains beginning) own =
-      among_all (Contains beginning) (own ++ others) own (among_left own others) (among_left (own ++ others) added) in
+    among_all (Contains beginning) (own ++ others) own (among_left own others) (among_left (own ++ others) added) in
     let others_among : All (Contains beginning) others =
-      among_all (Contains beginning) (own ++ others) others (among_right own others) (among_left (own ++ others) added) in
+    among_all (Contains beginning) (own ++ others) others (among_right own others) (among_left (own ++ others) added) in
     let changed_among : All (Contains beginning) (changed_records own change) =
-      All-append (Contains beginning) (without change.«drop» (live_records own)) added
-      (All-filter (λ (r : Record). not (r.number == change.«drop»)) (Contains beginning) (live_records own)
-      (All-filter (is_live own) (Contains beginning) own own_among))
-      (among_right (own ++ others) added) in
+    All-append (Contains beginning) (without change.«drop» (live_records own)) added
+    (All-filter (λ (r : Record). not (r.number == change.«drop»)) (Contains beginning) (live_records own)
+    (All-filter (is_live own) (Contains beginning) own own_among))
+    (among_right (own ++ others) added) in
     let live_among : All (Contains beginning) (live_records others) = All-filter (is_live others) (Contains beginning) others others_among in
     ap (λ (first : Option ℕ). fold step first added) (sym (fold-append step None own others))
     ∙ sym (fold-append step None (own ++ others) added)

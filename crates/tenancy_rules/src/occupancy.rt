@@ -99,7 +99,10 @@ impl Pair<'_> {
         ensures { result ≡ shares_unit_on self.now.history.now.households self.now.household self.now.change.now self.now.other day }
     {
         let own = changed_in_force(self.history.records(self.household), self.change, day);
-        is_one_unit(unit_kept(own), unit_kept(self.history.in_force(self.other, day)))
+        is_one_unit(
+            unit_kept(own),
+            unit_kept(self.history.in_force(self.other, day)),
+        )
     }
 }
 
