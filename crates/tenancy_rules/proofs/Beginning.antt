@@ -1,12 +1,12 @@
 -- The first day that passes is found among the days on which records begin.
-use Rattle.std.proofs.Common.{◌≡◌, ◌∙◌, sym, ap, subst, refl, ℕ, zero, ◌+◌, ◌<◌, ◌≤◌, Bool, true, false, List, [], ◌∷◌, length, Option, Some, None, arith}
-use Rattle.std.specs.Prelude.{◌&&◌, nat_lt, nat_le, unwrap_or, map, filter, fold, All, Contains, IfSome, IsSomeAnd, if◌then◌else◌}
+use Rattle.std.proofs.Common.{◌≡◌, ◌∙◌, sym, ap, subst, refl, ℕ, ◌<◌, Bool, true, false, List, [], ◌∷◌, Option, Some, None, arith}
+use Rattle.std.specs.Prelude.{◌&&◌, nat_lt, map, filter, fold, All, Contains, IfSome, IsSomeAnd, if◌then◌else◌}
 use Rattle.std.proofs.Math.ListN.{get_or-map, length-map}
 use Rattle.std.proofs.lemmas.Bool.{true≢false, and_parts, ltb-true}
 use Rattle.std.proofs.lemmas.Bool.Decides.{nat_tests}
-use Rattle.std.proofs.lemmas.List.Elements.{All-contains, All-weaker}
-use Rattle.row_choice.specs.Latest.{later, latest}
-use Rattle.row_choice.specs.FirstDay.{first_day, earliest, is_within, NothingBegins, ChangesAtBeginnings}
+use Rattle.std.proofs.lemmas.List.Elements.{All-contains}
+use Rattle.row_choice.specs.Latest.{later}
+use Rattle.row_choice.specs.FirstDay.{earliest, is_within, ChangesAtBeginnings}
 use Rattle.row_choice.proofs.LatestLemmas.{latest-is}
 use Rattle.row_choice.proofs.FirstDayLemmas.{first_day-is, earliest_order}
 use Rattle.record_history.specs.declared.records.Record.{Record}

@@ -1,6 +1,6 @@
 -- The numbers of the changed records rise.
-use Rattle.std.proofs.Common.{◌≡◌, ℕ, ◌+◌, ◌<◌, ◌≤◌, List, [], ◌∷◌, ◌++◌, length, get_or, Option, Some, None, arith, subst, sym, append-nil}
-use Rattle.std.specs.Prelude.{◌==◌, not, filter, All, AllPairs, IfSome}
+use Rattle.std.proofs.Common.{◌≡◌, ℕ, ◌+◌, ◌<◌, List, ◌++◌, Option, Some, None, arith, subst, sym, append-nil}
+use Rattle.std.specs.Prelude.{◌==◌, not, All, IfSome}
 use Rattle.std.proofs.lemmas.List.Elements.{All-filter}
 use Rattle.std.proofs.lemmas.List.Kept.{AllPairs-filter}
 use Rattle.std.proofs.lemmas.List.Quantifiers.{all_pairs_push}

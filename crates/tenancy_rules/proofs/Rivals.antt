@@ -1,11 +1,10 @@
 -- The first rivalry among some households, when one household more is looked at.
-use Rattle.std.proofs.Common.{◌≡◌, ◌∙◌, sym, ap, subst, refl, ℕ, zero, suc, ◌+◌, ◌<◌, ◌≤◌, Bool, true, false, List, [], ◌∷◌, ◌++◌, Option, Some, None, arith, add-one, ◌⊎◌, inl, inr}
+use Rattle.std.proofs.Common.{◌≡◌, ◌∙◌, sym, ap, refl, ℕ, zero, suc, ◌+◌, ◌<◌, Bool, true, false, List, [], ◌∷◌, ◌++◌, Option, Some, None, arith, ◌⊎◌, inl, inr}
 use Rattle.std.specs.Prelude.{find, is_some, option_and_then, if◌then◌else◌}
 use Rattle.std.specs.Option.{option_map, option_map_or, option_or}
 use Rattle.std.specs.List.{range_with_len}
 use Rattle.std.proofs.lemmas.Bool.{false≢true, true≢false, cases_order}
 use Rattle.std.proofs.lemmas.List.Folds.{find-append}
-use Rattle.row_choice.specs.FirstDay.{first_day}
 use Rattle.row_choice.proofs.FirstDayLemmas.{IsFirst, first-is}
 use Rattle.tenancy_rules.specs.Occupancy.{first_rival_on, first_day_before, first_rivalry}
 use Rattle.tenancy_rules.specs.Beginnings.{sooner_rivalry}

@@ -1,11 +1,11 @@
 -- Whether two households have one unit changes only as their records begin.
-use Rattle.std.proofs.Common.{◌≡◌, ◌∙◌, sym, ap, subst, refl, ℕ, ◌≤◌, Bool, true, false, List, [], ◌∷◌, ◌++◌, length, Option, Some, None, arith}
+use Rattle.std.proofs.Common.{◌≡◌, ◌∙◌, sym, ap, subst, ℕ, true, List, ◌++◌, Option, Some, None, arith}
 use Rattle.std.specs.Prelude.{◌==◌, not, nat_le, map, filter, fold, option_and_then, All, Contains, IfSome}
 use Rattle.std.proofs.Math.ListN.{get_or-map, length-map}
 use Rattle.std.proofs.lemmas.Bool.{false≢true}
 use Rattle.std.proofs.lemmas.Bool.Decides.{nat_tests}
 use Rattle.std.proofs.lemmas.List.Sums.{fold-append}
-use Rattle.std.proofs.lemmas.List.Elements.{All-nil, All-cons, All-append, All-contains, All-contains_itself, All-filter, All-weaker, Contains-append_left, Contains-append_right, filter_passes}
+use Rattle.std.proofs.lemmas.List.Elements.{All-append, All-contains, All-contains_itself, All-filter, All-weaker, Contains-append_left, Contains-append_right, filter_passes}
 use Rattle.row_choice.specs.FirstDay.{ChangesAtBeginnings}
 use Rattle.row_choice.proofs.LatestLemmas.{All-both, latest-among, filter-alike}
 use Rattle.record_history.specs.declared.records.Record.{Record}

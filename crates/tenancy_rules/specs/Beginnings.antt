@@ -1,5 +1,5 @@
 -- How the first double use is found: among the days on which records begin, and household by household.
-use Rattle.std.specs.Prelude.{ℕ, ◌&&◌, nat_lt, if◌then◌else◌, Bool, Option, Some, None, unwrap_or}
+use Rattle.std.specs.Prelude.{ℕ, ◌&&◌, nat_lt, if◌then◌else◌, Bool, Option, Some, unwrap_or}
 use Rattle.std.specs.Option.{option_map_or}
 use Rattle.record_history.specs.declared.records.Record.{Record}
 use Rattle.tenancy_rules.specs.Occupancy.{first_day_before}

@@ -2,3 +2,4 @@ pub mod Changed
 pub mod Order
 pub mod Occupancy
 pub mod Beginnings
+pub mod Law

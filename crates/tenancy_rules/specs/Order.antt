@@ -1,7 +1,7 @@
 -- Which records may follow each other (own rules, for the certifications of Handbook 4350.3 REV-1, chapters 5 and 7).
 --
 -- Each definition takes the live records of one household.
-use Rattle.std.specs.Prelude.{ℕ, ◌&&◌, ◌||◌, ◌==◌, not, if◌then◌else◌, Bool, true, false, List, filter, Option, Some, None}
+use Rattle.std.specs.Prelude.{◌&&◌, ◌||◌, ◌==◌, not, if◌then◌else◌, Bool, true, false, List, filter, Option, Some, None}
 use Rattle.row_choice.specs.Latest.{later as later_by, latest as latest_by}
 use Rattle.record_history.specs.declared.records.Kind.{Kind}
 use Rattle.record_history.specs.declared.records.Kind.TheVariants as kind

@@ -3,10 +3,12 @@
 
 mod change;
 mod changed;
+mod laws;
 mod occupancy;
 mod order;
 
 pub use change::Change;
+pub use laws::{change_is_what_lives, no_unit_has_two, units_change_by_transfer};
 pub use occupancy::double_use;
 pub use order::order_fault;
 pub use rent_table::{admission_limit, suits};

@@ -1,5 +1,5 @@
 use Rattle.std.proofs.Common.{eq-eqb, refl}
-use Rattle.std.specs.Prelude.{ℕ, Bool, ◌==◌, ◌≡◌, true}
+use Rattle.std.specs.Prelude.{◌==◌, ◌≡◌, true}
 use Rattle.tenancy_rules.specs.Occupancy.{is_rival_on}
 use Rattle.tenancy_rules.proofs.Rivals.{no_rivalry}
 use Rattle.tenancy_rules.proofs.occupancy.Pair.sooner_rivalry.Goals as goal

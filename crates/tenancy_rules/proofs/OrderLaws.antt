@@ -1,0 +1,92 @@
+-- What it comes to that no record is out of order.
+use Rattle.std.proofs.Common.{◌≡◌, ◌≢◌, ◌∙◌, sym, ap, subst, refl, ℕ, ◌<◌, Bool, true, false, List, get_or, Option, Some, None, arith, eq-eqb, ◌⊎◌, inl, inr}
+use Rattle.std.specs.Prelude.{◌↔◌, ◌==◌, not, filter, All, Contains, IfSome, IsSomeAnd, if◌then◌else◌}
+use Rattle.std.proofs.lemmas.Bool.{false≢true, and_parts, eqb-true, not-true, not-false, false_from_ne_true, cases_order}
+use Rattle.std.proofs.lemmas.Bool.Decides.{nat_tests}
+use Rattle.std.proofs.lemmas.List.{get_or_default}
+use Rattle.std.proofs.lemmas.List.Elements.{All-contains}
+use Rattle.row_choice.proofs.LatestLemmas.{latest-is, pairs_order, pairs_order-turned}
+use Rattle.row_choice.specs.Latest.{comes_before as pair_comes_before}
+use Rattle.record_history.specs.declared.records.Kind.{Kind}
+use Rattle.record_history.specs.declared.records.Kind.TheVariants as kind
+use Rattle.record_history.specs.declared.records.Record.{Record}
+use Rattle.record_history.specs.Records.{comes_before}
+use Rattle.tenancy_rules.specs.Changed.{NumbersRise}
+use Rattle.tenancy_rules.specs.Order.{is_transfer, is_move_out, may_follow, has_its_unit, record_before, is_in_order, comes_after, earliest, is_out_of_order, first_out_of_order}
+use Rattle.tenancy_rules.specs.Law.{UnitsChangeByTransfer, NothingFollowsMoveOut}
+
+-- each record stands where it may
+in_order : (records : List Record) → first_out_of_order records ≡ None → All (λ r. is_in_order (record_before records r) r ≡ true) records
+unfolding is_out_of_order
+in_order records none k d within =
+    let law = latest-is comes_after (is_out_of_order records) records (pairs_order-turned (λ r. r.from) (λ r. r.number)) in
+    stands (get_or records k d) (false_from_ne_true (is_out_of_order records (get_or records k d)) (λ out. nobody (first_out_of_order records) none (law.last k d within out)))
+  where
+    nobody : (answer : Option Record) → answer ≡ None → IsSomeAnd answer (λ best. comes_after best (get_or records k d) ≡ false) → ⊥
+    nobody None is some = some
+    nobody (Some best) is some = absurd (cc)
+
+    stands : (r : Record) → not (is_in_order (record_before records r) r) ≡ false → is_in_order (record_before records r) r ≡ true
+    stands r is = not-false (is_in_order (record_before records r) r) is
+
+pub units_change_by_transfer : UnitsChangeByTransfer
+units_change_by_transfer records none k d within = by_earlier (get_or records k d) (record_before records (get_or records k d)) (in_order records none k d within)
+  where
+    by_kind : (r earlier : Record) (transfer : Bool) → (if transfer then not (r.unit == earlier.unit) else r.unit == earlier.unit) ≡ true →
+        (r.unit ≢ earlier.unit) ↔ (transfer ≡ true)
+    by_kind r earlier true has =
+        (λ _. refl, λ _ same. false≢true (sym (not-true (r.unit == earlier.unit) has) ∙ eq-eqb r.unit earlier.unit same))
+    by_kind r earlier false has = (λ other. absurd (other (eqb-true r.unit earlier.unit has)), λ is. absurd (false≢true is))
+
+    by_earlier : (r : Record) (before : Option Record) → is_in_order before r ≡ true →
+        IfSome before (λ earlier. (r.unit ≢ earlier.unit) ↔ (is_transfer r.kind ≡ true))
+    by_earlier r None is = tt
+    by_earlier r (Some earlier) is = by_kind r earlier (is_transfer r.kind) (and_parts (may_follow earlier.kind r.kind) (has_its_unit earlier r) is).1
+
+-- a kind that something may follow is no move-out
+followed : (earlier next : Kind) → may_follow earlier next ≡ true → is_move_out earlier ≡ false
+followed kind.MO next is = absurd (false≢true is)
+followed _ next is = refl
+
+-- of two records with one number both are the same
+same_record : (records : List Record) (first second : Record) → NumbersRise records → Contains records first → Contains records second →
+    first.number ≡ second.number → first ≡ second
+same_record records first second rise (k, within, is) (k', within', is') same = by_order (cases_order k k')
+  where
+    by_order : (k ≡ k') ⊎ ((k < k') ⊎ (k' < k)) → first ≡ second
+    by_order (inl one) = sym is ∙ ap (λ (place : ℕ). get_or records place first) one ∙ get_or_default records k' first second within' ∙ is'
+    by_order (inr (inl less)) =
+        absurd (omega (arith, rise k k' first less within', ap (λ (r : Record). r.number) is, ap (λ (r : Record). r.number) (get_or_default records k' first second within' ∙ is'), same))
+    by_order (inr (inr more)) =
+        absurd (omega (arith, rise k' k first more within, ap (λ (r : Record). r.number) is, ap (λ (r : Record). r.number) (get_or_default records k' first second within' ∙ is'), same))
+
+-- two records of which neither comes before the other have one number
+neither : (from number other_from other_number : ℕ) → pair_comes_before from number other_from other_number ≡ false →
+    pair_comes_before other_from other_number from number ≡ false → number ≡ other_number
+neither from number other_from other_number e f = grind (arith, nat_tests)
+
+pub nothing_follows_move_out : NothingFollowsMoveOut
+nothing_follows_move_out records rise none earlier r has_earlier has_r before =
+    let law = latest-is comes_after (comes_before earlier) records (pairs_order-turned (λ q. q.from) (λ q. q.number)) in
+    by_next (earliest (filter (comes_before earlier) records)) law.among law.last
+  where
+    by_previous : (next : Record) → Contains records next → All (λ q. comes_before earlier q ≡ true → comes_before q next ≡ false) records →
+        (previous : Option Record) → IfSome previous (λ p. Contains records p × (comes_before p next ≡ true)) →
+        IsSomeAnd previous (λ p. comes_before p earlier ≡ false) → is_in_order previous next ≡ true → is_move_out earlier.kind ≡ false
+    by_previous next has_next last None among behind stands = absurd behind
+    by_previous next has_next last (Some p) (has_p, p_before) behind stands =
+        let not_after : comes_before earlier p ≡ false =
+        false_from_ne_true (comes_before earlier p) (λ is. false≢true (sym (All-contains (λ q. comes_before earlier q ≡ true → comes_before q next ≡ false) records p last has_p is) ∙ p_before)) in
+        let same : p ≡ earlier =
+        same_record records p earlier rise has_p has_earlier (neither p.from p.number earlier.from earlier.number behind not_after) in
+        subst (λ (q : Record). is_move_out q.kind ≡ false) same (followed p.kind next.kind (and_parts (may_follow p.kind next.kind) (has_its_unit p next) stands).0)
+
+    by_next : (next : Option Record) → IfSome next (λ q. Contains records q × (comes_before earlier q ≡ true)) →
+        All (λ q. comes_before earlier q ≡ true → IsSomeAnd next (λ best. comes_after best q ≡ false)) records → is_move_out earlier.kind ≡ false
+    by_next None among last =
+        absurd (All-contains (λ q. comes_before earlier q ≡ true → IsSomeAnd {T = Record} None (λ best. comes_after best q ≡ false)) records r last has_r before)
+    by_next (Some next) (has_next, next_after) last =
+        let law = latest-is comes_before (λ q. comes_before q next) records (pairs_order (λ q. q.from) (λ q. q.number)) in
+        by_previous next has_next last (record_before records next) law.among
+        (All-contains (λ q. comes_before q next ≡ true → IsSomeAnd (record_before records next) (λ best. comes_before best q ≡ false)) records earlier law.last has_earlier next_after)
+        (All-contains (λ q. is_in_order (record_before records q) q ≡ true) records next (in_order records none) has_next)

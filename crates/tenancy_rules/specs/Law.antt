@@ -1,0 +1,43 @@
+-- What it comes to that records are in order, that no unit would have two households, and that a change is judged.
+use Rattle.std.specs.Prelude.{◌≡◌, ◌≢◌, ◌↔◌, ◌≤◌, ◌<◌, ℕ, true, false, if◌then◌else◌, List, [], ◌∷◌, ◌++◌, length, Some, None, All, Contains, IfSome}
+use Rattle.record_history.specs.declared.records.Record.{Record}
+use Rattle.record_history.specs.Records.{is_withdrawal, live_records, comes_before}
+use Rattle.record_history.specs.Held.{records_of}
+use Rattle.tenancy_rules.specs.declared.change.Change.{Change}
+use Rattle.tenancy_rules.specs.Changed.{changed_records, NumbersRise}
+use Rattle.tenancy_rules.specs.Order.{is_transfer, is_move_out, record_before, first_out_of_order}
+use Rattle.tenancy_rules.specs.Occupancy.{occupied_unit_on, first_double_use}
+
+-- where no record is out of order, the unit changes from one record to the next exactly by a transfer
+abbrev pub UnitsChangeByTransfer : Type 0
+UnitsChangeByTransfer = (records : List Record) → first_out_of_order records ≡ None →
+    All (λ r. IfSome (record_before records r) (λ earlier. (r.unit ≢ earlier.unit) ↔ (is_transfer r.kind ≡ true))) records
+
+-- where no record is out of order, none comes after a move-out
+abbrev pub NothingFollowsMoveOut : Type 0
+NothingFollowsMoveOut = (records : List Record) → NumbersRise records → first_out_of_order records ≡ None →
+    (earlier r : Record) → Contains records earlier → Contains records r → comes_before earlier r ≡ true →
+    is_move_out earlier.kind ≡ false
+
+-- where no double use is found, no other household has this one's unit on any day through 2099-12-31
+abbrev pub NoUnitHasTwo : Type 0
+NoUnitHasTwo = (households : List (List Record)) (household : ℕ) (change : Change) →
+    first_double_use households household change ≡ None →
+    (other day unit : ℕ) → 1 ≤ other → other ≤ length households → other ≢ household → day ≤ 80353 →
+    occupied_unit_on (changed_records (records_of households household) change) day ≡ Some unit →
+    occupied_unit_on (live_records (records_of households other)) day ≢ Some unit
+
+-- the double use that is found is one: another household has the unit on that day
+abbrev pub DoubleUseHasTwo : Type 0
+DoubleUseHasTwo = (households : List (List Record)) (household : ℕ) (change : Change) (other day : ℕ) →
+    first_double_use households household change ≡ Some (other, day) →
+    (other ≢ household) × (day ≤ 80353) × (unit : ℕ)
+    × (occupied_unit_on (changed_records (records_of households household) change) day ≡ Some unit)
+    × (occupied_unit_on (live_records (records_of households other)) day ≡ Some unit)
+
+-- Once a record is held too, the records that live are those that were judged: without the one that it corrects or
+-- withdraws, and with it where it is no withdrawal itself. (Each record corrects only one with a smaller number.)
+abbrev pub ChangeIsWhatLives : Type 0
+ChangeIsWhatLives = (records : List Record) (held : Record) → All (λ r. r.corrects < held.number) records → held.corrects < held.number →
+    live_records (records ++ held ∷ []) ≡
+    changed_records records (record { drop = held.corrects; add = if is_withdrawal held.kind then None else Some held })
