@@ -47,12 +47,12 @@ not_some (Some x) is = absurd (true≢false is)
 
 -- the first of the households so far, or else the one more
 rival-more : (is_rival : ℕ → ℕ → Bool) (count day : ℕ) →
-    first_rival_on is_rival (count + 1) day ≡ option_or (first_rival_on is_rival count day) (if is_rival day (count + 1) then Some (count + 1) else None)
+    first_rival_on is_rival (count + 1) day ≡ option_or (first_rival_on is_rival count day) (if is_rival (count + 1) day then Some (count + 1) else None)
 rival-more is_rival count day =
     let last : 1 + count ≡ count + 1 = omega arith in
-    ap (find (is_rival day)) (range-more 1 count)
-    ∙ find-append (is_rival day) (range_with_len 1 count) ((1 + count) ∷ [])
-    ∙ ap (λ (n : ℕ). option_or (first_rival_on is_rival count day) (if is_rival day n then Some n else None)) last
+    ap (find (λ other. is_rival other day)) (range-more 1 count)
+    ∙ find-append (λ other. is_rival other day) (range_with_len 1 count) ((1 + count) ∷ [])
+    ∙ ap (λ (n : ℕ). option_or (first_rival_on is_rival count day) (if is_rival n day then Some n else None)) last
 
 module _ (rival next_rival : ℕ → Option ℕ) (is_more : ℕ → Bool) (more end : ℕ)
     (one_more : (day : ℕ) → next_rival day ≡ option_or (rival day) (if is_more day then Some more else None)) where
@@ -118,7 +118,7 @@ module _ (rival next_rival : ℕ → Option ℕ) (is_more : ℕ → Bool) (more 
 pub first_rivalry-more : (is_rival : ℕ → ℕ → Bool) (count end : ℕ) →
     first_rivalry is_rival (count + 1) end ≡ sooner_rivalry is_rival end (first_rivalry is_rival count end) (count + 1)
 first_rivalry-more is_rival count end =
-    step (first_rival_on is_rival count) (first_rival_on is_rival (count + 1)) (λ day. is_rival day (count + 1)) (count + 1) end
+    step (first_rival_on is_rival count) (first_rival_on is_rival (count + 1)) (is_rival (count + 1)) (count + 1) end
     (rival-more is_rival count)
     (first_day_before end (λ day. is_some (first_rival_on is_rival count day)))
     (first_day_before end (λ day. is_some (first_rival_on is_rival (count + 1) day)))
@@ -129,10 +129,3 @@ first_rivalry-more is_rival count end =
 pub first_rivalry-none : (is_rival : ℕ → ℕ → Bool) (end : ℕ) → first_rivalry is_rival 0 end ≡ None
 first_rivalry-none is_rival end =
     ap (option_and_then (λ day. option_map (λ other. (other, day)) (first_rival_on is_rival 0 day))) (none_before end (λ day. is_some (first_rival_on is_rival 0 day)) (λ day. refl))
-
--- a household that is no rival on any day changes nothing
-pub no_rivalry : (is_rival : ℕ → ℕ → Bool) (end : ℕ) (first : Option (ℕ × ℕ)) (other : ℕ) → ((day : ℕ) → is_rival day other ≡ false) →
-    first ≡ sooner_rivalry is_rival end first other
-no_rivalry is_rival end first other never =
-    sym (ap (λ (found : Option ℕ). option_map_or (λ day. Some (other, day)) found first)
-    (none_before (option_map_or (λ (r : ℕ × ℕ). r.1) first end) (λ day. is_rival day other) never))

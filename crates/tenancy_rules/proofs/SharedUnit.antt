@@ -1,8 +1,8 @@
 -- Whether two households have one unit changes only as their records begin.
-use Rattle.std.proofs.Common.{◌≡◌, ◌∙◌, sym, ap, subst, ℕ, true, List, ◌++◌, Option, Some, None, arith}
-use Rattle.std.specs.Prelude.{◌==◌, not, nat_le, map, filter, fold, option_and_then, All, Contains, IfSome}
+use Rattle.std.proofs.Common.{◌≡◌, ◌∙◌, sym, ap, subst, ℕ, Bool, true, List, ◌++◌, Option, Some, None, arith}
+use Rattle.std.specs.Prelude.{◌&&◌, ◌==◌, not, nat_le, map, filter, fold, option_and_then, All, Contains, IfSome}
 use Rattle.std.proofs.Math.ListN.{get_or-map, length-map}
-use Rattle.std.proofs.lemmas.Bool.{false≢true}
+use Rattle.std.proofs.lemmas.Bool.{false≢true, and_parts}
 use Rattle.std.proofs.lemmas.Bool.Decides.{nat_tests}
 use Rattle.std.proofs.lemmas.List.Sums.{fold-append}
 use Rattle.std.proofs.lemmas.List.Elements.{All-append, All-contains, All-contains_itself, All-filter, All-weaker, Contains-append_left, Contains-append_right, filter_passes}
@@ -13,7 +13,7 @@ use Rattle.record_history.specs.Records.{is_live, live_records, comes_before, la
 use Rattle.record_history.specs.Held.{records_of}
 use Rattle.tenancy_rules.specs.declared.change.Change.{Change}
 use Rattle.tenancy_rules.specs.Changed.{without, listed, changed_records}
-use Rattle.tenancy_rules.specs.Occupancy.{unit_kept, occupied_unit_on, is_one_unit, have_one_unit_on, shares_unit_on, first_day_before}
+use Rattle.tenancy_rules.specs.Occupancy.{unit_kept, occupied_unit_on, is_one_unit, have_one_unit_on, is_rival_on, first_day_before}
 use Rattle.tenancy_rules.specs.Beginnings.{sooner_beginning}
 use Rattle.tenancy_rules.proofs.Beginning.{All-unmap, first_beginning-is}
 
@@ -70,12 +70,12 @@ module _ (records others beginning : List Record) (among : All (Contains beginni
 
 -- the days on which records of either household begin show the first on which they have one unit
 pub first_shared-is : (households : List (List Record)) (household : ℕ) (change : Change) (other end : ℕ) →
-    let step = sooner_beginning (shares_unit_on households household change other) end in
+    let step = sooner_beginning (is_rival_on households household change other) end in
     fold step (fold step (fold step None (records_of households household)) (records_of households other)) (listed change.add)
-    ≡ first_day_before end (shares_unit_on households household change other)
-unfolding shares_unit_on
+    ≡ first_day_before end (is_rival_on households household change other)
+unfolding is_rival_on
 first_shared-is households household change other end =
-    let step = sooner_beginning (shares_unit_on households household change other) end in
+    let step = sooner_beginning (is_rival_on households household change other) end in
     let own : List Record = records_of households household in
     let others : List Record = records_of households other in
     let added : List Record = listed change.add in
@@ -92,9 +92,11 @@ first_shared-is households household change other end =
     let live_among : All (Contains beginning) (live_records others) = All-filter (is_live others) (Contains beginning) others others_among in
     ap (λ (first : Option ℕ). fold step first added) (sym (fold-append step None own others))
     ∙ sym (fold-append step None (own ++ others) added)
-    ∙ first_beginning-is (shares_unit_on households household change other) end beginning
-    (one_unit-changes (changed_records own change) (live_records others) beginning changed_among live_among)
-    (one_unit-on_first (changed_records own change) (live_records others) beginning changed_among live_among)
+    ∙ first_beginning-is (is_rival_on households household change other) end beginning
+    (λ day next le nothing. ap (λ (one : Bool). not (other == household) && one)
+    (one_unit-changes (changed_records own change) (live_records others) beginning changed_among live_among day next le nothing))
+    (λ rival. one_unit-on_first (changed_records own change) (live_records others) beginning changed_among live_among
+    (and_parts (not (other == household)) (have_one_unit_on (changed_records own change) (live_records others) 0) rival).1)
 
 -- two searches one after the other, and the step for the added record, are the search through all
 module _ (step : Option ℕ → Record → Option ℕ) (own others own_read others_read : List Record) (change : Change) (by_own by_both found : Option ℕ) where

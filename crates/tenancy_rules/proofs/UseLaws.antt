@@ -9,7 +9,7 @@ use Rattle.record_history.specs.declared.records.Record.{Record}
 use Rattle.record_history.specs.Records.{live_records}
 use Rattle.record_history.specs.Held.{records_of}
 use Rattle.tenancy_rules.specs.Changed.{changed_records}
-use Rattle.tenancy_rules.specs.Occupancy.{occupied_unit_on, is_one_unit, have_one_unit_on, shares_unit_on, is_rival_on, first_rival_on, first_day_before, first_rivalry}
+use Rattle.tenancy_rules.specs.Occupancy.{occupied_unit_on, is_one_unit, have_one_unit_on, is_rival_on, first_rival_on, first_day_before, first_rivalry}
 use Rattle.tenancy_rules.specs.Law.{NoUnitHasTwo, DoubleUseHasTwo}
 use Rattle.tenancy_rules.proofs.Rivals.{first_before-is}
 
@@ -18,11 +18,11 @@ module _ (is_rival : ℕ → ℕ → Bool) (count end : ℕ) where
   rival_on day = first_rival_on is_rival count day
 
   -- where no rivalry is found there is none
-  none_found : first_rivalry is_rival count end ≡ None → (other day : ℕ) → 1 ≤ other → other ≤ count → day < end → is_rival day other ≡ false
+  none_found : first_rivalry is_rival count end ≡ None → (other day : ℕ) → 1 ≤ other → other ≤ count → day < end → is_rival other day ≡ false
   none_found none other day one most before =
       by_found (first_day_before end (λ d. is_some (rival_on d))) (first_before-is end (λ d. is_some (rival_on d))) none
     where
-      by_rival : (rival : Option ℕ) → IsFirst (is_rival day) 1 count rival → is_some rival ≡ false → is_rival day other ≡ false
+      by_rival : (rival : Option ℕ) → IsFirst (λ o. is_rival o day) 1 count rival → is_some rival ≡ false → is_rival other day ≡ false
       by_rival None fails is = fails other one (omega (arith, most))
       by_rival (Some rival) first is = absurd (true≢false is)
 
@@ -31,26 +31,26 @@ module _ (is_rival : ℕ → ℕ → Bool) (count end : ℕ) where
       nobody (Some rival) d is none' = cc
 
       by_found : (found : Option ℕ) → IsFirst (λ d. is_some (rival_on d)) 0 end found →
-          option_and_then (λ d. option_map {U = ℕ × ℕ} (λ o. (o, d)) (rival_on d)) found ≡ None → is_rival day other ≡ false
-      by_found None fails none' = by_rival (rival_on day) (first-is (is_rival day) 1 count) (fails day (omega arith) (omega (arith, before)))
+          option_and_then (λ d. option_map {U = ℕ × ℕ} (λ o. (o, d)) (rival_on d)) found ≡ None → is_rival other day ≡ false
+      by_found None fails none' = by_rival (rival_on day) (first-is (λ o. is_rival o day) 1 count) (fails day (omega arith) (omega (arith, before)))
       by_found (Some d) (from, to, is, earlier) none' = absurd (nobody (rival_on d) d is none')
 
   -- the rivalry that is found is one
-  rival_found : (other day : ℕ) → first_rivalry is_rival count end ≡ Some (other, day) → (day < end) × (is_rival day other ≡ true)
+  rival_found : (other day : ℕ) → first_rivalry is_rival count end ≡ Some (other, day) → (day < end) × (is_rival other day ≡ true)
   rival_found other day some =
       by_found (first_day_before end (λ d. is_some (rival_on d))) (first_before-is end (λ d. is_some (rival_on d))) some
     where
-      by_rival : (d : ℕ) → d < end → (rival : Option ℕ) → IsFirst (is_rival d) 1 count rival → option_map {U = ℕ × ℕ} (λ o. (o, d)) rival ≡ Some (other, day) →
-          (day < end) × (is_rival day other ≡ true)
+      by_rival : (d : ℕ) → d < end → (rival : Option ℕ) → IsFirst (λ o. is_rival o d) 1 count rival → option_map {U = ℕ × ℕ} (λ o. (o, d)) rival ≡ Some (other, day) →
+          (day < end) × (is_rival other day ≡ true)
       by_rival d before None fails some' = absurd (cc)
       by_rival d before (Some rival) (from, to, is, earlier) some' =
           let parts = some_pair_parts rival other d day some' in
-          (subst (λ (n : ℕ). n < end) parts.1 before, subst (λ (n : ℕ). is_rival n other ≡ true) parts.1 (subst (λ (n : ℕ). is_rival d n ≡ true) parts.0 is))
+          (subst (λ (n : ℕ). n < end) parts.1 before, subst (λ (n : ℕ). is_rival other n ≡ true) parts.1 (subst (λ (n : ℕ). is_rival n d ≡ true) parts.0 is))
 
       by_found : (found : Option ℕ) → IsFirst (λ d. is_some (rival_on d)) 0 end found →
-          option_and_then (λ d. option_map {U = ℕ × ℕ} (λ o. (o, d)) (rival_on d)) found ≡ Some (other, day) → (day < end) × (is_rival day other ≡ true)
+          option_and_then (λ d. option_map {U = ℕ × ℕ} (λ o. (o, d)) (rival_on d)) found ≡ Some (other, day) → (day < end) × (is_rival other day ≡ true)
       by_found None fails some' = absurd (cc)
-      by_found (Some d) (from, to, is, earlier) some' = by_rival d (omega (arith, to)) (rival_on d) (first-is (is_rival d) 1 count) some'
+      by_found (Some d) (from, to, is, earlier) some' = by_rival d (omega (arith, to)) (rival_on d) (first-is (λ o. is_rival o d) 1 count) some'
 
 -- two that have one unit
 both_have : (own other : Option ℕ) → is_one_unit own other ≡ true → (unit : ℕ) × (own ≡ Some unit) × (other ≡ Some unit)
@@ -59,7 +59,7 @@ both_have (Some unit) None is = absurd (false≢true is)
 both_have (Some unit) (Some other) is = (unit, refl, ap (λ (n : ℕ). Some n) (sym (eqb-true unit other is)))
 
 pub no_unit_has_two : NoUnitHasTwo
-unfolding shares_unit_on
+unfolding is_rival_on
 no_unit_has_two households household change none other day unit one most another by own_has other_has =
     let own : List Record = changed_records (records_of households household) change in
     let others : List Record = live_records (records_of households other) in
@@ -69,7 +69,7 @@ no_unit_has_two households household change none other day unit one most another
     false≢true (sym fails ∙ and_from (not (other == household)) (have_one_unit_on own others day) (not_from_false (other == household) apart) shared)
 
 pub double_use_has_two : DoubleUseHasTwo
-unfolding shares_unit_on
+unfolding is_rival_on
 double_use_has_two households household change other day some =
     let found = rival_found (is_rival_on households household change) (length households) 80354 other day some in
     let parts = and_parts (not (other == household)) (have_one_unit_on (changed_records (records_of households household) change) (live_records (records_of households other)) day) found.1 in

@@ -11,4 +11,4 @@ sooner_beginning passes end first r = if nat_lt r.from (unwrap_or first end) && 
 -- the household and the first day on which it is a rival, where that comes before the day so far, or else before the end
 abbrev pub sooner_rivalry : (ℕ → ℕ → Bool) → ℕ → Option (ℕ × ℕ) → ℕ → Option (ℕ × ℕ)
 sooner_rivalry is_rival end first other =
-    option_map_or (λ day. Some (other, day)) (first_day_before (option_map_or (λ rivalry. rivalry.1) first end) (λ day. is_rival day other)) first
+    option_map_or (λ day. Some (other, day)) (first_day_before (option_map_or (λ rivalry. rivalry.1) first end) (is_rival other)) first

@@ -28,18 +28,15 @@ is_one_unit (Some unit) (Some other) = unit == other
 abbrev pub have_one_unit_on : List Record → List Record → ℕ → Bool
 have_one_unit_on records others day = is_one_unit (occupied_unit_on records day) (occupied_unit_on others day)
 
--- this household would have one unit with the other on the day, after the change
-unfoldable pub shares_unit_on : List (List Record) → ℕ → Change → ℕ → ℕ → Bool
-shares_unit_on households household change other day =
-    have_one_unit_on (changed_records (records_of households household) change) (live_records (records_of households other)) day
-
--- the other household is another, and they would have one unit on the day
-abbrev pub is_rival_on : List (List Record) → ℕ → Change → ℕ → ℕ → Bool
-is_rival_on households household change day other = not (other == household) && shares_unit_on households household change other day
+-- the other household is another, and they would have one unit on the day, after the change of this one
+unfoldable pub is_rival_on : List (List Record) → ℕ → Change → ℕ → ℕ → Bool
+is_rival_on households household change other day =
+    not (other == household)
+    && have_one_unit_on (changed_records (records_of households household) change) (live_records (records_of households other)) day
 
 -- the first of so many households that is a rival on the day
 abbrev pub first_rival_on : (ℕ → ℕ → Bool) → ℕ → ℕ → Option ℕ
-first_rival_on is_rival count day = find (is_rival day) (range_with_len 1 count)
+first_rival_on is_rival count day = find (λ other. is_rival other day) (range_with_len 1 count)
 
 -- the first day, from 1880-01-01 on, that passes and comes before the end
 unfoldable pub first_day_before : ℕ → (ℕ → Bool) → Option ℕ

@@ -2,10 +2,10 @@
 
 ghost use Rattle.std.specs.Prelude.{◌≡◌, ◌+◌, option_copied, option_and_then, fold, nat_le, filter};
 ghost use Rattle.std.specs.Option.{option_map_or};
-ghost use Rattle.record_history.specs.Records.{latest};
+ghost use Rattle.record_history.specs.Records.{latest, live_records};
 ghost use Rattle.record_history.specs.Held.{records_of};
 ghost use Rattle.tenancy_rules.specs.Changed.{changed_records, AddsNext};
-ghost use Rattle.tenancy_rules.specs.Occupancy.{unit_kept, is_one_unit, shares_unit_on, is_rival_on, first_day_before, first_double_use};
+ghost use Rattle.tenancy_rules.specs.Occupancy.{unit_kept, is_one_unit, have_one_unit_on, is_rival_on, first_day_before, first_double_use};
 ghost use Rattle.tenancy_rules.specs.Beginnings.{sooner_beginning, sooner_rivalry};
 
 use crate::Change;
@@ -49,21 +49,18 @@ impl Pair<'_> {
     fn sooner_rivalry(&self, first: Option<(u32, Day)>) -> Option<(u32, Day)>
         ensures { result ≡ sooner_rivalry (is_rival_on self.now.history.now.households self.now.household self.now.change.now) 80354 first self.now.other }
     {
-        if self.other == self.household {
-            return first;
-        }
         match self.first_day(end_of(&first)) {
             Some(day) => Some((self.other, day)),
             None => first,
         }
     }
 
-    /// The first day on which both have one unit, of the days before the end.
+    /// The first day on which the other is a rival, of the days before the end.
     ///
-    /// That changes only on days on which a record of either begins. One that doesn't count does no harm here: on its
-    /// day the households have one unit or not, as on any other.
+    /// Whether it is one changes only on days on which a record of either begins. A record that doesn't count does no
+    /// harm here: its day is tested as any other.
     fn first_day(&self, end: u32) -> Option<Day>
-        ensures { result ≡ first_day_before end (shares_unit_on self.now.history.now.households self.now.household self.now.change.now self.now.other) }
+        ensures { result ≡ first_day_before end (is_rival_on self.now.history.now.households self.now.household self.now.change.now self.now.other) }
     {
         let first = self.first_beginning(end, None, self.history.records(self.household));
         let first = self.first_beginning(end, first, self.history.records(self.other));
@@ -74,7 +71,7 @@ impl Pair<'_> {
     }
 
     fn first_beginning(&self, end: u32, first: Option<Day>, records: &[Record]) -> Option<Day>
-        ensures { result ≡ fold (sooner_beginning (shares_unit_on self.now.history.now.households self.now.household self.now.change.now self.now.other) end) first records.now }
+        ensures { result ≡ fold (sooner_beginning (is_rival_on self.now.history.now.households self.now.household self.now.change.now self.now.other) end) first records.now }
     {
         let mut first = first;
         for held in records {
@@ -84,25 +81,29 @@ impl Pair<'_> {
     }
 
     fn sooner_beginning(&self, end: u32, first: Option<Day>, held: &Record) -> Option<Day>
-        ensures { result ≡ sooner_beginning (shares_unit_on self.now.history.now.households self.now.household self.now.change.now self.now.other) end first held.now }
+        ensures { result ≡ sooner_beginning (is_rival_on self.now.history.now.households self.now.household self.now.change.now self.now.other) end first held.now }
     {
         let end = match first {
             Some(first) => first.number(),
             None => end,
         };
-        let is_sooner = held.from.number() < end && self.have_one_unit_on(held.from);
+        let is_sooner = held.from.number() < end && self.is_rival_on(held.from);
         if is_sooner { Some(held.from) } else { first }
     }
 
-    #[tactic(auto, unfolding(crate::specs::Occupancy::shares_unit_on))]
+    #[tactic(auto, unfolding(crate::specs::Occupancy::is_rival_on))]
+    fn is_rival_on(&self, day: Day) -> bool
+        ensures { result ≡ is_rival_on self.now.history.now.households self.now.household self.now.change.now self.now.other day }
+    {
+        self.other != self.household && self.have_one_unit_on(day)
+    }
+
     fn have_one_unit_on(&self, day: Day) -> bool
-        ensures { result ≡ shares_unit_on self.now.history.now.households self.now.household self.now.change.now self.now.other day }
+        ensures { result ≡ have_one_unit_on (changed_records (records_of self.now.history.now.households self.now.household) self.now.change.now) (live_records (records_of self.now.history.now.households self.now.other)) day }
     {
         let own = changed_in_force(self.history.records(self.household), self.change, day);
-        is_one_unit(
-            unit_kept(own),
-            unit_kept(self.history.in_force(self.other, day)),
-        )
+        let others = self.history.in_force(self.other, day);
+        is_one_unit(unit_kept(own), unit_kept(others))
     }
 }
 
