@@ -16,8 +16,9 @@ use record_history::{History, Kind, Record};
 /// How many days there are from 1880-01-01 through 2099-12-31.
 const DAYS: u32 = 80_354;
 
-/// The first day through 2099-12-31 on which one unit would have the household and another, after the change, and the
-/// least of such others on that day.
+/// The first day through 2099-12-31 on which one unit would have the household and another after the change, with the
+/// least of such others on that day; None where there is no such day. Own rule: a household has the unit of its record in
+/// force, unless that is a move-out.
 pub fn double_use(history: &History, household: u32, change: &Change) -> Option<(u32, Day)>
     requires next { AddsNext (records_of history.now.households household) household change.now }
     ensures { result ≡ first_double_use history.now.households household change.now }

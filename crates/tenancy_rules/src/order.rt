@@ -10,8 +10,10 @@ use crate::Change;
 use crate::changed::{comes_before, is_kept, latest_before};
 use record_history::{History, Kind, Record};
 
-/// The number of the first record that would be out of order after the change, where the live records of the household
-/// stand in the order of their first days and of their numbers.
+/// The number of the first record that would be out of order after the change, and None where none would be.
+///
+/// The live records of a household stand in the order of their first days, and those of one day in that of their numbers.
+/// Which may follow which are own rules, for the certifications of Handbook 4350.3 REV-1, chapters 5 and 7.
 pub fn order_fault(history: &History, household: u32, change: &Change) -> Option<u32>
     requires next { AddsNext (records_of history.now.households household) household change.now }
     ensures value { result ≡ option_map (λ r. r.number) (first_out_of_order (changed_records (records_of history.now.households household) change.now)) }
