@@ -50,7 +50,6 @@ what_is_left a b c e = omega arith
 pub run_is : (amount first last days : ℕ) → 0 < days → 1 ≤ first → first ≤ last →
     share_to amount last days - share_to amount (first - 1) days ≡ run_share amount first last days
 run_is amount first last days some low order =
-    let taken : ℕ → ℕ = λ day. share_to amount day days in
     let begin : first - 1 + 1 ≡ first = omega arith in
     let end : first - 1 + (last + 1 - first) ≡ last = omega arith in
     what_is_left (share_to amount (first - 1) days) (run_share amount first last days) (share_to amount last days)

@@ -1,0 +1,25 @@
+-- What closings keep: the lines total what is certified, and each line names its records.
+use Rattle.std.specs.Prelude.{ℕ, ◌+◌, ◌<◌, ◌≤◌, ◌≡◌, ◌≢◌, ℤ, pos, ◌-ℤ◌, List, [], ◌++◌, All, filter, find, ◌==◌, if◌then◌else◌}
+use Rattle.record_history.specs.declared.records.Record.{Record}
+use Rattle.record_history.specs.Records.{as_of}
+use Rattle.voucher_core.specs.declared.line.Line.{Line}
+use Rattle.voucher_core.specs.Certified.{certified_amount}
+use Rattle.voucher_core.specs.Lines.{closing_lines, placed, paid}
+
+-- The lines pay each household for each month, from the first to the one before the next, what it was certified for as
+-- of the act, and nothing for any other month.
+pub record IsSettled (own : ℕ → List Record) (first_month next act : ℕ) (lines : List Line) : Type 0 where
+  pub months : (household month : ℕ) → 1 ≤ household → first_month ≤ month → month < next →
+      paid household month lines ≡ pos (certified_amount (as_of act (own household)) month)
+  pub earlier : All (λ l. first_month ≤ l.for_month) lines
+  pub later : All (λ l. l.for_month < next) lines
+
+-- The law of one closing: where the lines were settled up to the closed month as of the last closing, they are settled
+-- through it as of this act once the lines of this closing stand after them.
+abbrev pub ClosingSettles : Type 0
+ClosingSettles = (own : ℕ → List Record) (count : ℕ) (lines : List Line) (first_month closed last_close act place : ℕ) →
+    ((household : ℕ) → count < household → own household ≡ []) →
+    first_month ≤ closed →
+    (last_close ≡ 0 → closed ≡ first_month) →
+    IsSettled own first_month closed last_close lines →
+    IsSettled own first_month (closed + 1) act (lines ++ placed place (closing_lines own count closed first_month last_close act))

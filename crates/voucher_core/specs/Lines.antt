@@ -1,0 +1,95 @@
+-- The lines of a closing (form HUD-52670 in outline; the layout of a line is an own rule).
+--
+-- `own` gives each household all its records, and households have the numbers from 1 to the count.
+use Rattle.std.specs.Prelude.{ℕ, ◌+◌, ◌-◌, ◌==◌, ◌&&◌, ℤ, pos, ◌+ℤ◌, ◌-ℤ◌, not, Bool, if◌then◌else◌, List, [], ◌∷◌, ◌++◌, map, filter, Option, Some, None}
+use Rattle.std.specs.List.{range_with_len, flat_map}
+use Rattle.std.specs.Ordering.{int_eq}
+use Rattle.days_core.specs.Calendar.{days_in}
+use Rattle.record_history.specs.declared.records.Record.{Record}
+use Rattle.record_history.specs.declared.stretch.Stretch.{Stretch}
+use Rattle.record_history.specs.Records.{as_of}
+use Rattle.record_history.specs.Runs.{number_on}
+use Rattle.record_history.specs.Stretch.{stretches}
+use Rattle.share_rules.specs.Shares.{run_share}
+use Rattle.voucher_core.specs.declared.changes.InForce.{InForce}
+use Rattle.voucher_core.specs.declared.changes.Change.{Change}
+use Rattle.voucher_core.specs.declared.line.Line.{Line}
+use Rattle.voucher_core.specs.Certified.{assistance_on, day_at}
+
+-- the number and the assistance of the record in force on the day, and 0 and 0 where none is
+abbrev pub force_on : List Record → ℕ → InForce
+force_on records day = record { number = number_on records day; assistance = assistance_on records day }
+
+-- what is in force on the day by the old records, and by the new ones
+abbrev pub change_on : List Record → List Record → ℕ → Change
+change_on old new day = record { old = force_on old day; new = force_on new day }
+
+abbrev pub is_same_force : InForce → InForce → Bool
+is_same_force a b = a.number == b.number && a.assistance == b.assistance
+
+abbrev pub is_same_change : Change → Change → Bool
+is_same_change a b = is_same_force a.old b.old && is_same_force a.new b.new
+
+-- the longest runs of days of the month with one old and one new record in force, the days by their places from 1
+abbrev pub changes : List Record → List Record → ℕ → List (Stretch Change)
+changes old new month = stretches is_same_change (λ place. change_on old new (day_at month place)) 1 (days_in month)
+
+-- the shares of the run's days by the new record, less those by the old one
+abbrev pub difference : ℕ → Stretch Change → ℤ
+difference month run =
+    pos (run_share run.key.new.assistance run.first run.last (days_in month)) -ℤ pos (run_share run.key.old.assistance run.first run.last (days_in month))
+
+-- the line of a run, without its place
+abbrev pub line_of : ℕ → ℕ → ℕ → ℕ → Stretch Change → Line
+line_of act closed household month run =
+    record {
+      act = act;
+      place = 0;
+      month = closed;
+      household = household;
+      for_month = month;
+      first = day_at month run.first;
+      last = day_at month run.last;
+      old = run.key.old.number;
+      new = run.key.new.number;
+      amount = difference month run;
+    }
+
+-- the lines of one household for one month: a run whose difference is 0 has none
+abbrev pub month_lines : ℕ → ℕ → ℕ → ℕ → List Record → List Record → List Line
+month_lines act closed household month old new =
+    filter (λ l. not (int_eq l.amount (pos 0))) (map (line_of act closed household month) (changes old new month))
+
+-- the records known at the last closing where it paid for the month, and none where no closing did
+abbrev pub known_before : Option ℕ → List Record → List Record
+known_before None records = []
+known_before (Some last_close) records = as_of last_close records
+
+-- the lines of all households for one month
+abbrev pub lines_for : (ℕ → List Record) → ℕ → ℕ → ℕ → Option ℕ → ℕ → List Line
+lines_for own count act closed before month =
+    flat_map (λ h. month_lines act closed h month (known_before before (own h)) (as_of act (own h))) (range_with_len 1 count)
+
+-- The lines of a closing: for each month that was closed before, what has changed since the last closing, and then the
+-- closed month. The act of the last closing is 0 where there was none.
+abbrev pub closing_lines : (ℕ → List Record) → ℕ → ℕ → ℕ → ℕ → ℕ → List Line
+closing_lines own count closed first_month last_close act =
+    (if last_close == 0 then [] else flat_map (lines_for own count act closed (Some last_close)) (range_with_len first_month (closed - first_month)))
+    ++ lines_for own count act closed None closed
+
+-- the lines with their places, from this one on
+abbrev pub placed : ℕ → List Line → List Line
+placed place [] = []
+placed place (l ∷ lines) = record l { place = place } ∷ placed (place + 1) lines
+
+abbrev pub is_for : ℕ → ℕ → Line → Bool
+is_for household month l = l.household == household && l.for_month == month
+
+-- what lines amount to together
+abbrev pub total : List Line → ℤ
+total [] = pos 0
+total (l ∷ lines) = l.amount +ℤ total lines
+
+-- what lines pay for a household and month
+abbrev pub paid : ℕ → ℕ → List Line → ℤ
+paid household month lines = total (filter (is_for household month) lines)

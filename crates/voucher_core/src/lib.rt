@@ -1,0 +1,9 @@
+//! What the office claims for its households, month by month: the lines of each closing.
+#![tactic(auto)]
+
+mod changes;
+mod laws;
+mod line;
+
+pub use laws::one_closing_settles;
+pub use line::Line;
