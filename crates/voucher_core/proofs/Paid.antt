@@ -159,9 +159,9 @@ all_pieces P f a (suc n) each =
     All-append P (f a) (flat_map f (range_with_len (a + 1) n)) (let low : a ≤ a = omega arith in let high : a < a + suc n = omega arith in each a low high)
     (all_pieces P f (a + 1) n (λ k low high. (let low' : a ≤ k = omega arith in let high' : k < a + suc n = omega arith in each k low' high')))
 
--- places change nothing of what is true of the months
-pub all_placed : (P : ℕ → Type 0) (place : ℕ) (lines : List Line) → All (λ l. P l.for_month) lines → All (λ l. P l.for_month) (placed place lines)
-all_placed P place [] all = All-nil (λ (l : Line). P l.for_month)
-all_placed P place (l ∷ lines) all =
-    All-cons (λ (k : Line). P k.for_month) (record l { place = place }) (placed (place + 1) lines) (All-head (λ (k : Line). P k.for_month) l lines all)
-    (all_placed P (place + 1) lines (All-tail (λ (k : Line). P k.for_month) l lines all))
+-- what is true of a line at each place is true of lines with their places
+pub all_placed : (P : Line → Type 0) → ((l : Line) (place : ℕ) → P l → P (record l { place = place })) → (place : ℕ) (lines : List Line) → All P lines → All P (placed place lines)
+all_placed P moves place [] all = All-nil P
+all_placed P moves place (l ∷ lines) all =
+    All-cons P (record l { place = place }) (placed (place + 1) lines) (moves l place (All-head P l lines all))
+    (all_placed P moves (place + 1) lines (All-tail P l lines all))

@@ -1,10 +1,11 @@
 -- The law of one closing.
 use Rattle.std.proofs.Common.{◌≡◌, ◌⊎◌, inl, inr, ℕ, zero, suc, ◌+◌, ◌-◌, ◌*◌, ◌/◌, ◌<◌, ◌≤◌, List, [], ◌∷◌, ◌++◌, ℤ, pos, ◌+ℤ◌, ◌-ℤ◌, Bool, true, false, refl, ap, sym, ◌∙◌, subst, arith}
-use Rattle.std.specs.Prelude.{All, get_or, Option, Some, None, sum_by, ◌==◌, if◌then◌else◌}
+use Rattle.std.specs.Prelude.{All, get_or, nat_le, Option, Some, None, sum_by, ◌==◌, if◌then◌else◌}
 use Rattle.std.specs.List.{range_with_len, flat_map}
 use Rattle.std.proofs.lemmas.Int.{ints}
-use Rattle.std.proofs.lemmas.Bool.{cases_lt, cases_eq, eqb-true}
-use Rattle.std.proofs.lemmas.List.Elements.{All-append, All-nil}
+use Rattle.std.proofs.lemmas.Bool.{cases_lt, eqb-true, lt-leb}
+use Rattle.std.proofs.lemmas.List.Elements.{All-append, All-nil, All-head, All-tail, filter-append}
+use Rattle.std.proofs.lemmas.List.{append-nil}
 use Rattle.std.proofs.lemmas.List.Sums.{sum_by-cons}
 use Rattle.days_core.specs.Calendar.{days_in}
 use Rattle.record_history.specs.declared.records.Record.{Record}
@@ -13,7 +14,7 @@ use Rattle.share_rules.specs.Shares.{day_share}
 use Rattle.voucher_core.specs.declared.line.Line.{Line}
 use Rattle.voucher_core.specs.Certified.{certified_amount, day_at, assistance_on}
 use Rattle.voucher_core.specs.Lines.{month_lines, known_before, lines_for, closing_lines, placed, paid, line_of, changes}
-use Rattle.voucher_core.specs.Law.{IsSettled, ClosingSettles}
+use Rattle.voucher_core.specs.Law.{IsSettled, ClosingSettles, CertifiedStays, SettledStays}
 use Rattle.voucher_core.proofs.Totals.{total_by}
 use Rattle.voucher_core.proofs.Paid.{paid-append, paid-placed, paid_elsewhere, paid_month, paid_other, each_line, paid-flat_map, none_weighs, one_weighs, all_pieces, all_placed}
 
@@ -176,7 +177,35 @@ closing_settles own count lines first_month closed last_close act place past ord
 
     all_new : (P : ℕ → Type 0) → ((month : ℕ) → first_month ≤ month → month < closed + 1 → P month) → All (λ l. P l.for_month) (placed place new_lines)
     all_new P each =
-        all_placed P place new_lines
+        all_placed (λ (l : Line). P l.for_month) (λ l at p. p) place new_lines
         (All-append (λ (l : Line). P l.for_month) before_it (lines_for own count act closed None closed)
         (all_earlier own count act closed first_month last_close P (λ month low high. (let high' : month < closed + 1 = omega arith in each month low high')))
         (all_for own count act closed None closed P (let high : closed < closed + 1 = omega arith in each closed order high)))
+
+-- Later acts ----
+
+unknown : (act : ℕ) (records : List Record) → All (λ r. act < r.act) records → as_of act records ≡ []
+unknown act [] all = refl
+unknown act (r ∷ records) all =
+    let late = All-head (λ (q : Record). act < q.act) r records all in
+    let not_yet : nat_le r.act act ≡ false = lt-leb r.act act late in
+    rw not_yet (unknown act records (All-tail (λ (q : Record). act < q.act) r records all))
+
+-- what is known as of an act stays known
+known_stays : (records more : List Record) (act : ℕ) → All (λ r. act < r.act) more → as_of act (records ++ more) ≡ as_of act records
+known_stays records more act all =
+    filter-append (λ (r : Record). nat_le r.act act) records more ∙ ap (λ (rs : List Record). as_of act records ++ rs) (unknown act more all)
+    ∙ append-nil (as_of act records)
+
+pub certified_stays : CertifiedStays
+certified_stays records more act month all = ap (λ (known : List Record). certified_amount known month) (known_stays records more act all)
+
+pub settled_stays : SettledStays
+settled_stays own more lines first_month next act all settled =
+    record {
+      months = λ household month low from to.
+          settled.months household month low from to
+          ∙ ap (λ (n : ℕ). pos n) (sym (certified_stays (own household) (more household) act month (all household)));
+      earlier = settled.earlier;
+      later = settled.later;
+    }

@@ -16,19 +16,13 @@ begun a b c d p q = omega (arith, ints)
 added : (a b c d e : ℤ) → a ≡ b +ℤ c → b ≡ d → e ≡ c → a ≡ d +ℤ e
 added a b c d e p q r = omega (arith, ints)
 
-module _ {K : Type 0} (same : K → K → Bool) (of_stretch : Stretch K → ℤ) (of_day : ℕ → K → ℤ) where
-  -- a stretch of one day weighs what the day does, and a day more adds its own weight
-  pub record AddsUp : Type 0 where
-    pub one : (day : ℕ) (key : K) → of_stretch (record { first = day; last = day; key = key }) ≡ of_day day key
-    pub more : (s : Stretch K) (day : ℕ) (key : K) → same s.key key ≡ true → s.first ≤ s.last → s.last + 1 ≡ day →
-        of_stretch (record s { last = day }) ≡ of_stretch s +ℤ of_day day key
-
+module _ {K : Type 0} (same : K → K → Bool) where
   -- the newest of the stretches has a day, and ends on the one before the next
-  abbrev EndsBefore : List (Stretch K) → ℕ → Type 0
+  abbrev pub EndsBefore : List (Stretch K) → ℕ → Type 0
   EndsBefore [] next = Unit {0}
   EndsBefore (s ∷ earlier) next = (s.first ≤ s.last) × (s.last + 1 ≡ next)
 
-  ends : (xs : List (Stretch K)) (day : ℕ) (key : K) → EndsBefore xs day → EndsBefore (with_day same xs day key) (day + 1)
+  pub ends : (xs : List (Stretch K)) (day : ℕ) (key : K) → EndsBefore xs day → EndsBefore (with_day same xs day key) (day + 1)
   ends [] day key e = (omega arith, refl)
   ends (s ∷ earlier) day key e = by_key (same s.key key)
     where
@@ -36,7 +30,21 @@ module _ {K : Type 0} (same : K → K → Bool) (of_stretch : Stretch K → ℤ)
       by_key true = (let low = e.0 in let high = e.1 in omega arith, refl)
       by_key false = (omega arith, refl)
 
-  adds : AddsUp → (xs : List (Stretch K)) (day : ℕ) (key : K) → EndsBefore xs day →
+  pub newest_end : (key_on : ℕ → K) (first count : ℕ) → EndsBefore (newest_first same key_on first count) (first + count)
+  newest_end key_on first zero = tt
+  newest_end key_on first (suc count) =
+      let next : first + count + 1 ≡ first + suc count = omega arith in
+      subst (λ (n : ℕ). EndsBefore (newest_first same key_on first (suc count)) n) next
+      (ends (newest_first same key_on first count) (first + count) (key_on (first + count)) (newest_end key_on first count))
+
+module _ {K : Type 0} (same : K → K → Bool) (of_stretch : Stretch K → ℤ) (of_day : ℕ → K → ℤ) where
+  -- a stretch of one day weighs what the day does, and a day more adds its own weight
+  pub record AddsUp : Type 0 where
+    pub one : (day : ℕ) (key : K) → of_stretch (record { first = day; last = day; key = key }) ≡ of_day day key
+    pub more : (s : Stretch K) (day : ℕ) (key : K) → same s.key key ≡ true → s.first ≤ s.last → s.last + 1 ≡ day →
+        of_stretch (record s { last = day }) ≡ of_stretch s +ℤ of_day day key
+
+  adds : AddsUp → (xs : List (Stretch K)) (day : ℕ) (key : K) → EndsBefore same xs day →
       total_by of_stretch (with_day same xs day key) ≡ total_by of_stretch xs +ℤ of_day day key
   adds w [] day key e = begun (of_stretch (record { first = day; last = day; key = key })) (pos 0) (of_day day key) _ (w.one day key) refl
   adds w (s ∷ earlier) day key e = by_key (same s.key key) refl
@@ -49,13 +57,6 @@ module _ {K : Type 0} (same : K → K → Bool) (of_stretch : Stretch K → ℤ)
           (total_by of_stretch earlier) _ (w.more s day key t e.0 e.1) refl refl
       by_key false t = begun (of_stretch (record { first = day; last = day; key = key })) (of_stretch s +ℤ total_by of_stretch earlier) (of_day day key) _ (w.one day key) refl
 
-  newest_end : (key_on : ℕ → K) (first count : ℕ) → EndsBefore (newest_first same key_on first count) (first + count)
-  newest_end key_on first zero = tt
-  newest_end key_on first (suc count) =
-      let next : first + count + 1 ≡ first + suc count = omega arith in
-      subst (λ (n : ℕ). EndsBefore (newest_first same key_on first (suc count)) n) next
-      (ends (newest_first same key_on first count) (first + count) (key_on (first + count)) (newest_end key_on first count))
-
   newest_weigh : AddsUp → (key_on : ℕ → K) (first count : ℕ) →
       total_by of_stretch (newest_first same key_on first count) ≡ total_by (λ day. of_day day (key_on day)) (range_with_len first count)
   newest_weigh w key_on first zero = refl
@@ -63,7 +64,7 @@ module _ {K : Type 0} (same : K → K → Bool) (of_stretch : Stretch K → ℤ)
       added (total_by of_stretch (newest_first same key_on first (suc count))) (total_by of_stretch (newest_first same key_on first count))
       (of_day (first + count) (key_on (first + count))) (total_by (λ day. of_day day (key_on day)) (range_with_len first count))
       (of_day (first + count) (key_on (first + count)) +ℤ pos 0)
-      (adds w (newest_first same key_on first count) (first + count) (key_on (first + count)) (newest_end key_on first count))
+      (adds w (newest_first same key_on first count) (first + count) (key_on (first + count)) (newest_end same key_on first count))
       (newest_weigh w key_on first count) (nothing_last (of_day (first + count) (key_on (first + count))))
       ∙ sym (total_by-append (λ (day : ℕ). of_day day (key_on day)) (range_with_len first count) ((first + count) ∷ []))
       ∙ ap (total_by (λ (day : ℕ). of_day day (key_on day))) (sym (range-more first count))

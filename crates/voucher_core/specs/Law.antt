@@ -23,3 +23,15 @@ ClosingSettles = (own : ℕ → List Record) (count : ℕ) (lines : List Line) (
     (last_close ≡ 0 → closed ≡ first_month) →
     IsSettled own first_month closed last_close lines →
     IsSettled own first_month (closed + 1) act (lines ++ placed place (closing_lines own count closed first_month last_close act))
+
+-- later acts leave what a household was certified for as of an act
+abbrev pub CertifiedStays : Type 0
+CertifiedStays = (records more : List Record) (act month : ℕ) →
+    All (λ r. act < r.act) more → certified_amount (as_of act (records ++ more)) month ≡ certified_amount (as_of act records) month
+
+-- so lines that are settled stay so while later acts add records
+abbrev pub SettledStays : Type 0
+SettledStays = (own more : ℕ → List Record) (lines : List Line) (first_month next act : ℕ) →
+    ((household : ℕ) → All (λ r. act < r.act) (more household)) →
+    IsSettled own first_month next act lines →
+    IsSettled (λ h. own h ++ more h) first_month next act lines

@@ -1,3 +1,4 @@
 pub mod Certified
 pub mod Lines
 pub mod Law
+pub mod Naming

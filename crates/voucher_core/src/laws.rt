@@ -1,6 +1,18 @@
-ghost use Rattle.voucher_core.specs.Law.{ClosingSettles};
+ghost use Rattle.voucher_core.specs.Law.{ClosingSettles, CertifiedStays, SettledStays};
+ghost use Rattle.voucher_core.specs.Naming.{LinesNameTheirPairs};
 
 /// The law of one closing: with its lines, each household has been paid what it is certified for. It does nothing.
 pub fn one_closing_settles()
     ensures { ClosingSettles }
+{}
+
+/// Later acts leave what was certified as of an act, and so what is settled as of it. It does nothing.
+pub fn certified_stays()
+    ensures certified { CertifiedStays }
+    ensures settled { SettledStays }
+{}
+
+/// Each line of a closing names its records on each of its days, and none is for 0. It does nothing.
+pub fn lines_name_their_pairs()
+    ensures { LinesNameTheirPairs }
 {}

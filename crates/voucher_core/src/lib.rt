@@ -5,5 +5,5 @@ mod changes;
 mod laws;
 mod line;
 
-pub use laws::one_closing_settles;
+pub use laws::{certified_stays, lines_name_their_pairs, one_closing_settles};
 pub use line::Line;

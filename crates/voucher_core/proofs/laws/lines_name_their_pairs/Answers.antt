@@ -1,0 +1,4 @@
+use Rattle.voucher_core.proofs.laws.lines_name_their_pairs.Goals as goal
+
+pub returns : goal.returns
+returns c = ?
