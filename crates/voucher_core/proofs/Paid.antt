@@ -6,7 +6,7 @@ use Rattle.std.specs.Ordering.{int_eq}
 use Rattle.std.proofs.lemmas.Int.{ints}
 use Rattle.std.proofs.lemmas.Bool.{cases_eq, ne_eqb}
 use Rattle.std.proofs.lemmas.Bool.Decides.{Decides-int_eq, Decides-eqb}
-use Rattle.std.proofs.lemmas.List.Elements.{filter-append, All-head, All-tail, All-filter, All-map, All-append, All-nil, All-cons}
+use Rattle.std.proofs.lemmas.List.Elements.{filter-append, All-head, All-tail, All-filter, All-map, All-append, All-nil, All-cons, filter_passes}
 use Rattle.record_history.specs.declared.records.Record.{Record}
 use Rattle.record_history.specs.declared.stretch.Stretch.{Stretch}
 use Rattle.voucher_core.specs.declared.changes.Change.{Change}
@@ -107,6 +107,16 @@ pub each_line : (P : Line → Type 0) (act closed household month : ℕ) (old ne
 each_line P act closed household month old new each =
     All-filter (λ (l : Line). not (int_eq l.amount (pos 0))) P (map (line_of act closed household month) (changes old new month))
     (All-map P (line_of act closed household month) (changes old new month) (λ k d within. each (get_or (changes old new month) k d)))
+
+-- where it need be true only of those that aren't for 0
+pub each_passing : (P : Line → Type 0) (act closed household month : ℕ) (old new : List Record) →
+    All (λ run. not (int_eq (difference month run) (pos 0)) ≡ true → P (line_of act closed household month run)) (changes old new month) →
+    All P (month_lines act closed household month old new)
+each_passing P act closed household month old new each = λ k d within.
+    (All-filter (λ (l : Line). not (int_eq l.amount (pos 0))) (λ (l : Line). not (int_eq l.amount (pos 0)) ≡ true → P l)
+      (map (line_of act closed household month) (changes old new month))
+      (All-map (λ (l : Line). not (int_eq l.amount (pos 0)) ≡ true → P l) (line_of act closed household month) (changes old new month) each) k d within
+      (filter_passes (λ (l : Line). not (int_eq l.amount (pos 0))) (map (line_of act closed household month) (changes old new month)) k d within))
 
 -- they pay other households nothing
 pub paid_other : (act closed household other month : ℕ) (old new : List Record) → (household ≡ other → ⊥) →

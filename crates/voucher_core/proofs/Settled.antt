@@ -51,7 +51,7 @@ no_difference a b e f = omega (arith, ints)
 
 module _ (own : ℕ → List Record) (count act closed : ℕ) where
   -- they are all for it
-  all_for : (before : Option ℕ) (month : ℕ) (P : ℕ → Type 0) → P month → All (λ l. P l.for_month) (lines_for own count act closed before month)
+  pub all_for : (before : Option ℕ) (month : ℕ) (P : ℕ → Type 0) → P month → All (λ l. P l.for_month) (lines_for own count act closed before month)
   all_for before month P p =
       all_pieces (λ (l : Line). P l.for_month) (λ (h : ℕ). month_lines act closed h month (known_before before (own h)) (as_of act (own h))) 1 count
       (λ h low high. each_line (λ (l : Line). P l.for_month) act closed h month (known_before before (own h)) (as_of act (own h)) (λ run. p))
@@ -91,19 +91,22 @@ module _ (own : ℕ → List Record) (count act closed : ℕ) where
   -- Lines for the months before ----
 
   module _ (first_month last_close : ℕ) where
-    abbrev earlier_lines : List Line
+    abbrev pub earlier_lines : List Line
     earlier_lines =
         if last_close == 0 then [] else flat_map (lines_for own count act closed (Some last_close)) (range_with_len first_month (closed - first_month))
 
-    all_earlier : (P : ℕ → Type 0) → ((month : ℕ) → first_month ≤ month → month < closed → P month) → All (λ l. P l.for_month) earlier_lines
+    -- what is true of the lines of each month
+    pub all_earlier : (P : Line → Type 0) → ((month : ℕ) → first_month ≤ month → month < closed → All P (lines_for own count act closed (Some last_close) month)) → All P earlier_lines
     all_earlier P each = by_test (last_close == 0)
       where
-        by_test : (test : Bool) →
-            All (λ l. P l.for_month) (if test then [] else flat_map (lines_for own count act closed (Some last_close)) (range_with_len first_month (closed - first_month)))
-        by_test true = All-nil (λ (l : Line). P l.for_month)
+        by_test : (test : Bool) → All P (if test then [] else flat_map (lines_for own count act closed (Some last_close)) (range_with_len first_month (closed - first_month)))
+        by_test true = All-nil P
         by_test false =
-            all_pieces (λ (l : Line). P l.for_month) (lines_for own count act closed (Some last_close)) first_month (closed - first_month)
-            (λ month low high. all_for (Some last_close) month P (let before : month < closed = omega arith in each month low before))
+            all_pieces P (lines_for own count act closed (Some last_close)) first_month (closed - first_month)
+            (λ month low high. (let before : month < closed = omega arith in each month low before))
+
+    pub all_months : (P : ℕ → Type 0) → ((month : ℕ) → first_month ≤ month → month < closed → P month) → All (λ l. P l.for_month) earlier_lines
+    all_months P each = all_earlier (λ (l : Line). P l.for_month) (λ month low high. all_for (Some last_close) month P (each month low high))
 
     paid_earlier : ((household : ℕ) → count < household → own household ≡ []) → (last_close ≡ 0 → closed ≡ first_month) →
         (household month : ℕ) → 1 ≤ household → first_month ≤ month → month < closed →
@@ -172,14 +175,14 @@ closing_settles own count lines first_month closed last_close act place past ord
         (certified_amount (as_of act (own household)) closed) (certified_amount [] closed)
         (paid_elsewhere household closed lines (λ k d within. (let is = settled.later k d within in λ e. (omega arith))))
         (paid_elsewhere household closed before_it
-        (all_earlier own count act closed first_month last_close (λ (m : ℕ). m ≡ closed → ⊥) (λ m low' high e. (omega arith))))
+        (all_months own count act closed first_month last_close (λ (m : ℕ). m ≡ closed → ⊥) (λ m low' high e. (omega arith))))
         (paid_for own count act closed past None household closed low) (none_certified closed))
 
     all_new : (P : ℕ → Type 0) → ((month : ℕ) → first_month ≤ month → month < closed + 1 → P month) → All (λ l. P l.for_month) (placed place new_lines)
     all_new P each =
         all_placed (λ (l : Line). P l.for_month) (λ l at p. p) place new_lines
         (All-append (λ (l : Line). P l.for_month) before_it (lines_for own count act closed None closed)
-        (all_earlier own count act closed first_month last_close P (λ month low high. (let high' : month < closed + 1 = omega arith in each month low high')))
+        (all_months own count act closed first_month last_close P (λ month low high. (let high' : month < closed + 1 = omega arith in each month low high')))
         (all_for own count act closed None closed P (let high : closed < closed + 1 = omega arith in each closed order high)))
 
 -- Later acts ----

@@ -1,0 +1,235 @@
+-- Each line of a closing names its pair.
+use Rattle.std.proofs.Common.{◌≡◌, ◌⊎◌, inl, inr, ℕ, zero, suc, ◌+◌, ◌-◌, ◌<◌, ◌≤◌, List, [], ◌∷◌, length, get_or, ℤ, pos, ◌-ℤ◌, Bool, true, false, Option, Some, None, refl, ap, sym, ◌∙◌, subst, arith}
+use Rattle.std.specs.Prelude.{All, IfSome, find, not, ◌==◌, ◌&&◌, if◌then◌else◌}
+use Rattle.std.specs.Option.{option_map_or}
+use Rattle.std.proofs.lemmas.Bool.{ne_eqb, eqb-true, and_parts}
+use Rattle.std.proofs.lemmas.Bool.Decides.{Decides-eqb, Decides-int_eq}
+use Rattle.days_core.proofs.Bridge.{first_of-suc}
+use Rattle.record_history.specs.declared.records.Record.{Record}
+use Rattle.record_history.specs.Records.{as_of, in_force}
+use Rattle.record_history.specs.Runs.{number_on}
+use Rattle.record_history.specs.Held.{AreNumbered}
+use Rattle.record_history.proofs.Latest.{in_force_is}
+use Rattle.std.specs.Ordering.{int_eq}
+use Rattle.days_core.specs.Calendar.{days_in, first_of, last_of}
+use Rattle.record_history.specs.declared.stretch.Stretch.{Stretch}
+use Rattle.share_rules.specs.Shares.{run_share}
+use Rattle.voucher_core.specs.declared.changes.InForce.{InForce}
+use Rattle.voucher_core.specs.declared.changes.Change.{Change}
+use Rattle.voucher_core.specs.declared.line.Line.{Line}
+use Rattle.voucher_core.specs.Certified.{assistance_on, day_at}
+use Rattle.voucher_core.specs.Lines.{change_on, is_same_force, is_same_change, changes, difference, line_of, month_lines, lines_for, closing_lines, placed}
+use Rattle.voucher_core.specs.Naming.{assistance_of, shares_of, NamesItsPair, NameTheirPairs, LinesNameTheirPairs}
+use Rattle.voucher_core.proofs.Paid.{all_placed, all_pieces, each_passing}
+use Rattle.voucher_core.proofs.Settled.{earlier_lines, all_earlier, all_months, all_for}
+use Rattle.std.proofs.lemmas.List.Elements.{All-append}
+use Rattle.voucher_core.proofs.EachDay.{IsOfItsDays, of_their_days}
+
+-- Numbers lead to records ----
+
+-- records that are numbered from one number on are found by their numbers
+found_after : (n : ℕ) (xs : List Record) → ((place : ℕ) (e : Record) → place < length xs → (get_or xs place e).number ≡ n + place + 1) →
+    (k : ℕ) (d : Record) → k < length xs → (number : ℕ) → number ≡ n + k + 1 → find (λ q. q.number == number) xs ≡ Some (get_or xs k d)
+found_after n [] numbered k d within number is = absurd (omega arith)
+found_after n (x ∷ xs) numbered zero d within number is =
+    let at : x.number ≡ n + zero + 1 = numbered zero d within in
+    let same : x.number ≡ number = omega arith in
+    let yes : (x.number == number) ≡ true = (Decides-eqb x.number number).1 same in
+    rw yes refl
+found_after n (x ∷ xs) numbered (suc k) d within number is =
+    let first : 0 < length (x ∷ xs) = omega arith in
+    let at : x.number ≡ n + zero + 1 = numbered zero d first in
+    let other : (x.number == number) ≡ false = ne_eqb x.number number (λ e. (omega arith)) in
+    rw other
+    (found_after (n + 1) xs
+    (λ place e within'. (let later : suc place < length (x ∷ xs) = omega arith in
+      let there : (get_or xs place e).number ≡ n + suc place + 1 = numbered (suc place) e later in
+      omega arith))
+    k d (let inside : k < length xs = omega arith in inside) number (let moved : number ≡ n + 1 + k + 1 = omega arith in moved))
+
+-- and no record has the number 0
+none_found : (n : ℕ) (xs : List Record) → ((place : ℕ) (e : Record) → place < length xs → (get_or xs place e).number ≡ n + place + 1) → find (λ q. q.number == 0) xs ≡ None
+none_found n [] numbered = refl
+none_found n (x ∷ xs) numbered =
+    let first : 0 < length (x ∷ xs) = omega arith in
+    let at : x.number ≡ n + zero + 1 = numbered zero x first in
+    let other : (x.number == 0) ≡ false = ne_eqb x.number 0 (λ e. (omega arith)) in
+    rw other
+    (none_found (n + 1) xs
+    (λ place e within. (let later : suc place < length (x ∷ xs) = omega arith in
+      let there : (get_or xs place e).number ≡ n + suc place + 1 = numbered (suc place) e later in
+      omega arith)))
+
+module _ (records : List Record) (numbered : AreNumbered records) where
+  from_one : (place : ℕ) (e : Record) → place < length records → (get_or records place e).number ≡ 0 + place + 1
+  from_one place e within = let at = numbered.number place e within in omega arith
+
+  -- each record is found by its own number
+  lead_back : All (λ r. find (λ q. q.number == r.number) records ≡ Some r) records
+  lead_back k d within = found_after 0 records from_one k d within (get_or records k d).number (from_one k d within)
+
+  no_assistance : assistance_of records 0 ≡ 0
+  no_assistance = ap (λ (o : Option Record). option_map_or (λ r. r.assistance) o 0) (none_found 0 records from_one)
+
+  of_force : (o : Option Record) → IfSome o (λ r. find (λ q. q.number == r.number) records ≡ Some r) →
+      assistance_of records (option_map_or (λ r. r.number) o 0) ≡ option_map_or (λ r. r.assistance) o 0
+  of_force None found = no_assistance
+  of_force (Some r) found = ap (λ (o : Option Record). option_map_or (λ r. r.assistance) o 0) found
+
+  -- so the number of the record in force leads to its assistance
+  leads : (act day : ℕ) → assistance_of records (number_on (as_of act records) day) ≡ assistance_on (as_of act records) day
+  leads act day =
+      of_force (in_force (as_of act records) day) (in_force_is (λ (r : Record). find (λ q. q.number == r.number) records ≡ Some r) records act day lead_back)
+
+-- One line ----
+
+same_force : (a b : InForce) → is_same_force a b ≡ true → a ≡ b
+same_force a b e =
+    let both = and_parts (a.number == b.number) (a.assistance == b.assistance) e in
+    ap (λ (n : ℕ). record { number = n; assistance = a.assistance }) (eqb-true a.number b.number both.0)
+    ∙ ap (λ (n : ℕ). record { number = b.number; assistance = n }) (eqb-true a.assistance b.assistance both.1)
+
+pub same_change : (a b : Change) → is_same_change a b ≡ true → a ≡ b
+same_change a b e =
+    let both = and_parts (is_same_force a.old b.old) (is_same_force a.new b.new) e in
+    ap (λ (f : InForce). record { old = f; new = a.new }) (same_force a.old b.old both.0)
+    ∙ ap (λ (f : InForce). record { old = b.old; new = f }) (same_force a.new b.new both.1)
+
+-- each change of a month lasts over days of it, and is that of each of them
+pub changes_of_days : (old new : List Record) (month : ℕ) →
+    All (IsOfItsDays (λ place. change_on old new (day_at month place)) 1 (1 + days_in month)) (changes old new month)
+changes_of_days old new month = of_their_days is_same_change same_change (λ (place : ℕ). change_on old new (day_at month place)) 1 (days_in month)
+
+module _ (records before now : List Record)
+    (old_leads : (day : ℕ) → assistance_of records (number_on before day) ≡ assistance_on before day)
+    (new_leads : (day : ℕ) → assistance_of records (number_on now day) ≡ assistance_on now day)
+    (act closed household month : ℕ) where
+  -- the line of a change that isn't for 0 names its pair
+  line_names : (run : Stretch Change) → IsOfItsDays (λ place. change_on before now (day_at month place)) 1 (1 + days_in month) run →
+      not (int_eq (difference month run) (pos 0)) ≡ true → NamesItsPair records before now (line_of act closed household month run)
+  line_names run is passes = record {
+    from = omega arith;
+    in_order = (let order = is.in_order in omega arith);
+    to = (let next = first_of-suc month in let high = is.to in let low = is.from in let order = is.in_order in omega arith);
+    old = λ day low high. ap (λ (c : Change). c.old.number) (on_day day low high);
+    new = λ day low high. ap (λ (c : Change). c.new.number) (on_day day low high);
+    amount =
+      ap (λ (n : ℕ). pos n -ℤ pos (run_share run.key.old.assistance run.first run.last (days_in month)))
+          (shared run.key.new.assistance (assistance_of records run.key.new.number) (sym new_found))
+      ∙ ap (λ (n : ℕ). pos (shares_of records run.key.new.number (line_of act closed household month run)) -ℤ pos n)
+          (shared run.key.old.assistance (assistance_of records run.key.old.number) (sym old_found));
+    not_for_nothing = λ none. (let test = (Decides-int_eq (difference month run) (pos 0)).1 none in let passed = rw test at passes in cc);
+  }
+    where
+      on_day : (day : ℕ) → day_at month run.first ≤ day → day ≤ day_at month run.last → run.key ≡ change_on before now day
+      on_day day low high =
+          let one = is.from in let order = is.in_order in
+          let place : first_of month + (day + 1 - first_of month - 1) ≡ day = omega arith in
+          is.key (day + 1 - first_of month) (let from : run.first ≤ day + 1 - first_of month = omega arith in from)
+          (let to : day + 1 - first_of month ≤ run.last = omega arith in to)
+          ∙ ap (change_on before now) place
+
+      first_day : run.key ≡ change_on before now (day_at month run.first)
+      first_day = is.key run.first (let low : run.first ≤ run.first = omega arith in low) is.in_order
+
+      new_found : assistance_of records run.key.new.number ≡ run.key.new.assistance
+      new_found =
+          ap (λ (c : Change). assistance_of records c.new.number) first_day ∙ new_leads (day_at month run.first)
+          ∙ sym (ap (λ (c : Change). c.new.assistance) first_day)
+
+      old_found : assistance_of records run.key.old.number ≡ run.key.old.assistance
+      old_found =
+          ap (λ (c : Change). assistance_of records c.old.number) first_day ∙ old_leads (day_at month run.first)
+          ∙ sym (ap (λ (c : Change). c.old.assistance) first_day)
+
+      shared : (amount same : ℕ) → amount ≡ same →
+          run_share amount run.first run.last (days_in month)
+          ≡ run_share same (day_at month run.first + 1 - first_of month) (day_at month run.last + 1 - first_of month) (days_in month)
+      shared amount same e =
+          let low = is.from in let order = is.in_order in
+          let first : run.first ≡ day_at month run.first + 1 - first_of month = omega arith in
+          let last : run.last ≡ day_at month run.last + 1 - first_of month = omega arith in
+          ap (λ (n : ℕ). run_share n run.first run.last (days_in month)) e ∙ ap (λ (d : ℕ). run_share same d run.last (days_in month)) first
+          ∙ ap (λ (d : ℕ). run_share same (day_at month run.first + 1 - first_of month) d (days_in month)) last
+
+  -- and so do all lines of a month
+  month_names : All (λ run. not (int_eq (difference month run) (pos 0)) ≡ true → NamesItsPair records before now (line_of act closed household month run)) (changes before now month)
+  month_names k d within passes = line_names (get_or (changes before now month) k d) (changes_of_days before now month k d within) passes
+
+-- All lines ----
+
+-- a place more or less changes nothing of it
+moved : (records before now : List Record) (l : Line) (place : ℕ) → NamesItsPair records before now l → NamesItsPair records before now (record l { place = place })
+moved records before now l place names = record {
+  from = names.from;
+  in_order = names.in_order;
+  to = names.to;
+  old = names.old;
+  new = names.new;
+  amount = names.amount;
+  not_for_nothing = names.not_for_nothing;
+}
+
+module _ (own : ℕ → List Record) (count closed first_month last_close act place : ℕ) (numbered : (household : ℕ) → AreNumbered (own household)) where
+  abbrev NamedEarlier : Line → Type 0
+  NamedEarlier l = l.for_month < closed → NamesItsPair (own l.household) (as_of last_close (own l.household)) (as_of act (own l.household)) l
+
+  abbrev NamedNow : Line → Type 0
+  NamedNow l = l.for_month ≡ closed → NamesItsPair (own l.household) [] (as_of act (own l.household)) l
+
+  abbrev before_it : List Line
+  before_it = earlier_lines own count act closed first_month last_close
+
+  abbrev of_it : List Line
+  of_it = lines_for own count act closed None closed
+
+  in_place : (P : Line → Type 0) → ((l : Line) (at : ℕ) → P l → P (record l { place = at })) → All P before_it → All P of_it →
+      All P (placed place (closing_lines own count closed first_month last_close act))
+  in_place P moves earlier now = all_placed P moves place (closing_lines own count closed first_month last_close act) (All-append P before_it of_it earlier now)
+
+  are_before : All (λ l. l.for_month < closed) before_it
+  are_before = all_months own count act closed first_month last_close (λ (m : ℕ). m < closed) (λ m low high. high)
+
+  are_of_it : All (λ l. l.for_month ≡ closed) of_it
+  are_of_it = all_for own count act closed None closed (λ (m : ℕ). m ≡ closed) refl
+
+  earlier_named : All NamedEarlier before_it
+  earlier_named =
+      all_earlier own count act closed first_month last_close NamedEarlier
+      (λ month from to. all_pieces NamedEarlier (λ (h : ℕ). month_lines act closed h month (as_of last_close (own h)) (as_of act (own h))) 1 count
+        (λ h low high. each_passing NamedEarlier act closed h month (as_of last_close (own h)) (as_of act (own h))
+          (λ k d within passes before.
+            month_names (own h) (as_of last_close (own h)) (as_of act (own h)) (leads (own h) (numbered h) last_close) (leads (own h) (numbered h) act) act closed h month k d
+            within passes)))
+
+  now_named : All NamedNow of_it
+  now_named =
+      all_pieces NamedNow (λ (h : ℕ). month_lines act closed h closed [] (as_of act (own h))) 1 count
+      (λ h low high. each_passing NamedNow act closed h closed [] (as_of act (own h))
+        (λ k d within passes now.
+          month_names (own h) [] (as_of act (own h)) (λ day. no_assistance (own h) (numbered h)) (leads (own h) (numbered h) act) act closed h closed k d within passes))
+
+  all_now : All NamedNow (placed place (closing_lines own count closed first_month last_close act))
+  all_now =
+      in_place NamedNow (λ l at names now. moved (own l.household) [] (as_of act (own l.household)) l at (names now))
+      (λ k d within now. (let before = are_before k d within in absurd (omega arith))) now_named
+
+  pub name_their_pairs : NameTheirPairs own closed last_close act (placed place (closing_lines own count closed first_month last_close act))
+  name_their_pairs = record {
+    months = in_place (λ (l : Line). l.for_month ≤ closed) (λ l at p. p) (λ k d within. (let before = are_before k d within in omega arith))
+        (λ k d within. (let now = are_of_it k d within in omega arith));
+    earlier = in_place NamedEarlier (λ l at names before. moved (own l.household) (as_of last_close (own l.household)) (as_of act (own l.household)) l at (names before))
+        earlier_named (λ k d within before. (let now = are_of_it k d within in absurd (omega arith)));
+    none_before = λ k d within now. old_is_none k d within now;
+    closed_month = all_now;
+  }
+    where
+      old_is_none : All (λ l. l.for_month ≡ closed → l.old ≡ 0) (placed place (closing_lines own count closed first_month last_close act))
+      old_is_none k d within now =
+          let l : Line = get_or (placed place (closing_lines own count closed first_month last_close act)) k d in
+          let names = all_now k d within now in
+          let first : l.first ≤ l.first = omega arith in
+          names.old l.first first names.in_order
+
+pub lines_name_their_pairs : LinesNameTheirPairs
+lines_name_their_pairs = name_their_pairs
