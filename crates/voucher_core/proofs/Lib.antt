@@ -5,3 +5,6 @@ pub mod EachDay
 pub mod Paid
 pub mod Settled
 pub mod Named
+pub mod Usable
+pub mod Gathered
+pub mod Few

@@ -18,10 +18,10 @@ use Rattle.voucher_core.specs.declared.changes.InForce.{InForce}
 use Rattle.voucher_core.specs.declared.changes.Change.{Change}
 use Rattle.voucher_core.specs.declared.line.Line.{Line}
 use Rattle.voucher_core.specs.Certified.{assistance_on, day_at}
-use Rattle.voucher_core.specs.Lines.{change_on, is_same_force, is_same_change, changes, difference, line_of, month_lines, lines_for, closing_lines, placed}
+use Rattle.voucher_core.specs.Lines.{change_on, is_same_force, is_same_change, changes, difference, line_of, month_lines, lines_for, adjustment_lines, closing_lines, placed}
 use Rattle.voucher_core.specs.Naming.{assistance_of, shares_of, NamesItsPair, NameTheirPairs, LinesNameTheirPairs}
 use Rattle.voucher_core.proofs.Paid.{all_placed, all_pieces, each_passing}
-use Rattle.voucher_core.proofs.Settled.{earlier_lines, all_earlier, all_months, all_for}
+use Rattle.voucher_core.proofs.Settled.{all_earlier, all_months, all_for}
 use Rattle.std.proofs.lemmas.List.Elements.{All-append}
 use Rattle.voucher_core.proofs.EachDay.{IsOfItsDays, of_their_days}
 
@@ -178,7 +178,7 @@ module _ (own : ℕ → List Record) (count closed first_month last_close act pl
   NamedNow l = l.for_month ≡ closed → NamesItsPair (own l.household) [] (as_of act (own l.household)) l
 
   abbrev before_it : List Line
-  before_it = earlier_lines own count act closed first_month last_close
+  before_it = adjustment_lines own count act closed first_month last_close
 
   abbrev of_it : List Line
   of_it = lines_for own count act closed None closed

@@ -13,7 +13,7 @@ use Rattle.record_history.specs.Records.{as_of}
 use Rattle.share_rules.specs.Shares.{day_share}
 use Rattle.voucher_core.specs.declared.line.Line.{Line}
 use Rattle.voucher_core.specs.Certified.{certified_amount, day_at, assistance_on}
-use Rattle.voucher_core.specs.Lines.{month_lines, known_before, lines_for, closing_lines, placed, paid, line_of, changes}
+use Rattle.voucher_core.specs.Lines.{month_lines, known_before, lines_for, adjustment_lines, closing_lines, placed, paid, line_of, changes}
 use Rattle.voucher_core.specs.Law.{IsSettled, ClosingSettles, CertifiedStays, SettledStays}
 use Rattle.voucher_core.proofs.Totals.{total_by}
 use Rattle.voucher_core.proofs.Paid.{paid-append, paid-placed, paid_elsewhere, paid_month, paid_other, each_line, paid-flat_map, none_weighs, one_weighs, all_pieces, all_placed}
@@ -91,12 +91,8 @@ module _ (own : ℕ → List Record) (count act closed : ℕ) where
   -- Lines for the months before ----
 
   module _ (first_month last_close : ℕ) where
-    abbrev pub earlier_lines : List Line
-    earlier_lines =
-        if last_close == 0 then [] else flat_map (lines_for own count act closed (Some last_close)) (range_with_len first_month (closed - first_month))
-
     -- what is true of the lines of each month
-    pub all_earlier : (P : Line → Type 0) → ((month : ℕ) → first_month ≤ month → month < closed → All P (lines_for own count act closed (Some last_close) month)) → All P earlier_lines
+    pub all_earlier : (P : Line → Type 0) → ((month : ℕ) → first_month ≤ month → month < closed → All P (lines_for own count act closed (Some last_close) month)) → All P (adjustment_lines own count act closed first_month last_close)
     all_earlier P each = by_test (last_close == 0)
       where
         by_test : (test : Bool) → All P (if test then [] else flat_map (lines_for own count act closed (Some last_close)) (range_with_len first_month (closed - first_month)))
@@ -105,12 +101,12 @@ module _ (own : ℕ → List Record) (count act closed : ℕ) where
             all_pieces P (lines_for own count act closed (Some last_close)) first_month (closed - first_month)
             (λ month low high. (let before : month < closed = omega arith in each month low before))
 
-    pub all_months : (P : ℕ → Type 0) → ((month : ℕ) → first_month ≤ month → month < closed → P month) → All (λ l. P l.for_month) earlier_lines
+    pub all_months : (P : ℕ → Type 0) → ((month : ℕ) → first_month ≤ month → month < closed → P month) → All (λ l. P l.for_month) (adjustment_lines own count act closed first_month last_close)
     all_months P each = all_earlier (λ (l : Line). P l.for_month) (λ month low high. all_for (Some last_close) month P (each month low high))
 
     paid_earlier : ((household : ℕ) → count < household → own household ≡ []) → (last_close ≡ 0 → closed ≡ first_month) →
         (household month : ℕ) → 1 ≤ household → first_month ≤ month → month < closed →
-        paid household month earlier_lines
+        paid household month (adjustment_lines own count act closed first_month last_close)
         ≡ pos (certified_amount (as_of act (own household)) month) -ℤ pos (certified_amount (as_of last_close (own household)) month)
     paid_earlier past first household month low from to = by_test (last_close == 0) refl
       where
@@ -145,7 +141,7 @@ closing_settles own count lines first_month closed last_close act place past ord
     }
   where
     before_it : List Line
-    before_it = earlier_lines own count act closed first_month last_close
+    before_it = adjustment_lines own count act closed first_month last_close
 
     new_lines : List Line
     new_lines = closing_lines own count closed first_month last_close act

@@ -2,3 +2,4 @@ pub mod Certified
 pub mod Lines
 pub mod Law
 pub mod Naming
+pub mod Bounds

@@ -70,12 +70,16 @@ abbrev pub lines_for : (ℕ → List Record) → ℕ → ℕ → ℕ → Option 
 lines_for own count act closed before month =
     flat_map (λ h. month_lines act closed h month (known_before before (own h)) (as_of act (own h))) (range_with_len 1 count)
 
--- The lines of a closing: for each month that was closed before, what has changed since the last closing, and then the
--- closed month. The act of the last closing is 0 where there was none.
+-- The lines for the months that were closed before: what has changed since the last closing. Its act is 0 where there
+-- was none, and then there is no such line.
+abbrev pub adjustment_lines : (ℕ → List Record) → ℕ → ℕ → ℕ → ℕ → ℕ → List Line
+adjustment_lines own count act closed first_month last_close =
+    if last_close == 0 then [] else flat_map (lines_for own count act closed (Some last_close)) (range_with_len first_month (closed - first_month))
+
+-- The lines of a closing: the adjustments, and then the lines of the closed month.
 abbrev pub closing_lines : (ℕ → List Record) → ℕ → ℕ → ℕ → ℕ → ℕ → List Line
 closing_lines own count closed first_month last_close act =
-    (if last_close == 0 then [] else flat_map (lines_for own count act closed (Some last_close)) (range_with_len first_month (closed - first_month)))
-    ++ lines_for own count act closed None closed
+    adjustment_lines own count act closed first_month last_close ++ lines_for own count act closed None closed
 
 -- the lines with their places, from this one on
 abbrev pub placed : ℕ → List Line → List Line

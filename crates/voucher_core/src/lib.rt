@@ -2,8 +2,11 @@
 #![tactic(auto)]
 
 mod changes;
+mod closing;
 mod laws;
 mod line;
+mod lines;
 
+pub use closing::close_lines;
 pub use laws::{certified_stays, lines_name_their_pairs, one_closing_settles};
 pub use line::Line;

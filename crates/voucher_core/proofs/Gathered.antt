@@ -1,0 +1,82 @@
+-- Lines that are gathered one after another.
+use Rattle.std.proofs.Common.{◌≡◌, ℕ, zero, suc, ◌+◌, ◌-◌, ◌*◌, ◌<◌, ◌≤◌, List, [], ◌∷◌, ◌++◌, length, take, drop, get_or, set, Option, Some, None, ℤ, pos, ◌-ℤ◌, max, false, refl, ap, sym, ◌∙◌, subst, arith, append_assoc, to_z, of_z, w32}
+use Rattle.std.specs.Prelude.{SomeIff, ◌==◌, if◌then◌else◌}
+use Rattle.std.proofs.lemmas.Bool.{ne_eqb}
+use Rattle.record_history.specs.declared.records.Record.{Record}
+use Rattle.std.specs.List.{range_with_len, flat_map}
+use Rattle.std.proofs.Math.Seq.{set-append_seam, get_or-append_seam}
+use Rattle.std.proofs.lemmas.Int.{ints, to_z-of_z, to_z_pos}
+use Rattle.std.proofs.lemmas.List.{flat_map_more, take_more, drop_more, append-nil, length-take-le}
+use Rattle.voucher_core.specs.declared.line.Line.{Line}
+use Rattle.voucher_core.specs.Lines.{lines_for, adjustment_lines, placed}
+use Rattle.voucher_core.proofs.Totals.{range-more}
+
+-- the value that is there
+pub unwrapped : {T : Type 0} (o : Option T) (P : Type 0) (v x : T) → SomeIff o P v → o ≡ Some x → x ≡ v
+unwrapped o P v x h e = (subst (λ (q : Option _). SomeIff q P v) e h).1
+
+-- one piece more
+pub pieces-more : (f : ℕ → List Line) (a k : ℕ) (start lines new : List Line) → a ≤ k → lines ≡ start ++ flat_map f (range_with_len a (k - a)) →
+    new ≡ lines ++ f k → new ≡ start ++ flat_map f (range_with_len a (k + 1 - a))
+pieces-more f a k start lines new low so_far more =
+    let at : k ≡ a + (k - a) = omega arith in
+    let count : suc (k - a) ≡ k + 1 - a = omega arith in
+    more ∙ ap (λ (ls : List Line). ls ++ f k) so_far ∙ ap (λ (n : ℕ). (start ++ flat_map f (range_with_len a (k - a))) ++ f n) at
+    ∙ flat_map_more f start (range_with_len a (k - a)) (a + (k - a)) ∙ ap (λ (ks : List ℕ). start ++ flat_map f ks) (sym (range-more a (k - a)))
+    ∙ ap (λ (n : ℕ). start ++ flat_map f (range_with_len a n)) count
+
+-- no piece yet
+pub pieces-none : (f : ℕ → List Line) (a k : ℕ) (start : List Line) → k ≡ a → start ≡ start ++ flat_map f (range_with_len a (k - a))
+pieces-none f a k start same =
+    let none : 0 ≡ k - a = omega arith in
+    sym (append-nil start) ∙ ap (λ (n : ℕ). start ++ flat_map f (range_with_len a n)) none
+
+-- all adjustments
+pub adjustments-all : (own : ℕ → List Record) (count act closed first_month last_close month : ℕ) (start lines : List Line) → (last_close ≡ 0 → ⊥) →
+    first_month ≤ month → closed ≤ month → month ≤ max first_month closed →
+    lines ≡ start ++ flat_map (lines_for own count act closed (Some last_close)) (range_with_len first_month (month - first_month)) →
+    lines ≡ start ++ adjustment_lines own count act closed first_month last_close
+adjustments-all own count act closed first_month last_close month start lines some low after within so_far =
+    let test : (last_close == 0) ≡ false = ne_eqb last_close 0 some in
+    let count' : month - first_month ≡ closed - first_month = omega arith in
+    rw test (so_far ∙ ap (λ (n : ℕ). start ++ flat_map (lines_for own count act closed (Some last_close)) (range_with_len first_month n)) count')
+
+-- the amount of a line
+pub amount_is : (a b : ℕ) → a ≤ 109998 → b ≤ 109998 → to_z w32 (of_z w32 (to_z w32 a -ℤ to_z w32 b)) ≡ pos a -ℤ pos b
+amount_is a b low high = grind (arith, ints, to_z-of_z, to_z_pos)
+
+-- Places ----
+
+-- one line more has the next place
+placed-push : (place : ℕ) (lines : List Line) (l : Line) → placed place (lines ++ l ∷ []) ≡ placed place lines ++ record l { place = place + length lines } ∷ []
+placed-push place [] l = let same : place ≡ place + 0 = omega arith in ap (λ (n : ℕ). record l { place = n } ∷ []) same
+placed-push place (k ∷ lines) l =
+    let same : place + 1 + length lines ≡ place + length (k ∷ lines) = omega arith in
+    ap (λ (ls : List Line). record k { place = place } ∷ ls)
+    (placed-push (place + 1) lines l ∙ ap (λ (n : ℕ). placed (place + 1) lines ++ record l { place = n } ∷ []) same)
+
+length-placed : (place : ℕ) (lines : List Line) → length (placed place lines) ≡ length lines
+length-placed place [] = refl
+length-placed place (l ∷ lines) = ap suc (length-placed (place + 1) lines)
+
+-- the next line gets its place
+pub place_next : (lines whole : List Line) (at : ℕ) (l : Line) → at < length whole → lines ≡ placed 1 (take at whole) ++ drop at whole → l ≡ get_or lines at l →
+    set lines at (record l { place = at + 1 }) ≡ placed 1 (take (at + 1) whole) ++ drop (at + 1) whole
+place_next lines whole at l within is there =
+    let long : length (take at whole) ≡ at = length-take-le at whole (let order : at ≤ length whole = omega arith in order) in
+    let placed_long : at ≡ length (placed 1 (take at whole)) = sym (length-placed 1 (take at whole) ∙ long) in
+    let split : lines ≡ placed 1 (take at whole) ++ get_or whole at l ∷ drop (at + 1) whole =
+    is ∙ ap (λ (ls : List Line). placed 1 (take at whole) ++ ls) (drop_more whole at l within) in
+    let found : l ≡ get_or whole at l =
+    there ∙ ap (λ (ls : List Line). get_or ls at l) split
+    ∙ ap (λ (k : ℕ). get_or (placed 1 (take at whole) ++ get_or whole at l ∷ drop (at + 1) whole) k l) placed_long
+    ∙ get_or-append_seam (placed 1 (take at whole)) (get_or whole at l) (drop (at + 1) whole) l in
+    let next : at + 1 ≡ 1 + length (take at whole) = omega arith in
+    ap (λ (ls : List Line). set ls at (record l { place = at + 1 })) split
+    ∙ ap (λ (k : ℕ). set (placed 1 (take at whole) ++ get_or whole at l ∷ drop (at + 1) whole) k (record l { place = at + 1 })) placed_long
+    ∙ set-append_seam (placed 1 (take at whole)) (get_or whole at l) (drop (at + 1) whole) (record l { place = at + 1 })
+    ∙ sym (append_assoc (placed 1 (take at whole)) (record l { place = at + 1 } ∷ []) (drop (at + 1) whole))
+    ∙ ap (λ (ls : List Line). ls ++ drop (at + 1) whole)
+    (ap (λ (k : Line). placed 1 (take at whole) ++ record k { place = at + 1 } ∷ []) found
+    ∙ ap (λ (n : ℕ). placed 1 (take at whole) ++ record (get_or whole at l) { place = n } ∷ []) next
+    ∙ sym (placed-push 1 (take at whole) (get_or whole at l)) ∙ ap (placed 1) (sym (take_more whole at l within)))

@@ -1,0 +1,87 @@
+-- The changes of a month, day by day, and that they lie within their bounds.
+use Rattle.std.proofs.Common.{◌≡◌, ◌⊎◌, inl, inr, ℕ, zero, suc, ◌+◌, ◌-◌, ◌<◌, ◌≤◌, List, [], ◌∷◌, reverse, refl, ap, sym, ◌∙◌, subst, arith}
+use Rattle.std.specs.Prelude.{All, get_or}
+use Rattle.std.proofs.lemmas.Bool.{cases_lt}
+use Rattle.days_core.specs.Calendar.{days_in, first_of, last_of}
+use Rattle.days_core.proofs.Bridge.{first_of-suc, days_in_bounds}
+use Rattle.record_history.specs.declared.records.Record.{Record}
+use Rattle.record_history.specs.declared.stretch.Stretch.{Stretch}
+use Rattle.record_history.specs.Stretch.{with_day, newest_first, stretches}
+use Rattle.voucher_core.specs.declared.changes.Change.{Change}
+use Rattle.voucher_core.specs.Certified.{day_at}
+use Rattle.voucher_core.specs.Lines.{change_on, is_same_change, changes}
+use Rattle.voucher_core.specs.Bounds.{IsUsable}
+use Rattle.voucher_core.proofs.EachDay.{IsOfItsDays}
+use Rattle.voucher_core.proofs.Named.{changes_of_days}
+
+-- the amounts of a change are those that a contract allows
+pub record IsAllowed (change : Change) : Type 0 where
+  pub old : change.old.assistance ≤ 109998
+  pub new : change.new.assistance ≤ 109998
+
+-- so are those of the first so many days
+abbrev pub AreAllowed : (ℕ → Change) → ℕ → Type 0
+AreAllowed change_at count = (place : ℕ) → 1 ≤ place → place ≤ count → IsAllowed (change_at place)
+
+module _ (old new : List Record) (month : ℕ) where
+  abbrev change_at : ℕ → Change
+  change_at place = change_on old new (day_at month place)
+
+  -- no day yet
+  pub no_day : (first count : ℕ) (runs : List (Stretch Change)) → runs ≡ [] → count ≡ 0 → runs ≡ stretches is_same_change change_at 1 count
+  no_day first count runs none is = none ∙ ap (stretches is_same_change change_at 1) (sym is)
+
+  pub none_allowed : (count : ℕ) → count ≡ 0 → AreAllowed change_at count
+  none_allowed count none = λ place low high. absurd (omega arith)
+
+  -- the day comes at its place
+  at_its_place : (first day : ℕ) → first ≡ first_of month → first ≤ day → day_at month (1 + (day - first)) ≡ day
+  at_its_place first day is low = omega arith
+
+  -- one day more
+  pub next_day : (first day : ℕ) (change : Change) → first ≡ first_of month → first ≤ day → change ≡ change_on old new day →
+      reverse (with_day is_same_change (newest_first is_same_change change_at 1 (day - first)) (day + 1 - first) change) ≡ stretches is_same_change change_at 1 (day + 1 - first)
+  next_day first day change is low e =
+      let place : day + 1 - first ≡ 1 + (day - first) = omega arith in
+      let count : suc (day - first) ≡ day + 1 - first = omega arith in
+      ap (λ (k : Change). reverse (with_day is_same_change (newest_first is_same_change change_at 1 (day - first)) (day + 1 - first) k))
+      (e ∙ ap (change_on old new) (sym (at_its_place first day is low)))
+      ∙ ap (λ (p : ℕ). reverse (with_day is_same_change (newest_first is_same_change change_at 1 (day - first)) p (change_at (1 + (day - first))))) place
+      ∙ ap (λ (n : ℕ). stretches is_same_change change_at 1 n) count
+
+  pub next_allowed : (first day : ℕ) (change : Change) → first ≡ first_of month → first ≤ day → change ≡ change_on old new day →
+      IsAllowed change → AreAllowed change_at (day - first) → AreAllowed change_at (day + 1 - first)
+  next_allowed first day change is low e allowed all place from to = by_place (cases_lt (day - first) place)
+    where
+      by_place : (day - first < place) ⊎ (place ≤ day - first) → IsAllowed (change_at place)
+      by_place (inl last) =
+          let at : place ≡ 1 + (day - first) = omega arith in
+          subst IsAllowed (e ∙ ap (change_on old new) (sym (at_its_place first day is low)) ∙ ap change_at (sym at)) allowed
+      by_place (inr earlier) = all place from earlier
+
+  -- all days of the month
+  all_of_it : (first day : ℕ) → first ≡ first_of month → day ≡ last_of month + 1 → day - first ≡ days_in month
+  all_of_it first day is end = omega (arith, first_of-suc month, (days_in_bounds month).0)
+
+  pub all_days : (first day : ℕ) (runs : List (Stretch Change)) → first ≡ first_of month → day ≡ last_of month + 1 →
+      runs ≡ stretches is_same_change change_at 1 (day - first) → runs ≡ changes old new month
+  all_days first day runs is end so_far =
+      let count : day - first ≡ days_in month = all_of_it first day is end in
+      so_far ∙ ap (stretches is_same_change change_at 1) count
+
+  usable : (run : Stretch Change) → IsOfItsDays change_at 1 (1 + days_in month) run → AreAllowed change_at (days_in month) → IsUsable month run
+  usable run is all =
+      let low = is.from in
+      let order = is.in_order in
+      let high : run.last ≤ days_in month = (let before = is.to in omega arith) in
+      let first : run.first ≤ days_in month = omega arith in
+      let same : run.first ≤ run.first = omega arith in
+      let allowed : IsAllowed run.key = subst IsAllowed (sym (is.key run.first same order)) (all run.first low first) in
+      record { from = low; in_order = order; to = high; old = allowed.old; new = allowed.new }
+
+  pub all_usable : (first day : ℕ) (runs : List (Stretch Change)) → first ≡ first_of month → day ≡ last_of month + 1 →
+      runs ≡ changes old new month → AreAllowed change_at (day - first) → All (IsUsable month) runs
+  all_usable first day runs is end found all =
+      let count : day - first ≡ days_in month = all_of_it first day is end in
+      let days = subst (AreAllowed change_at) count all in
+      subst (All (IsUsable month)) (sym found) (λ k d within. usable (get_or (changes old new month) k d) (changes_of_days old new month k d within) days)

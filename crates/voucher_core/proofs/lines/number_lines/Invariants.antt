@@ -1,0 +1,6 @@
+use Rattle.std.proofs.Common.{◌≡◌, ◌++◌, take, drop}
+use Rattle.voucher_core.specs.Lines.{placed}
+use Rattle.voucher_core.proofs.lines.number_lines.Given as goal
+
+abbrev pub invariant-loop-at : goal.invariant-loop-at
+invariant-loop-at l = l.lines.items ≡ placed 1 (take l.at l.fn.lines.items) ++ drop l.at l.fn.lines.items
