@@ -1,10 +1,11 @@
 -- What lines pay for a household and month.
-use Rattle.std.proofs.Common.{◌≡◌, ◌⊎◌, inl, inr, ℕ, zero, suc, ◌+◌, ◌-◌, ◌<◌, ◌≤◌, List, [], ◌∷◌, ◌++◌, ℤ, pos, ◌+ℤ◌, ◌-ℤ◌, Bool, true, false, refl, ap, sym, ◌∙◌, subst, arith}
+use Rattle.std.proofs.Common.{◌≡◌, ◌⊎◌, inl, inr, ℕ, zero, suc, ◌+◌, ◌-◌, ◌<◌, ◌≤◌, List, [], ◌∷◌, ◌++◌, length, take, ℤ, pos, ◌+ℤ◌, ◌-ℤ◌, Bool, true, false, refl, ap, sym, ◌∙◌, subst, arith}
 use Rattle.std.specs.Prelude.{All, get_or, filter, map, not, ◌==◌, ◌&&◌, if◌then◌else◌}
 use Rattle.std.specs.List.{range_with_len, flat_map}
 use Rattle.std.specs.Ordering.{int_eq}
 use Rattle.std.proofs.lemmas.Int.{ints}
 use Rattle.std.proofs.lemmas.Bool.{cases_eq, ne_eqb}
+use Rattle.std.proofs.lemmas.List.{take_more}
 use Rattle.std.proofs.lemmas.Bool.Decides.{Decides-int_eq, Decides-eqb}
 use Rattle.std.proofs.lemmas.List.Elements.{filter-append, All-head, All-tail, All-filter, All-map, All-append, All-nil, All-cons, filter_passes}
 use Rattle.record_history.specs.declared.records.Record.{Record}
@@ -13,7 +14,7 @@ use Rattle.voucher_core.specs.declared.changes.Change.{Change}
 use Rattle.voucher_core.specs.declared.line.Line.{Line}
 use Rattle.voucher_core.specs.Lines.{changes, difference, line_of, month_lines, placed, is_for, total, paid}
 use Rattle.voucher_core.specs.Certified.{certified_amount}
-use Rattle.voucher_core.proofs.Totals.{total_by, nothing_first}
+use Rattle.voucher_core.proofs.Totals.{total_by, nothing_first, nothing_last}
 use Rattle.voucher_core.proofs.Differences.{changes_weigh}
 
 regrouped : (a b c d e : ℤ) → d ≡ b +ℤ c → e ≡ a +ℤ b → a +ℤ d ≡ e +ℤ c
@@ -175,3 +176,15 @@ all_placed P moves place [] all = All-nil P
 all_placed P moves place (l ∷ lines) all =
     All-cons P (record l { place = place }) (placed (place + 1) lines) (moves l place (All-head P l lines all))
     (all_placed P moves (place + 1) lines (All-tail P l lines all))
+
+-- one line more
+pub paid-more : (household month : ℕ) (lines : List Line) (i : ℕ) (l : Line) → i < length lines → l ≡ get_or lines i l →
+    paid household month (take (i + 1) lines) ≡ paid household month (take i lines) +ℤ (if is_for household month l then l.amount else pos 0)
+paid-more household month lines i l within is =
+    ap (paid household month) (take_more lines i l within) ∙ paid-append household month (take i lines) (get_or lines i l ∷ [])
+    ∙ ap (λ (n : ℤ). paid household month (take i lines) +ℤ n)
+    (ap (λ (k : Line). paid household month (k ∷ [])) (sym is) ∙ by_test (is_for household month l))
+  where
+    by_test : (test : Bool) → total (if test then l ∷ [] else []) ≡ (if test then l.amount else pos 0)
+    by_test true = nothing_last l.amount
+    by_test false = refl

@@ -3,3 +3,4 @@ pub mod Lines
 pub mod Law
 pub mod Naming
 pub mod Bounds
+pub mod Book
