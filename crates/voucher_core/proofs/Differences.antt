@@ -1,6 +1,6 @@
 -- What the changes of a month come to.
-use Rattle.std.proofs.Common.{◌≡◌, ℕ, zero, suc, ◌+◌, ◌-◌, ◌<◌, ◌≤◌, List, [], ◌∷◌, ◌++◌, ℤ, pos, ◌+ℤ◌, Bool, true, false, refl, ap, sym, ◌∙◌, subst, arith}
-use Rattle.std.specs.Prelude.{sum_by, ◌-ℤ◌, ◌==◌, ◌&&◌}
+use Rattle.std.proofs.Common.{◌≡◌, ℕ, suc, ◌+◌, ◌-◌, ◌≤◌, List, ℤ, pos, ◌+ℤ◌, true, ap, ◌∙◌, arith}
+use Rattle.std.specs.Prelude.{sum_by, ◌-ℤ◌, ◌==◌}
 use Rattle.std.specs.List.{range_with_len}
 use Rattle.std.proofs.lemmas.Int.{ints}
 use Rattle.std.proofs.lemmas.Bool.{and_parts, eqb-true}
@@ -52,8 +52,8 @@ grown a b c d e f p q = omega (arith, ints)
 differences_add : (month : ℕ) → AddsUp is_same_change (difference month) (day_difference month)
 differences_add month = record {
   one = λ day key.
-    ap (λ (n : ℕ). pos n -ℤ pos (run_share key.old.assistance day day (days_in month))) (run-one key.new.assistance day (days_in month))
-    ∙ ap (λ (n : ℕ). pos (day_share key.new.assistance day (days_in month)) -ℤ pos n) (run-one key.old.assistance day (days_in month));
+      ap (λ (n : ℕ). pos n -ℤ pos (run_share key.old.assistance day day (days_in month))) (run-one key.new.assistance day (days_in month))
+      ∙ ap (λ (n : ℕ). pos (day_share key.new.assistance day (days_in month)) -ℤ pos n) (run-one key.old.assistance day (days_in month));
   more = λ s day key same order next. more s day key same order next;
 }
   where

@@ -1,9 +1,8 @@
 -- How many lines a closing has at most.
-use Rattle.std.proofs.Common.{◌≡◌, ℕ, zero, suc, ◌+◌, ◌-◌, ◌*◌, ◌<◌, ◌≤◌, List, [], ◌∷◌, ◌++◌, length, reverse, Bool, true, false, Option, Some, None, pos, ap, sym, ◌∙◌, subst, arith, length-append}
-use Rattle.std.specs.Prelude.{All, filter, map, not, get_or, sum_by, ◌==◌, if◌then◌else◌}
+use Rattle.std.proofs.Common.{ℕ, zero, suc, ◌+◌, ◌-◌, ◌*◌, ◌<◌, ◌≤◌, List, [], ◌∷◌, length, Bool, true, false, Option, Some, None, pos, sym, subst, arith, length-append}
+use Rattle.std.specs.Prelude.{filter, map, not, get_or, ◌==◌, if◌then◌else◌}
 use Rattle.std.specs.List.{range_with_len, flat_map}
 use Rattle.std.specs.Ordering.{int_eq}
-use Rattle.std.proofs.lemmas.Nat.{mul-le}
 use Rattle.std.proofs.lemmas.List.{length-map, length-reverse}
 use Rattle.std.proofs.lemmas.List.Concat.{length-flat_map}
 use Rattle.std.proofs.lemmas.List.FromFn.{length-range_with_len}

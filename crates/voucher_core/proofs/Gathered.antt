@@ -1,6 +1,6 @@
 -- Lines that are gathered one after another.
-use Rattle.std.proofs.Common.{◌≡◌, ℕ, zero, suc, ◌+◌, ◌-◌, ◌*◌, ◌<◌, ◌≤◌, List, [], ◌∷◌, ◌++◌, length, take, drop, get_or, set, Option, Some, None, ℤ, pos, ◌-ℤ◌, max, false, refl, ap, sym, ◌∙◌, subst, arith, append_assoc, to_z, of_z, w32}
-use Rattle.std.specs.Prelude.{SomeIff, ◌==◌, if◌then◌else◌}
+use Rattle.std.proofs.Common.{◌≡◌, ℕ, suc, ◌+◌, ◌-◌, ◌<◌, ◌≤◌, List, [], ◌∷◌, ◌++◌, length, take, drop, get_or, set, Option, Some, pos, ◌-ℤ◌, max, false, refl, ap, sym, ◌∙◌, subst, arith, append_assoc, to_z, of_z, w32}
+use Rattle.std.specs.Prelude.{SomeIff, ◌==◌}
 use Rattle.std.proofs.lemmas.Bool.{ne_eqb}
 use Rattle.record_history.specs.declared.records.Record.{Record}
 use Rattle.std.specs.List.{range_with_len, flat_map}

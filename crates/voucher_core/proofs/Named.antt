@@ -1,6 +1,6 @@
 -- Each line of a closing names its pair.
-use Rattle.std.proofs.Common.{◌≡◌, ◌⊎◌, inl, inr, ℕ, zero, suc, ◌+◌, ◌-◌, ◌<◌, ◌≤◌, List, [], ◌∷◌, length, get_or, ℤ, pos, ◌-ℤ◌, Bool, true, false, Option, Some, None, refl, ap, sym, ◌∙◌, subst, arith}
-use Rattle.std.specs.Prelude.{All, IfSome, find, not, ◌==◌, ◌&&◌, if◌then◌else◌}
+use Rattle.std.proofs.Common.{◌≡◌, ℕ, zero, suc, ◌+◌, ◌-◌, ◌<◌, ◌≤◌, List, [], ◌∷◌, length, get_or, pos, ◌-ℤ◌, true, false, Option, Some, None, refl, ap, sym, ◌∙◌, arith}
+use Rattle.std.specs.Prelude.{All, IfSome, find, not, ◌==◌}
 use Rattle.std.specs.Option.{option_map_or}
 use Rattle.std.proofs.lemmas.Bool.{ne_eqb, eqb-true, and_parts}
 use Rattle.std.proofs.lemmas.Bool.Decides.{Decides-eqb, Decides-int_eq}
@@ -11,7 +11,7 @@ use Rattle.record_history.specs.Runs.{number_on}
 use Rattle.record_history.specs.Held.{AreNumbered}
 use Rattle.record_history.proofs.Latest.{in_force_is}
 use Rattle.std.specs.Ordering.{int_eq}
-use Rattle.days_core.specs.Calendar.{days_in, first_of, last_of}
+use Rattle.days_core.specs.Calendar.{days_in, first_of}
 use Rattle.record_history.specs.declared.stretch.Stretch.{Stretch}
 use Rattle.share_rules.specs.Shares.{run_share}
 use Rattle.voucher_core.specs.declared.changes.InForce.{InForce}
@@ -43,8 +43,8 @@ found_after n (x ∷ xs) numbered (suc k) d within number is =
     rw other
     (found_after (n + 1) xs
     (λ place e within'. (let later : suc place < length (x ∷ xs) = omega arith in
-      let there : (get_or xs place e).number ≡ n + suc place + 1 = numbered (suc place) e later in
-      omega arith))
+    let there : (get_or xs place e).number ≡ n + suc place + 1 = numbered (suc place) e later in
+    omega arith))
     k d (let inside : k < length xs = omega arith in inside) number (let moved : number ≡ n + 1 + k + 1 = omega arith in moved))
 
 -- and no record has the number 0
@@ -57,8 +57,8 @@ none_found n (x ∷ xs) numbered =
     rw other
     (none_found (n + 1) xs
     (λ place e within. (let later : suc place < length (x ∷ xs) = omega arith in
-      let there : (get_or xs place e).number ≡ n + suc place + 1 = numbered (suc place) e later in
-      omega arith)))
+    let there : (get_or xs place e).number ≡ n + suc place + 1 = numbered (suc place) e later in
+    omega arith)))
 
 module _ (records : List Record) (numbered : AreNumbered records) where
   from_one : (place : ℕ) (e : Record) → place < length records → (get_or records place e).number ≡ 0 + place + 1
@@ -114,10 +114,10 @@ module _ (records before now : List Record)
     old = λ day low high. ap (λ (c : Change). c.old.number) (on_day day low high);
     new = λ day low high. ap (λ (c : Change). c.new.number) (on_day day low high);
     amount =
-      ap (λ (n : ℕ). pos n -ℤ pos (run_share run.key.old.assistance run.first run.last (days_in month)))
-          (shared run.key.new.assistance (assistance_of records run.key.new.number) (sym new_found))
-      ∙ ap (λ (n : ℕ). pos (shares_of records run.key.new.number (line_of act closed household month run)) -ℤ pos n)
-          (shared run.key.old.assistance (assistance_of records run.key.old.number) (sym old_found));
+        ap (λ (n : ℕ). pos n -ℤ pos (run_share run.key.old.assistance run.first run.last (days_in month)))
+        (shared run.key.new.assistance (assistance_of records run.key.new.number) (sym new_found))
+        ∙ ap (λ (n : ℕ). pos (shares_of records run.key.new.number (line_of act closed household month run)) -ℤ pos n)
+        (shared run.key.old.assistance (assistance_of records run.key.old.number) (sym old_found));
     not_for_nothing = λ none. (let test = (Decides-int_eq (difference month run) (pos 0)).1 none in let passed = rw test at passes in cc);
   }
     where
@@ -197,17 +197,17 @@ module _ (own : ℕ → List Record) (count closed first_month last_close act pl
   earlier_named =
       all_earlier own count act closed first_month last_close NamedEarlier
       (λ month from to. all_pieces NamedEarlier (λ (h : ℕ). month_lines act closed h month (as_of last_close (own h)) (as_of act (own h))) 1 count
-        (λ h low high. each_passing NamedEarlier act closed h month (as_of last_close (own h)) (as_of act (own h))
-          (λ k d within passes before.
-            month_names (own h) (as_of last_close (own h)) (as_of act (own h)) (leads (own h) (numbered h) last_close) (leads (own h) (numbered h) act) act closed h month k d
-            within passes)))
+      (λ h low high. each_passing NamedEarlier act closed h month (as_of last_close (own h)) (as_of act (own h))
+      (λ k d within passes before.
+      month_names (own h) (as_of last_close (own h)) (as_of act (own h)) (leads (own h) (numbered h) last_close) (leads (own h) (numbered h) act) act closed h month k d
+      within passes)))
 
   now_named : All NamedNow of_it
   now_named =
       all_pieces NamedNow (λ (h : ℕ). month_lines act closed h closed [] (as_of act (own h))) 1 count
       (λ h low high. each_passing NamedNow act closed h closed [] (as_of act (own h))
-        (λ k d within passes now.
-          month_names (own h) [] (as_of act (own h)) (λ day. no_assistance (own h) (numbered h)) (leads (own h) (numbered h) act) act closed h closed k d within passes))
+      (λ k d within passes now.
+      month_names (own h) [] (as_of act (own h)) (λ day. no_assistance (own h) (numbered h)) (leads (own h) (numbered h) act) act closed h closed k d within passes))
 
   all_now : All NamedNow (placed place (closing_lines own count closed first_month last_close act))
   all_now =

@@ -1,5 +1,5 @@
 -- What lines pay for a household and month.
-use Rattle.std.proofs.Common.{◌≡◌, ◌⊎◌, inl, inr, ℕ, zero, suc, ◌+◌, ◌-◌, ◌<◌, ◌≤◌, List, [], ◌∷◌, ◌++◌, length, take, ℤ, pos, ◌+ℤ◌, ◌-ℤ◌, Bool, true, false, refl, ap, sym, ◌∙◌, subst, arith}
+use Rattle.std.proofs.Common.{◌≡◌, ◌⊎◌, inl, inr, ℕ, zero, suc, ◌+◌, ◌<◌, ◌≤◌, List, [], ◌∷◌, ◌++◌, length, take, ℤ, pos, ◌+ℤ◌, ◌-ℤ◌, Bool, true, false, refl, ap, sym, ◌∙◌, arith}
 use Rattle.std.specs.Prelude.{All, get_or, filter, map, not, ◌==◌, ◌&&◌, if◌then◌else◌}
 use Rattle.std.specs.List.{range_with_len, flat_map}
 use Rattle.std.specs.Ordering.{int_eq}
@@ -115,9 +115,9 @@ pub each_passing : (P : Line → Type 0) (act closed household month : ℕ) (old
     All P (month_lines act closed household month old new)
 each_passing P act closed household month old new each = λ k d within.
     (All-filter (λ (l : Line). not (int_eq l.amount (pos 0))) (λ (l : Line). not (int_eq l.amount (pos 0)) ≡ true → P l)
-      (map (line_of act closed household month) (changes old new month))
-      (All-map (λ (l : Line). not (int_eq l.amount (pos 0)) ≡ true → P l) (line_of act closed household month) (changes old new month) each) k d within
-      (filter_passes (λ (l : Line). not (int_eq l.amount (pos 0))) (map (line_of act closed household month) (changes old new month)) k d within))
+    (map (line_of act closed household month) (changes old new month))
+    (All-map (λ (l : Line). not (int_eq l.amount (pos 0)) ≡ true → P l) (line_of act closed household month) (changes old new month) each) k d within
+    (filter_passes (λ (l : Line). not (int_eq l.amount (pos 0))) (map (line_of act closed household month) (changes old new month)) k d within))
 
 -- they pay other households nothing
 pub paid_other : (act closed household other month : ℕ) (old new : List Record) → (household ≡ other → ⊥) →

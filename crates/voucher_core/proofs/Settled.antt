@@ -1,6 +1,6 @@
 -- The law of one closing.
-use Rattle.std.proofs.Common.{◌≡◌, ◌⊎◌, inl, inr, ℕ, zero, suc, ◌+◌, ◌-◌, ◌*◌, ◌/◌, ◌<◌, ◌≤◌, List, [], ◌∷◌, ◌++◌, ℤ, pos, ◌+ℤ◌, ◌-ℤ◌, Bool, true, false, refl, ap, sym, ◌∙◌, subst, arith}
-use Rattle.std.specs.Prelude.{All, get_or, nat_le, Option, Some, None, sum_by, ◌==◌, if◌then◌else◌}
+use Rattle.std.proofs.Common.{◌≡◌, ◌⊎◌, inl, inr, ℕ, ◌+◌, ◌-◌, ◌*◌, ◌/◌, ◌<◌, ◌≤◌, List, [], ◌∷◌, ◌++◌, ℤ, pos, ◌+ℤ◌, ◌-ℤ◌, Bool, true, false, refl, ap, sym, ◌∙◌, subst, arith}
+use Rattle.std.specs.Prelude.{All, nat_le, Option, Some, None, sum_by, ◌==◌, if◌then◌else◌}
 use Rattle.std.specs.List.{range_with_len, flat_map}
 use Rattle.std.proofs.lemmas.Int.{ints}
 use Rattle.std.proofs.lemmas.Bool.{cases_lt, eqb-true, lt-leb}
@@ -13,8 +13,8 @@ use Rattle.record_history.specs.Records.{as_of}
 use Rattle.share_rules.specs.Shares.{day_share}
 use Rattle.voucher_core.specs.declared.line.Line.{Line}
 use Rattle.voucher_core.specs.Certified.{certified_amount, day_at, assistance_on}
-use Rattle.voucher_core.specs.Lines.{month_lines, known_before, lines_for, adjustment_lines, closing_lines, placed, paid, line_of, changes}
-use Rattle.voucher_core.specs.Law.{IsSettled, ClosingSettles, CertifiedStays, SettledStays}
+use Rattle.voucher_core.specs.Lines.{month_lines, known_before, lines_for, adjustment_lines, closing_lines, placed, paid}
+use Rattle.voucher_core.specs.Law.{ClosingSettles, CertifiedStays, SettledStays}
 use Rattle.voucher_core.proofs.Totals.{total_by}
 use Rattle.voucher_core.proofs.Paid.{paid-append, paid-placed, paid_elsewhere, paid_month, paid_other, each_line, paid-flat_map, none_weighs, one_weighs, all_pieces, all_placed}
 

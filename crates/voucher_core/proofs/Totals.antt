@@ -1,5 +1,5 @@
 -- Sums of signed numbers.
-use Rattle.std.proofs.Common.{◌≡◌, ℕ, zero, suc, ◌+◌, ◌-◌, ◌<◌, ◌≤◌, List, [], ◌∷◌, ◌++◌, reverse, ℤ, pos, ◌+ℤ◌, refl, ap, sym, ◌∙◌, subst, arith}
+use Rattle.std.proofs.Common.{◌≡◌, ℕ, zero, suc, ◌+◌, List, [], ◌∷◌, ◌++◌, reverse, ℤ, pos, ◌+ℤ◌, refl, ap, sym, ◌∙◌, arith}
 use Rattle.std.specs.Prelude.{sum_by, ◌-ℤ◌}
 use Rattle.std.specs.List.{range_with_len}
 use Rattle.std.proofs.lemmas.Int.{ints}

@@ -1,5 +1,5 @@
 -- The changes of a month, day by day, and that they lie within their bounds.
-use Rattle.std.proofs.Common.{◌≡◌, ◌⊎◌, inl, inr, ℕ, zero, suc, ◌+◌, ◌-◌, ◌<◌, ◌≤◌, List, [], ◌∷◌, reverse, refl, ap, sym, ◌∙◌, subst, arith}
+use Rattle.std.proofs.Common.{◌≡◌, ◌⊎◌, inl, inr, ℕ, suc, ◌+◌, ◌-◌, ◌<◌, ◌≤◌, List, [], reverse, ap, sym, ◌∙◌, subst, arith}
 use Rattle.std.specs.Prelude.{All, get_or}
 use Rattle.std.proofs.lemmas.Bool.{cases_lt}
 use Rattle.days_core.specs.Calendar.{days_in, first_of, last_of}

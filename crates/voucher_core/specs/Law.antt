@@ -1,5 +1,5 @@
 -- What closings keep: the lines total what is certified, and each line names its records.
-use Rattle.std.specs.Prelude.{ℕ, ◌+◌, ◌<◌, ◌≤◌, ◌≡◌, ◌≢◌, ℤ, pos, ◌-ℤ◌, List, [], ◌++◌, All, filter, find, ◌==◌, if◌then◌else◌}
+use Rattle.std.specs.Prelude.{ℕ, ◌+◌, ◌<◌, ◌≤◌, ◌≡◌, pos, List, [], ◌++◌, All}
 use Rattle.record_history.specs.declared.records.Record.{Record}
 use Rattle.record_history.specs.Records.{as_of}
 use Rattle.voucher_core.specs.declared.line.Line.{Line}

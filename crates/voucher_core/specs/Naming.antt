@@ -1,5 +1,5 @@
 -- What each line of a closing tells of its records.
-use Rattle.std.specs.Prelude.{ℕ, ◌+◌, ◌-◌, ◌<◌, ◌≤◌, ◌≡◌, ◌≢◌, ◌==◌, ℤ, pos, ◌-ℤ◌, List, [], All, find}
+use Rattle.std.specs.Prelude.{ℕ, ◌+◌, ◌-◌, ◌<◌, ◌≤◌, ◌≡◌, ◌≢◌, ◌==◌, pos, ◌-ℤ◌, List, [], All, find}
 use Rattle.std.specs.Option.{option_map_or}
 use Rattle.days_core.specs.Calendar.{days_in, first_of, last_of}
 use Rattle.record_history.specs.declared.records.Record.{Record}

@@ -52,13 +52,7 @@ pub fn changes_of_month(
     Ok(runs)
 }
 
-fn change_on(
-    history: &History,
-    household: u32,
-    day: u32,
-    paid_at: Option<u32>,
-    act: u32,
-) -> Change
+fn change_on(history: &History, household: u32, day: u32, paid_at: Option<u32>, act: u32) -> Change
     requires { day ≤ 116877 }
     ensures value { result ≡ change_on (known_before paid_at (records_of history.now.households household)) (as_of act (records_of history.now.households household)) day }
     ensures old { result.old.assistance ≤ 109998 }

@@ -28,7 +28,15 @@ pub fn close_lines(
     ensures { IfOk result (λ lines. lines.items ≡ placed 1 (closing_lines (records_of history.now.households) (length history.now.households) month first_month last_close act)) }
 {
     let mut lines = Vec::new(alloc);
-    add_adjustments(alloc, &mut lines, history, month, first_month, last_close, act)?;
+    add_adjustments(
+        alloc,
+        &mut lines,
+        history,
+        month,
+        first_month,
+        last_close,
+        act,
+    )?;
     add_month(alloc, &mut lines, history, month, month, None, act)?;
     number_lines(&mut lines);
     Ok(lines)

@@ -12,3 +12,6 @@ pub use book::LineBook;
 pub use closing::close_lines;
 pub use laws::{certified_stays, lines_name_their_pairs, one_closing_settles};
 pub use line::Line;
+
+#[cfg(test)]
+mod tests;

@@ -80,13 +80,7 @@ fn add_lines(
     Ok(())
 }
 
-fn line_of(
-    act: u32,
-    closed: Month,
-    household: u32,
-    month: Month,
-    run: &Stretch<Change>,
-) -> Line
+fn line_of(act: u32, closed: Month, household: u32, month: Month, run: &Stretch<Change>) -> Line
     requires { IsUsable month run.now }
     ensures { result ≡ line_of act closed household month run.now }
 {

@@ -1,4 +1,4 @@
-use Rattle.std.proofs.Common.{◌≡◌, ◌+◌, ◌*◌, ◌≤◌, ℕ, ℤ, pos, negsuc, ◌+ℤ◌, neg_ℤ, ◌≤ℤ◌, to_z, of_z, w64, arith}
+use Rattle.std.proofs.Common.{◌≡◌, ◌*◌, ◌≤◌, ℕ, ℤ, pos, negsuc, ◌+ℤ◌, neg_ℤ, ◌≤ℤ◌, to_z, of_z, w64, arith}
 use Rattle.std.proofs.lemmas.Int.{ints, to_z-of_z}
 use Rattle.voucher_core.proofs.Paid.{paid-more}
 use Rattle.voucher_core.proofs.book.paid_among.Goals as goal
@@ -13,9 +13,9 @@ loop-line-preserved c =
     let few : c.loop-line.line-index ≤ 4000000 = omega arith in
     record {
       sum =
-        summed (to_z w64 c.loop-line.paid-bits) c.amount_for-paid.result _ _ _ c.loop-line.line-index c.loop-line.invariant.sum c.amount_for-paid.ensures.value
-        (paid-more c.args.household c.args.month c.args.lines.now c.loop-line.line-index c.line-item.result c.loop-line-test.true c.line-item.is) few
-        c.loop-line.invariant.least c.loop-line.invariant.most c.amount_for-paid.ensures.least c.amount_for-paid.ensures.most;
+          summed (to_z w64 c.loop-line.paid-bits) c.amount_for-paid.result _ _ _ c.loop-line.line-index c.loop-line.invariant.sum c.amount_for-paid.ensures.value
+          (paid-more c.args.household c.args.month c.args.lines.now c.loop-line.line-index c.line-item.result c.loop-line-test.true c.line-item.is) few
+          c.loop-line.invariant.least c.loop-line.invariant.most c.amount_for-paid.ensures.least c.amount_for-paid.ensures.most;
       least = omega (arith, ints);
       most = omega (arith, ints);
     }

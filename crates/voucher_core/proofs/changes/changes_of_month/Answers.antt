@@ -1,5 +1,5 @@
-use Rattle.std.proofs.Common.{◌≡◌, ◌≤◌, ◌+◌, ◌-◌, ◌∙◌, ◌<◌, arith}
-use Rattle.days_core.specs.Calendar.{last_of, first_of, days_in}
+use Rattle.std.proofs.Common.{◌≡◌, ◌+◌, ◌-◌, ◌∙◌, arith}
+use Rattle.days_core.specs.Calendar.{last_of, first_of}
 use Rattle.days_core.proofs.Bridge.{first_of-suc, days_in_bounds}
 use Rattle.record_history.specs.Records.{as_of}
 use Rattle.record_history.specs.Held.{records_of}
@@ -14,11 +14,11 @@ loop-day-init c =
     let none : c.number-first.result - c.number-first.result ≡ 0 = omega arith in
     record {
       days =
-        no_day (known_before c.args.paid_at (records_of c.args.history.now.households c.args.household)) (as_of c.args.act (records_of c.args.history.now.households c.args.household))
-        c.args.month c.number-first.result (c.number-first.result - c.number-first.result) c.new-runs.result.items c.new-runs.ensures.items none;
+          no_day (known_before c.args.paid_at (records_of c.args.history.now.households c.args.household)) (as_of c.args.act (records_of c.args.history.now.households c.args.household))
+          c.args.month c.number-first.result (c.number-first.result - c.number-first.result) c.new-runs.result.items c.new-runs.ensures.items none;
       allowed =
-        none_allowed (known_before c.args.paid_at (records_of c.args.history.now.households c.args.household)) (as_of c.args.act (records_of c.args.history.now.households c.args.household))
-        c.args.month (c.number-first.result - c.number-first.result) none;
+          none_allowed (known_before c.args.paid_at (records_of c.args.history.now.households c.args.household)) (as_of c.args.act (records_of c.args.history.now.households c.args.household))
+          c.args.month (c.number-first.result - c.number-first.result) none;
     }
 
 pub loop-day-preserved : goal.loop-day-preserved
@@ -26,17 +26,17 @@ loop-day-preserved c =
     let first : c.number-first.result ≡ first_of c.args.month = c.number-first.ensures.value ∙ c.first_of.ensures in
     record {
       days =
-        c.in_ok-add_day.ensures.ok
-        (newest_first is_same_change
+          c.in_ok-add_day.ensures.ok
+          (newest_first is_same_change
           (λ place. change_on (known_before c.args.paid_at (records_of c.args.history.now.households c.args.household)) (as_of c.args.act (records_of c.args.history.now.households c.args.household)) (day_at c.args.month place))
           1 (c.loop-day.day - c.number-first.result))
-        c.loop-day.invariant.days
-        ∙ next_day (known_before c.args.paid_at (records_of c.args.history.now.households c.args.household)) (as_of c.args.act (records_of c.args.history.now.households c.args.household))
-        c.args.month c.number-first.result c.loop-day.day c.change_on-change.result first c.loop-day.auto.day c.change_on-change.ensures.value;
+          c.loop-day.invariant.days
+          ∙ next_day (known_before c.args.paid_at (records_of c.args.history.now.households c.args.household)) (as_of c.args.act (records_of c.args.history.now.households c.args.household))
+          c.args.month c.number-first.result c.loop-day.day c.change_on-change.result first c.loop-day.auto.day c.change_on-change.ensures.value;
       allowed =
-        next_allowed (known_before c.args.paid_at (records_of c.args.history.now.households c.args.household)) (as_of c.args.act (records_of c.args.history.now.households c.args.household))
-        c.args.month c.number-first.result c.loop-day.day c.change_on-change.result first c.loop-day.auto.day c.change_on-change.ensures.value
-        (record { old = c.change_on-change.ensures.old; new = c.change_on-change.ensures.new }) c.loop-day.invariant.allowed;
+          next_allowed (known_before c.args.paid_at (records_of c.args.history.now.households c.args.household)) (as_of c.args.act (records_of c.args.history.now.households c.args.household))
+          c.args.month c.number-first.result c.loop-day.day c.change_on-change.result first c.loop-day.auto.day c.change_on-change.ensures.value
+          (record { old = c.change_on-change.ensures.old; new = c.change_on-change.ensures.new }) c.loop-day.invariant.allowed;
     }
 
 pub returns-clause-value : goal.returns-clause-value

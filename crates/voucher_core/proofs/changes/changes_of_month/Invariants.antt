@@ -1,4 +1,4 @@
-use Rattle.std.proofs.Common.{◌≡◌, ◌≤◌, ◌-◌, ◌+◌, ℕ}
+use Rattle.std.proofs.Common.{◌≡◌, ◌-◌}
 use Rattle.record_history.specs.Records.{as_of}
 use Rattle.record_history.specs.Held.{records_of}
 use Rattle.record_history.specs.Stretch.{stretches}
@@ -10,8 +10,8 @@ use Rattle.voucher_core.proofs.changes.changes_of_month.Given as goal
 abbrev pub invariant-loop-day : goal.invariant-loop-day
 invariant-loop-day l = record {
   days :
-    l.runs.items
-    ≡ stretches is_same_change (λ place. change_on (known_before l.paid_at (records_of l.history.households l.household)) (as_of l.act (records_of l.history.households l.household)) (day_at l.fn.month place)) 1 (l.day - l.first);
+      l.runs.items
+      ≡ stretches is_same_change (λ place. change_on (known_before l.paid_at (records_of l.history.households l.household)) (as_of l.act (records_of l.history.households l.household)) (day_at l.fn.month place)) 1 (l.day - l.first);
   allowed :
-    AreAllowed (λ place. change_on (known_before l.paid_at (records_of l.history.households l.household)) (as_of l.act (records_of l.history.households l.household)) (day_at l.fn.month place)) (l.day - l.first);
+      AreAllowed (λ place. change_on (known_before l.paid_at (records_of l.history.households l.household)) (as_of l.act (records_of l.history.households l.household)) (day_at l.fn.month place)) (l.day - l.first);
 }

@@ -13,7 +13,7 @@ number_lines-requires c =
     ∙ ap (λ (ls : List Line). ls ++ lines_for (records_of c.args.history.now.households) (length c.args.history.now.households) c.args.act c.args.month None c.args.month)
     (c.in_ok-add_adjustments.ensures
     ∙ ap (λ (ls : List Line). ls
-      ++ adjustment_lines (records_of c.args.history.now.households) (length c.args.history.now.households) c.args.act c.args.month c.args.first_month c.args.last_close)
+    ++ adjustment_lines (records_of c.args.history.now.households) (length c.args.history.now.households) c.args.act c.args.month c.args.first_month c.args.last_close)
     c.new-lines.ensures.items) in
     subst (λ (ls : List Line). length ls < 4294967296) (sym made)
     (few (records_of c.args.history.now.households) (length c.args.history.now.households) c.args.month c.args.first_month c.args.last_close c.args.act

@@ -1,4 +1,4 @@
-use Rattle.std.proofs.Common.{◌≡◌, ◌≤◌, ◌++◌, ◌∙◌, ap, arith, length, Some, ℕ}
+use Rattle.std.proofs.Common.{◌≡◌, ◌++◌, ◌∙◌, ap, arith, length, Some, ℕ}
 use Rattle.record_history.specs.Held.{records_of}
 use Rattle.voucher_core.specs.Lines.{lines_for}
 use Rattle.voucher_core.proofs.Gathered.{pieces-none, pieces-more, adjustments-all, unwrapped}
@@ -7,8 +7,8 @@ use Rattle.voucher_core.proofs.lines.add_adjustments.Goals as goal
 pub loop-month-init : goal.loop-month-init
 loop-month-init c = record {
   lines =
-    pieces-none (lines_for (records_of c.args.history.now.households) (length c.args.history.now.households) c.args.act c.args.closed (Some c.args.last_close))
-    c.args.first_month c.number-month.result c.args.lines.now.items c.number-month.ensures.value;
+      pieces-none (lines_for (records_of c.args.history.now.households) (length c.args.history.now.households) c.args.act c.args.closed (Some c.args.last_close))
+      c.args.first_month c.number-month.result c.args.lines.now.items c.number-month.ensures.value;
   within = omega arith;
 }
 
@@ -17,10 +17,10 @@ loop-month-preserved c =
     let found : c.unwrap-month.result ≡ c.loop-month.month = unwrapped c.from_number.result _ c.loop-month.month c.unwrap-month.result c.from_number.ensures c.unwrap-month.ensures in
     record {
       lines =
-        pieces-more (lines_for (records_of c.args.history.now.households) (length c.args.history.now.households) c.args.act c.args.closed (Some c.args.last_close))
-        c.args.first_month c.loop-month.month c.args.lines.now.items c.loop-month.lines.items c.add_month.new.lines.items (omega arith) c.loop-month.invariant.lines
-        (c.in_ok-add_month.ensures
-        ∙ ap (λ (m : ℕ). c.loop-month.lines.items
+          pieces-more (lines_for (records_of c.args.history.now.households) (length c.args.history.now.households) c.args.act c.args.closed (Some c.args.last_close))
+          c.args.first_month c.loop-month.month c.args.lines.now.items c.loop-month.lines.items c.add_month.new.lines.items (omega arith) c.loop-month.invariant.lines
+          (c.in_ok-add_month.ensures
+          ∙ ap (λ (m : ℕ). c.loop-month.lines.items
           ++ lines_for (records_of c.args.history.now.households) (length c.args.history.now.households) c.args.act c.args.closed (Some c.args.last_close) m) found);
       within = omega arith;
     }

@@ -7,8 +7,8 @@ use Rattle.voucher_core.proofs.lines.add_adjustments.Given as goal
 abbrev pub invariant-loop-month : goal.invariant-loop-month
 invariant-loop-month l = record {
   lines :
-    l.lines.items
-    ≡ l.fn.lines.items
-    ++ flat_map (lines_for (records_of l.history.households) (length l.history.households) l.act l.closed (Some l.last_close)) (range_with_len l.fn.first_month (l.month - l.fn.first_month));
+      l.lines.items
+      ≡ l.fn.lines.items
+      ++ flat_map (lines_for (records_of l.history.households) (length l.history.households) l.act l.closed (Some l.last_close)) (range_with_len l.fn.first_month (l.month - l.fn.first_month));
   within : l.month ≤ max l.fn.first_month l.closed;
 }

@@ -1,6 +1,4 @@
 use Rattle.std.proofs.Common.{◌≡◌, ◌++◌, ◌-◌}
-use Rattle.std.specs.List.{range_with_len, flat_map}
-use Rattle.record_history.specs.Records.{as_of}
 use Rattle.record_history.specs.Held.{records_of}
 use Rattle.voucher_core.specs.Lines.{lines_for}
 use Rattle.voucher_core.proofs.lines.add_month.Given as goal

@@ -1,5 +1,4 @@
 use Rattle.std.proofs.Common.{◌≡◌, ◌≤◌, ◌∙◌, ◌-ℤ◌, pos, ap, ℕ, to_z, of_z, w32, refl, arith}
-use Rattle.days_core.specs.Calendar.{days_in}
 use Rattle.share_rules.specs.Shares.{run_share}
 use Rattle.voucher_core.specs.Lines.{difference}
 use Rattle.voucher_core.proofs.Gathered.{amount_is}
@@ -15,5 +14,5 @@ returns c =
     amount_is c.share_run-new.result c.share_run-old.result new_low old_low ∙ ap (λ (n : ℕ). pos n -ℤ pos c.share_run-old.result) new_is
     ∙ ap (λ (n : ℕ). pos (run_share c.args.run.now.key.new.assistance c.args.run.now.first c.args.run.now.last c.days_in-days.result) -ℤ pos n) old_is
     ∙ ap (λ (d : ℕ). pos (run_share c.args.run.now.key.new.assistance c.args.run.now.first c.args.run.now.last d)
-      -ℤ pos (run_share c.args.run.now.key.old.assistance c.args.run.now.first c.args.run.now.last d)) c.days_in-days.ensures in
+    -ℤ pos (run_share c.args.run.now.key.old.assistance c.args.run.now.first c.args.run.now.last d)) c.days_in-days.ensures in
     rw (c.day_at.ensures, c.day_at-2.ensures, amount) refl
