@@ -14,7 +14,7 @@ use Rattle.share_rules.specs.Shares.{day_share}
 use Rattle.voucher_core.specs.declared.line.Line.{Line}
 use Rattle.voucher_core.specs.Certified.{certified_amount, day_at, assistance_on}
 use Rattle.voucher_core.specs.Lines.{month_lines, known_before, lines_for, adjustment_lines, closing_lines, placed, paid}
-use Rattle.voucher_core.specs.Law.{ClosingSettles, CertifiedStays, SettledStays}
+use Rattle.voucher_core.specs.Law.{ClosingSettles, NothingIsSettled, SettledPaysNoOther, CertifiedStays, SettledStays}
 use Rattle.voucher_core.proofs.Totals.{total_by}
 use Rattle.voucher_core.proofs.Paid.{paid-append, paid-placed, paid_elsewhere, paid_month, paid_other, each_line, paid-flat_map, none_weighs, one_weighs, all_pieces, all_placed}
 
@@ -180,6 +180,19 @@ closing_settles own count lines first_month closed last_close act place past ord
         (All-append (λ (l : Line). P l.for_month) before_it (lines_for own count act closed None closed)
         (all_months own count act closed first_month last_close P (λ month low high. (let high' : month < closed + 1 = omega arith in each month low high')))
         (all_for own count act closed None closed P (let high : closed < closed + 1 = omega arith in each closed order high)))
+
+pub none_settled : NothingIsSettled
+none_settled own first_month act = record {
+  months = λ household month low from to. absurd (omega arith);
+  earlier = All-nil (λ (l : Line). first_month ≤ l.for_month);
+  later = All-nil (λ (l : Line). l.for_month < first_month);
+}
+
+pub pays_no_other : SettledPaysNoOther
+pays_no_other own lines first_month next act household month settled (inl before) =
+    paid_elsewhere household month lines (λ k d within. (let from = settled.earlier k d within in λ e. (omega arith)))
+pays_no_other own lines first_month next act household month settled (inr after) =
+    paid_elsewhere household month lines (λ k d within. (let to = settled.later k d within in λ e. (omega arith)))
 
 -- Later acts ----
 

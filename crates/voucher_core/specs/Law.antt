@@ -1,5 +1,5 @@
 -- What closings keep: the lines total what is certified, and each line names its records.
-use Rattle.std.specs.Prelude.{ℕ, ◌+◌, ◌<◌, ◌≤◌, ◌≡◌, pos, List, [], ◌++◌, All}
+use Rattle.std.specs.Prelude.{ℕ, ◌+◌, ◌⊎◌, ◌<◌, ◌≤◌, ◌≡◌, pos, List, [], ◌++◌, All}
 use Rattle.record_history.specs.declared.records.Record.{Record}
 use Rattle.record_history.specs.Records.{as_of}
 use Rattle.voucher_core.specs.declared.line.Line.{Line}
@@ -23,6 +23,17 @@ ClosingSettles = (own : ℕ → List Record) (count : ℕ) (lines : List Line) (
     (last_close ≡ 0 → closed ≡ first_month) →
     IsSettled own first_month closed last_close lines →
     IsSettled own first_month (closed + 1) act (lines ++ placed place (closing_lines own count closed first_month last_close act))
+
+-- Before any closing no line is wanted.
+abbrev pub NothingIsSettled : Type 0
+NothingIsSettled = (own : ℕ → List Record) (first_month act : ℕ) → IsSettled own first_month first_month act []
+
+-- Settled lines pay nothing for a month before the first or after those that were closed.
+abbrev pub SettledPaysNoOther : Type 0
+SettledPaysNoOther = (own : ℕ → List Record) (lines : List Line) (first_month next act household month : ℕ) →
+    IsSettled own first_month next act lines →
+    (month < first_month) ⊎ (next ≤ month) →
+    paid household month lines ≡ pos 0
 
 -- later acts leave what a household was certified for as of an act
 abbrev pub CertifiedStays : Type 0

@@ -1,9 +1,11 @@
-ghost use Rattle.voucher_core.specs.Law.{ClosingSettles, CertifiedStays, SettledStays};
+ghost use Rattle.voucher_core.specs.Law.{ClosingSettles, NothingIsSettled, SettledPaysNoOther, CertifiedStays, SettledStays};
 ghost use Rattle.voucher_core.specs.Naming.{LinesNameTheirPairs};
 
 /// The law of one closing: with its lines, each household has been paid what it is certified for. It does nothing.
 pub fn one_closing_settles()
-    ensures { ClosingSettles }
+    ensures begins { NothingIsSettled }
+    ensures settles { ClosingSettles }
+    ensures elsewhere { SettledPaysNoOther }
 {}
 
 /// Later acts leave what was certified as of an act, and so what is settled as of it. It does nothing.
