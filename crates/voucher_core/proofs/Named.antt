@@ -1,5 +1,5 @@
 -- Each line of a closing names its pair.
-use Rattle.std.proofs.Common.{◌≡◌, ℕ, zero, suc, ◌+◌, ◌-◌, ◌<◌, ◌≤◌, List, [], ◌∷◌, length, get_or, pos, ◌-ℤ◌, true, false, Option, Some, None, refl, ap, sym, ◌∙◌, arith}
+use Rattle.std.proofs.Common.{◌≡◌, ◌≢◌, ℕ, zero, suc, ◌+◌, ◌-◌, ◌<◌, ◌≤◌, List, [], ◌∷◌, length, get_or, pos, ◌-ℤ◌, true, false, Option, Some, None, refl, ap, sym, subst, ◌∙◌, arith}
 use Rattle.std.specs.Prelude.{All, IfSome, find, not, ◌==◌}
 use Rattle.std.specs.Option.{option_map_or}
 use Rattle.std.proofs.lemmas.Bool.{ne_eqb, eqb-true, and_parts}
@@ -19,11 +19,11 @@ use Rattle.voucher_core.specs.declared.changes.Change.{Change}
 use Rattle.voucher_core.specs.declared.line.Line.{Line}
 use Rattle.voucher_core.specs.Certified.{assistance_on, day_at}
 use Rattle.voucher_core.specs.Lines.{change_on, is_same_force, is_same_change, changes, difference, line_of, month_lines, lines_for, adjustment_lines, closing_lines, placed}
-use Rattle.voucher_core.specs.Naming.{assistance_of, shares_of, NamesItsPair, NameTheirPairs, LinesNameTheirPairs}
-use Rattle.voucher_core.proofs.Paid.{all_placed, all_pieces, each_passing}
+use Rattle.voucher_core.specs.Naming.{assistance_of, shares_of, NamesItsPair, NameTheirPairs, LinesNameTheirPairs, IsOtherPair, CoverByPairs, ChangesAreLongest}
+use Rattle.voucher_core.proofs.Paid.{itself, all_placed, all_pieces, each_passing}
 use Rattle.voucher_core.proofs.Settled.{all_earlier, all_months, all_for}
 use Rattle.std.proofs.lemmas.List.Elements.{All-append}
-use Rattle.voucher_core.proofs.EachDay.{IsOfItsDays, of_their_days}
+use Rattle.voucher_core.proofs.EachDay.{IsOfItsDays, Cover, IsOther, of_their_days, stretches_cover}
 
 -- Numbers lead to records ----
 
@@ -95,10 +95,71 @@ same_change a b e =
     ap (λ (f : InForce). record { old = f; new = a.new }) (same_force a.old b.old both.0)
     ∙ ap (λ (f : InForce). record { old = b.old; new = f }) (same_force a.new b.new both.1)
 
+other_change : (a b : Change) → is_same_change a b ≡ false → a ≢ b
+other_change a b e same =
+    let now : is_same_change a b ≡ true = subst (λ (c : Change). is_same_change a c ≡ true) same (itself_same a) in
+    cc
+  where
+    itself_same : (c : Change) → is_same_change c c ≡ true
+    itself_same c = rw (itself c.old.number, itself c.old.assistance, itself c.new.number, itself c.new.assistance) refl
+
 -- each change of a month lasts over days of it, and is that of each of them
 pub changes_of_days : (old new : List Record) (month : ℕ) →
     All (IsOfItsDays (λ place. change_on old new (day_at month place)) 1 (1 + days_in month)) (changes old new month)
-changes_of_days old new month = of_their_days is_same_change same_change (λ (place : ℕ). change_on old new (day_at month place)) 1 (days_in month)
+changes_of_days old new month =
+    of_their_days is_same_change same_change other_change (λ (place : ℕ). change_on old new (day_at month place)) 1 (days_in month)
+
+module _ (records before now : List Record)
+    (old_leads : (day : ℕ) → assistance_of records (number_on before day) ≡ assistance_on before day)
+    (new_leads : (day : ℕ) → assistance_of records (number_on now day) ≡ assistance_on now day)
+  where
+  -- the numbers of a change lead to its assistance
+  old_found : (key : Change) (day : ℕ) → key ≡ change_on before now day → assistance_of records key.old.number ≡ key.old.assistance
+  old_found key day is =
+      ap (λ (c : Change). assistance_of records c.old.number) is ∙ old_leads day ∙ sym (ap (λ (c : Change). c.old.assistance) is)
+
+  new_found : (key : Change) (day : ℕ) → key ≡ change_on before now day → assistance_of records key.new.number ≡ key.new.assistance
+  new_found key day is =
+      ap (λ (c : Change). assistance_of records c.new.number) is ∙ new_leads day ∙ sym (ap (λ (c : Change). c.new.assistance) is)
+
+  -- so changes with the same numbers are the same
+  same_numbers : (a b : Change) (day other : ℕ) → a ≡ change_on before now day → b ≡ change_on before now other → a.old.number ≡ b.old.number →
+      a.new.number ≡ b.new.number → a ≡ b
+  same_numbers a b day other is that old new =
+      ap (λ (n : ℕ). record { old = record { number = n; assistance = a.old.assistance }; new = a.new }) old
+      ∙ ap (λ (n : ℕ). record { old = record { number = b.old.number; assistance = n }; new = a.new })
+      (sym (old_found a day is) ∙ ap (assistance_of records) old ∙ old_found b other that)
+      ∙ ap (λ (n : ℕ). record { old = b.old; new = record { number = n; assistance = a.new.assistance } }) new
+      ∙ ap (λ (n : ℕ). record { old = b.old; new = record { number = b.new.number; assistance = n } })
+      (sym (new_found a day is) ∙ ap (assistance_of records) new ∙ new_found b other that)
+
+  module _ (month : ℕ) where
+    abbrev key_at : ℕ → Change
+    key_at place = change_on before now (day_at month place)
+
+    abbrev Covered : ℕ → ℕ → List (Stretch Change) → Type 0
+    Covered = Cover is_same_change same_change other_change key_at
+
+    apart : (run : Stretch Change) (next : ℕ) (rest : List (Stretch Change)) → run.key ≡ key_at run.first → IsOther is_same_change same_change other_change key_at run.key rest →
+        Covered (run.last + 1) next rest → IsOtherPair run.key rest
+    apart run next [] is other covers = tt
+    apart run next (t ∷ rest) is other covers = λ same.
+        (let low : run.last + 1 ≤ run.last + 1 = omega arith in
+          other (same_numbers run.key t.key (day_at month run.first) (day_at month (run.last + 1)) is (covers.2 (run.last + 1) low covers.1) same.0 same.1))
+
+    by_pairs : (first next : ℕ) (runs : List (Stretch Change)) → Covered first next runs →
+        CoverByPairs (λ place. number_on before (day_at month place)) (λ place. number_on now (day_at month place)) first next runs
+    by_pairs first next [] e = e
+    by_pairs first next (run ∷ rest) covers = (
+      covers.0,
+      covers.1,
+      λ day low high. (ap (λ (c : Change). c.old.number) (covers.2 day low high), ap (λ (c : Change). c.new.number) (covers.2 day low high)),
+      apart run next rest (let low : first ≤ first = omega arith in covers.2 first low covers.1 ∙ ap key_at (sym covers.0)) covers.3 covers.4,
+      by_pairs (run.last + 1) next rest covers.4,
+    )
+
+    longest : CoverByPairs (λ place. number_on before (day_at month place)) (λ place. number_on now (day_at month place)) 1 (1 + days_in month) (changes before now month)
+    longest = by_pairs 1 (1 + days_in month) (changes before now month) (stretches_cover is_same_change same_change other_change key_at 1 (days_in month))
 
 module _ (records before now : List Record)
     (old_leads : (day : ℕ) → assistance_of records (number_on before day) ≡ assistance_on before day)
@@ -115,9 +176,9 @@ module _ (records before now : List Record)
     new = λ day low high. ap (λ (c : Change). c.new.number) (on_day day low high);
     amount =
         ap (λ (n : ℕ). pos n -ℤ pos (run_share run.key.old.assistance run.first run.last (days_in month)))
-        (shared run.key.new.assistance (assistance_of records run.key.new.number) (sym new_found))
+        (shared run.key.new.assistance (assistance_of records run.key.new.number) (sym (new_found records before now old_leads new_leads run.key (day_at month run.first) first_day)))
         ∙ ap (λ (n : ℕ). pos (shares_of records run.key.new.number (line_of act closed household month run)) -ℤ pos n)
-        (shared run.key.old.assistance (assistance_of records run.key.old.number) (sym old_found));
+        (shared run.key.old.assistance (assistance_of records run.key.old.number) (sym (old_found records before now old_leads new_leads run.key (day_at month run.first) first_day)));
     not_for_nothing = λ none. (let test = (Decides-int_eq (difference month run) (pos 0)).1 none in let passed = rw test at passes in cc);
   }
     where
@@ -131,16 +192,6 @@ module _ (records before now : List Record)
 
       first_day : run.key ≡ change_on before now (day_at month run.first)
       first_day = is.key run.first (let low : run.first ≤ run.first = omega arith in low) is.in_order
-
-      new_found : assistance_of records run.key.new.number ≡ run.key.new.assistance
-      new_found =
-          ap (λ (c : Change). assistance_of records c.new.number) first_day ∙ new_leads (day_at month run.first)
-          ∙ sym (ap (λ (c : Change). c.new.assistance) first_day)
-
-      old_found : assistance_of records run.key.old.number ≡ run.key.old.assistance
-      old_found =
-          ap (λ (c : Change). assistance_of records c.old.number) first_day ∙ old_leads (day_at month run.first)
-          ∙ sym (ap (λ (c : Change). c.old.assistance) first_day)
 
       shared : (amount same : ℕ) → amount ≡ same →
           run_share amount run.first run.last (days_in month)
@@ -233,3 +284,9 @@ module _ (own : ℕ → List Record) (count closed first_month last_close act pl
 
 pub lines_name_their_pairs : LinesNameTheirPairs
 lines_name_their_pairs = name_their_pairs
+
+pub changes_are_longest : ChangesAreLongest
+changes_are_longest records None act month numbered =
+    longest records [] (as_of act records) (λ day. no_assistance records numbered) (leads records numbered act) month
+changes_are_longest records (Some last_close) act month numbered =
+    longest records (as_of last_close records) (as_of act records) (leads records numbered last_close) (leads records numbered act) month

@@ -72,7 +72,8 @@ paid_first household month l lines e = by_test (is_for household month l) e
     by_test true e = refl
     by_test false e = cc
 
-itself : (n : ℕ) → (n == n) ≡ true
+-- a number is the same as itself
+pub itself : (n : ℕ) → (n == n) ≡ true
 itself n = (Decides-eqb n n).1 refl
 
 not_missed : (a b c : ℤ) → a ≡ pos 0 → b ≡ c → b ≡ a +ℤ c

@@ -1,14 +1,17 @@
 -- What each line of a closing tells of its records.
-use Rattle.std.specs.Prelude.{ℕ, ◌+◌, ◌-◌, ◌<◌, ◌≤◌, ◌≡◌, ◌≢◌, ◌==◌, pos, ◌-ℤ◌, List, [], All, find}
+use Rattle.std.specs.Prelude.{ℕ, ◌+◌, ◌-◌, ◌<◌, ◌≤◌, ◌≡◌, ◌≢◌, ◌==◌, pos, ◌-ℤ◌, List, [], ◌∷◌, All, find, Option}
 use Rattle.std.specs.Option.{option_map_or}
 use Rattle.days_core.specs.Calendar.{days_in, first_of, last_of}
 use Rattle.record_history.specs.declared.records.Record.{Record}
+use Rattle.record_history.specs.declared.stretch.Stretch.{Stretch}
 use Rattle.record_history.specs.Records.{as_of}
 use Rattle.record_history.specs.Runs.{number_on}
 use Rattle.record_history.specs.Held.{AreNumbered}
 use Rattle.share_rules.specs.Shares.{run_share}
 use Rattle.voucher_core.specs.declared.line.Line.{Line}
-use Rattle.voucher_core.specs.Lines.{closing_lines, placed}
+use Rattle.voucher_core.specs.declared.changes.Change.{Change}
+use Rattle.voucher_core.specs.Certified.{day_at}
+use Rattle.voucher_core.specs.Lines.{known_before, changes, closing_lines, placed}
 
 -- the assistance of the household's record of that number, and 0 where it has none
 abbrev pub assistance_of : List Record → ℕ → ℕ
@@ -44,3 +47,25 @@ abbrev pub LinesNameTheirPairs : Type 0
 LinesNameTheirPairs = (own : ℕ → List Record) (count closed first_month last_close act place : ℕ) →
     ((household : ℕ) → AreNumbered (own household)) →
     NameTheirPairs own closed last_close act (placed place (closing_lines own count closed first_month last_close act))
+
+-- the next run, if any, has another old or another new record
+abbrev pub IsOtherPair : Change → List (Stretch Change) → Type 0
+IsOtherPair key [] = Unit {0}
+IsOtherPair key (next ∷ rest) = ¬ ((key.old.number ≡ next.key.old.number) × (key.new.number ≡ next.key.new.number))
+
+-- The runs go from the first day to the one before the next, each from the day after the run before it; each names the
+-- records of each of its days, and its neighbour names another pair.
+abbrev pub CoverByPairs : (ℕ → ℕ) → (ℕ → ℕ) → ℕ → ℕ → List (Stretch Change) → Type 0
+CoverByPairs old_on new_on first next [] = first ≡ next
+CoverByPairs old_on new_on first next (run ∷ rest) =
+    (run.first ≡ first) × (first ≤ run.last)
+    × ((day : ℕ) → first ≤ day → day ≤ run.last → (run.key.old.number ≡ old_on day) × (run.key.new.number ≡ new_on day))
+    × IsOtherPair run.key rest × CoverByPairs old_on new_on (run.last + 1) next rest
+
+-- Where a household's records are numbered from 1, the changes of a month are the longest runs of its days with one
+-- pair of records.
+abbrev pub ChangesAreLongest : Type 0
+ChangesAreLongest = (records : List Record) (paid_at : Option ℕ) (act month : ℕ) →
+    AreNumbered records →
+    CoverByPairs (λ place. number_on (known_before paid_at records) (day_at month place)) (λ place. number_on (as_of act records) (day_at month place))
+    1 (1 + days_in month) (changes (known_before paid_at records) (as_of act records) month)
