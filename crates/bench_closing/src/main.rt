@@ -1,0 +1,119 @@
+//! What closings take: so many households, each with six records that come late, and so many months from 2024-01 on.
+//! Prints how many lines that makes and what they come to.
+#![tactic(auto)]
+
+ghost use Rattle.std.specs.Prelude.{◌<◌, ◌≤◌};
+
+use days_core::{Month, Rents, first_of};
+use plain_data::NoMemory;
+use record_history::{History, Kind, Record};
+use std::alloc::Global;
+use std::process::ExitCode;
+use std::rt::Env;
+use std::{env, io};
+use voucher_core::{Line, close_lines};
+
+/// 2024-01
+const FIRST_MONTH: u32 = 1728;
+
+fn main(rt: HostRuntime) -> ExitCode {
+    match run(&rt) {
+        Ok(true) => ExitCode::SUCCESS,
+        _ => ExitCode::FAILURE,
+    }
+}
+
+fn run<R: Env + Print + AllocGlobal>(rt: &R) -> io::Result<bool> {
+    let words: Vec<String> = env::args(rt)?.skip(1).collect(rt.alloc())?;
+    let [households, months] = words.as_slice() else {
+        return Ok(false);
+    };
+    let (Ok(households), Ok(months)) = (households.parse(), months.parse()) else {
+        return Ok(false);
+    };
+    let Ok((lines, amount)) = close_all(rt.alloc(), households, months) else {
+        return Ok(false);
+    };
+    println!(rt; "{lines} lines, {amount} dollars")?;
+    Ok(true)
+}
+
+fn close_all(alloc: Global, households: u32, months: u32) -> Result<(u64, i64), NoMemory> {
+    let history = history_of(alloc, households)?;
+    let (mut count, mut amount) = (0u64, 0i64);
+    for place in 0..months.min(900) {
+        for line in &close(alloc, &history, place)? {
+            count = count.wrapping_add(1);
+            amount = amount.wrapping_add(i64::from(line.amount));
+        }
+    }
+    Ok((count, amount))
+}
+
+/// The lines of the closing of the month at that place, by an act of its own.
+fn close(alloc: Global, history: &History, place: u32) -> Result<Vec<Line>, NoMemory>
+    requires { place < 900 }
+{
+    if history.households() > 100_000 {
+        return Ok(Vec::new(alloc));
+    }
+    let first = Month::from_number(FIRST_MONTH).unwrap();
+    let month = Month::from_number(FIRST_MONTH + place).unwrap();
+    close_lines(
+        alloc,
+        history,
+        month,
+        first,
+        1000 * place,
+        1000 * place + 1000,
+    )
+}
+
+fn history_of(alloc: Global, households: u32) -> Result<History, NoMemory> {
+    let mut history = History::new(alloc)?;
+    for household in 1..households.saturating_add(1) {
+        for place in 0..6 {
+            hold(alloc, &mut history, household, place)?;
+        }
+    }
+    Ok(history)
+}
+
+/// Holds a household's next record: from the first day of each third month on, but known a month and more later.
+fn hold(alloc: Global, history: &mut History, household: u32, place: u32) -> Result<(), NoMemory>
+    requires household { 1 ≤ household }
+    requires place { place < 6 }
+{
+    let act = 4000 * place + 1;
+    let from = first_of(Month::from_number(FIRST_MONTH + 3 * place).unwrap());
+    if household - 1 > history.households()
+        || history.newest(household) != place
+        || history.newest_act(household) >= act
+        || from.number() > 80_353
+    {
+        return Ok(());
+    }
+    history.reserve(alloc, household)?;
+    history.push(Record {
+        household,
+        number: place + 1,
+        act,
+        kind: if place == 0 { Kind::IC } else { Kind::IR },
+        from,
+        corrects: 0,
+        unit: household,
+        persons: 1,
+        size: 1,
+        extremely: false,
+        annual: 9600,
+        adjusted: 8488,
+        ttp: 212,
+        rents: Rents {
+            contract_rent: 700,
+            utility: 60,
+        },
+        assistance: 501 + household % 50 + place,
+        dates: None,
+    });
+    Ok(())
+}
