@@ -113,53 +113,53 @@ module _ (records before now : List Record)
     (old_leads : (day : ℕ) → assistance_of records (number_on before day) ≡ assistance_on before day)
     (new_leads : (day : ℕ) → assistance_of records (number_on now day) ≡ assistance_on now day)
   where
-  -- the numbers of a change lead to its assistance
-  old_found : (key : Change) (day : ℕ) → key ≡ change_on before now day → assistance_of records key.old.number ≡ key.old.assistance
-  old_found key day is =
-      ap (λ (c : Change). assistance_of records c.old.number) is ∙ old_leads day ∙ sym (ap (λ (c : Change). c.old.assistance) is)
+    -- the numbers of a change lead to its assistance
+    old_found : (key : Change) (day : ℕ) → key ≡ change_on before now day → assistance_of records key.old.number ≡ key.old.assistance
+    old_found key day is =
+        ap (λ (c : Change). assistance_of records c.old.number) is ∙ old_leads day ∙ sym (ap (λ (c : Change). c.old.assistance) is)
 
-  new_found : (key : Change) (day : ℕ) → key ≡ change_on before now day → assistance_of records key.new.number ≡ key.new.assistance
-  new_found key day is =
-      ap (λ (c : Change). assistance_of records c.new.number) is ∙ new_leads day ∙ sym (ap (λ (c : Change). c.new.assistance) is)
+    new_found : (key : Change) (day : ℕ) → key ≡ change_on before now day → assistance_of records key.new.number ≡ key.new.assistance
+    new_found key day is =
+        ap (λ (c : Change). assistance_of records c.new.number) is ∙ new_leads day ∙ sym (ap (λ (c : Change). c.new.assistance) is)
 
-  -- so changes with the same numbers are the same
-  same_numbers : (a b : Change) (day other : ℕ) → a ≡ change_on before now day → b ≡ change_on before now other → a.old.number ≡ b.old.number →
-      a.new.number ≡ b.new.number → a ≡ b
-  same_numbers a b day other is that old new =
-      ap (λ (n : ℕ). record { old = record { number = n; assistance = a.old.assistance }; new = a.new }) old
-      ∙ ap (λ (n : ℕ). record { old = record { number = b.old.number; assistance = n }; new = a.new })
-      (sym (old_found a day is) ∙ ap (assistance_of records) old ∙ old_found b other that)
-      ∙ ap (λ (n : ℕ). record { old = b.old; new = record { number = n; assistance = a.new.assistance } }) new
-      ∙ ap (λ (n : ℕ). record { old = b.old; new = record { number = b.new.number; assistance = n } })
-      (sym (new_found a day is) ∙ ap (assistance_of records) new ∙ new_found b other that)
+    -- so changes with the same numbers are the same
+    same_numbers : (a b : Change) (day other : ℕ) → a ≡ change_on before now day → b ≡ change_on before now other → a.old.number ≡ b.old.number →
+        a.new.number ≡ b.new.number → a ≡ b
+    same_numbers a b day other is that old new =
+        ap (λ (n : ℕ). record { old = record { number = n; assistance = a.old.assistance }; new = a.new }) old
+        ∙ ap (λ (n : ℕ). record { old = record { number = b.old.number; assistance = n }; new = a.new })
+        (sym (old_found a day is) ∙ ap (assistance_of records) old ∙ old_found b other that)
+        ∙ ap (λ (n : ℕ). record { old = b.old; new = record { number = n; assistance = a.new.assistance } }) new
+        ∙ ap (λ (n : ℕ). record { old = b.old; new = record { number = b.new.number; assistance = n } })
+        (sym (new_found a day is) ∙ ap (assistance_of records) new ∙ new_found b other that)
 
-  module _ (month : ℕ) where
-    abbrev key_at : ℕ → Change
-    key_at place = change_on before now (day_at month place)
+    module _ (month : ℕ) where
+      abbrev key_at : ℕ → Change
+      key_at place = change_on before now (day_at month place)
 
-    abbrev Covered : ℕ → ℕ → List (Stretch Change) → Type 0
-    Covered = Cover is_same_change same_change other_change key_at
+      abbrev Covered : ℕ → ℕ → List (Stretch Change) → Type 0
+      Covered = Cover is_same_change same_change other_change key_at
 
-    apart : (run : Stretch Change) (next : ℕ) (rest : List (Stretch Change)) → run.key ≡ key_at run.first → IsOther is_same_change same_change other_change key_at run.key rest →
-        Covered (run.last + 1) next rest → IsOtherPair run.key rest
-    apart run next [] is other covers = tt
-    apart run next (t ∷ rest) is other covers = λ same.
-        (let low : run.last + 1 ≤ run.last + 1 = omega arith in
+      apart : (run : Stretch Change) (next : ℕ) (rest : List (Stretch Change)) → run.key ≡ key_at run.first → IsOther is_same_change same_change other_change key_at run.key rest →
+          Covered (run.last + 1) next rest → IsOtherPair run.key rest
+      apart run next [] is other covers = tt
+      apart run next (t ∷ rest) is other covers = λ same.
+          (let low : run.last + 1 ≤ run.last + 1 = omega arith in
           other (same_numbers run.key t.key (day_at month run.first) (day_at month (run.last + 1)) is (covers.2 (run.last + 1) low covers.1) same.0 same.1))
 
-    by_pairs : (first next : ℕ) (runs : List (Stretch Change)) → Covered first next runs →
-        CoverByPairs (λ place. number_on before (day_at month place)) (λ place. number_on now (day_at month place)) first next runs
-    by_pairs first next [] e = e
-    by_pairs first next (run ∷ rest) covers = (
-      covers.0,
-      covers.1,
-      λ day low high. (ap (λ (c : Change). c.old.number) (covers.2 day low high), ap (λ (c : Change). c.new.number) (covers.2 day low high)),
-      apart run next rest (let low : first ≤ first = omega arith in covers.2 first low covers.1 ∙ ap key_at (sym covers.0)) covers.3 covers.4,
-      by_pairs (run.last + 1) next rest covers.4,
-    )
+      by_pairs : (first next : ℕ) (runs : List (Stretch Change)) → Covered first next runs →
+          CoverByPairs (λ place. number_on before (day_at month place)) (λ place. number_on now (day_at month place)) first next runs
+      by_pairs first next [] e = e
+      by_pairs first next (run ∷ rest) covers = (
+        covers.0,
+        covers.1,
+        λ day low high. (ap (λ (c : Change). c.old.number) (covers.2 day low high), ap (λ (c : Change). c.new.number) (covers.2 day low high)),
+        apart run next rest (let low : first ≤ first = omega arith in covers.2 first low covers.1 ∙ ap key_at (sym covers.0)) covers.3 covers.4,
+        by_pairs (run.last + 1) next rest covers.4,
+      )
 
-    longest : CoverByPairs (λ place. number_on before (day_at month place)) (λ place. number_on now (day_at month place)) 1 (1 + days_in month) (changes before now month)
-    longest = by_pairs 1 (1 + days_in month) (changes before now month) (stretches_cover is_same_change same_change other_change key_at 1 (days_in month))
+      longest : CoverByPairs (λ place. number_on before (day_at month place)) (λ place. number_on now (day_at month place)) 1 (1 + days_in month) (changes before now month)
+      longest = by_pairs 1 (1 + days_in month) (changes before now month) (stretches_cover is_same_change same_change other_change key_at 1 (days_in month))
 
 module _ (records before now : List Record)
     (old_leads : (day : ℕ) → assistance_of records (number_on before day) ≡ assistance_on before day)

@@ -17,9 +17,9 @@ pub struct LineBook {
 
 impl Model for LineBook {
     ghost use Rattle.std.specs.Prelude.{◌-◌, ◌≤◌, length, vec_len, vec_capacity};
-    ghost use Rattle.voucher_core.specs.Book.{Held};
+    ghost use Rattle.voucher_core.specs.Book.{HeldLines};
 
-    ghost Value = { Held };
+    ghost Value = { HeldLines };
 
     ghost view = { λ book. record { lines = book.lines.items; room = vec_capacity book.lines - vec_len book.lines } };
 

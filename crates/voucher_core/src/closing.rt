@@ -9,7 +9,7 @@ use plain_data::NoMemory;
 use record_history::History;
 use std::alloc::Global;
 
-/// The lines of the closing of a month by an act.
+/// The lines of the closing of a month by an act, in the order of their months, households and first days.
 ///
 /// The first month is that of the plan, and the last closing is told by its act, which is 0 where there was none. Only
 /// months from 2000-01 to 2099-12 are closed, for at most 100,000 households.
