@@ -24,9 +24,11 @@ force_on records day = record { number = number_on records day; assistance = ass
 abbrev pub change_on : List Record → List Record → ℕ → Change
 change_on old new day = record { old = force_on old day; new = force_on new day }
 
+-- the same number and the same assistance
 abbrev pub is_same_force : InForce → InForce → Bool
 is_same_force a b = a.number == b.number && a.assistance == b.assistance
 
+-- the same by the old records and by the new ones
 abbrev pub is_same_change : Change → Change → Bool
 is_same_change a b = is_same_force a.old b.old && is_same_force a.new b.new
 
@@ -86,6 +88,7 @@ abbrev pub placed : ℕ → List Line → List Line
 placed place [] = []
 placed place (l ∷ lines) = record l { place = place } ∷ placed (place + 1) lines
 
+-- it pays that household for that month
 abbrev pub is_for : ℕ → ℕ → Line → Bool
 is_for household month l = l.household == household && l.for_month == month
 
