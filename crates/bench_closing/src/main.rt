@@ -1,5 +1,6 @@
 //! What closings take: so many households, each with six records that come late, and so many months from 2024-01 on.
-//! Prints how many lines that makes and what they come to.
+//! Prints how many lines that makes and what they come to: for two households and five months ten lines of 502 to 504
+//! dollars, and two that raise April by one.
 #![tactic(auto)]
 
 ghost use Rattle.std.specs.Prelude.{◌<◌, ◌≤◌};
