@@ -50,9 +50,9 @@ rightful_day_of (due.Interim dates higher report_days) = interim_day dates highe
 rightful_day_of (due.Annual opening after) = next_anniversary opening after
 rightful_day_of (due.Resume done) = next_month done
 
--- the days come no later than 2099-12-31, and a report is due within a year
+-- the days come no later than 2099-12-31
 abbrev pub IsInRange : Due → Type 0
 IsInRange (due.Interim dates higher report_days) =
-    (dates.event ≤ 80353) × (dates.notice ≤ 80353) × (dates.done ≤ 80353) × (report_days ≤ 365)
+    (dates.event ≤ 80353) × (dates.notice ≤ 80353) × (dates.done ≤ 80353)
 IsInRange (due.Annual opening after) = (opening ≤ 80353) × (after ≤ 80353)
 IsInRange (due.Resume done) = done ≤ 80353

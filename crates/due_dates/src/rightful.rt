@@ -29,7 +29,6 @@ fn interim_day(dates: &Dates, higher: bool, report_days: u32) -> Day
     requires event { dates.now.event ≤ 80353 }
     requires notice { dates.now.notice ≤ 80353 }
     requires done { dates.now.done ≤ 80353 }
-    requires report_days { report_days ≤ 365 }
     ensures { result ≡ interim_day dates.now higher report_days }
 {
     match (is_in_time(dates, report_days), higher) {
@@ -40,10 +39,9 @@ fn interim_day(dates: &Dates, higher: bool, report_days: u32) -> Day
 }
 
 fn is_in_time(dates: &Dates, report_days: u32) -> bool
-    requires { report_days ≤ 365 }
     ensures { result ≡ is_in_time dates.now report_days }
 {
-    dates.notice.number() <= dates.event.number() + report_days
+    u64::from(dates.notice.number()) <= u64::from(dates.event.number()) + u64::from(report_days)
 }
 
 /// The first day of the month after that of the day.
