@@ -1,0 +1,113 @@
+-- Which commands are fit: each of their fields lies in its range.
+--
+-- Days, months and the facts of a household are fit by their types, and so are the numbers of applicants, households,
+-- units and records. The ranges are the office's own.
+use Rattle.std.specs.Prelude.{ℕ, ◌-◌, ◌&&◌, ◌==◌, nat_le, Bool, true, not, List, length, slice_index_or}
+use Rattle.std.specs.List.{list_all}
+use Rattle.days_core.specs.declared.rents.Rents.{Rents}
+use Rattle.rent_table.specs.declared.plan.Bound.{Bound}
+use Rattle.rent_table.specs.declared.plan.Plan.{Plan}
+use Rattle.book_rows.specs.declared.property.UnitAct.{UnitAct}
+use Rattle.book_rows.specs.declared.property.RentsAct.{RentsAct}
+use Rattle.book_rows.specs.declared.property.LimitsAct.{LimitsAct}
+use Rattle.book_rows.specs.declared.applicants.ApplyAct.{ApplyAct}
+use Rattle.book_rows.specs.declared.command.Command.{Command}
+use Rattle.book_rows.specs.declared.command.Command.TheVariants as command
+
+-- the number lies in the range
+abbrev pub is_within : ℕ → ℕ → ℕ → Bool
+is_within least most number = nat_le least number && nat_le number most
+
+-- ---- names
+
+-- a byte from the space to the tilde
+abbrev pub is_printable : ℕ → Bool
+is_printable byte = is_within 32 126 byte
+
+abbrev pub begins_with_space : List ℕ → Bool
+begins_with_space text = slice_index_or text 0 0 == 32
+
+abbrev pub ends_with_space : List ℕ → Bool
+ends_with_space text = slice_index_or text (length text - 1) 0 == 32
+
+-- from one to so many printable bytes, with no space at either end
+abbrev pub is_name : ℕ → List ℕ → Bool
+is_name most text =
+    is_within 1 most (length text)
+    && (list_all is_printable text && (not (begins_with_space text) && not (ends_with_space text)))
+
+-- ---- the plan
+
+-- the least number of persons is at most the most
+abbrev pub is_bound : Bound → Bool
+is_bound bound = is_within 1 16 bound.least && (is_within 1 16 bound.most && nat_le bound.least bound.most)
+
+-- bounds for 0 to 5 bedrooms
+abbrev pub are_bounds : List Bound → Bool
+are_bounds bounds = length bounds == 6 && list_all is_bound bounds
+
+-- the ranks of at most 16 preferences
+abbrev pub are_ranks : List ℕ → Bool
+are_ranks ranks = nat_le (length ranks) 16 && list_all (is_within 1 99) ranks
+
+-- a plan begins in the years 2000 to 2099
+abbrev pub is_plan : Plan → Bool
+is_plan plan =
+    is_within 1440 2639 plan.first
+    && (is_within 1 2 plan.method
+    && (is_within 1 12 plan.fiscal_month
+    && (nat_le plan.report_days 365
+    && (nat_le plan.passbook 10000
+    && (nat_le plan.expected 9999
+    && (are_bounds plan.bounds && are_ranks plan.ranks))))))
+
+-- ---- units, rents and limits
+
+abbrev pub is_group : ℕ → Bool
+is_group group = is_within 1 99 group
+
+abbrev pub is_unit : UnitAct → Bool
+is_unit unit = is_name 10 unit.name && (is_group unit.group && nat_le unit.bedrooms 5)
+
+abbrev pub are_rents : Rents → Bool
+are_rents rents = nat_le rents.contract_rent 99999 && nat_le rents.utility 9999
+
+-- limits for 1 to 12 persons, in whole dollars a year
+abbrev pub are_limits : List ℕ → Bool
+are_limits limits = length limits == 12 && list_all (λ limit. nat_le limit 9999999) limits
+
+-- ---- applicants
+
+-- the codes of at most 16 preferences
+abbrev pub are_preferences : List ℕ → Bool
+are_preferences codes = nat_le (length codes) 16 && list_all (is_within 1 16) codes
+
+-- an applicant of a family of 1 to 12, of whom all and perhaps some aides will live in the unit
+abbrev pub is_application : ApplyAct → Bool
+is_application apply =
+    is_name 40 apply.name
+    && (is_within 1 12 apply.size
+    && (is_within apply.size 16 apply.persons && (are_preferences apply.preferences && nat_le apply.annual 9999999)))
+
+-- ---- commands
+
+abbrev pub is_fit : Command → Bool
+is_fit (command.Plan plan) = is_plan plan
+is_fit (command.Unit unit) = is_unit unit
+is_fit (command.Rents rents) = is_group rents.group && are_rents rents.rents
+is_fit (command.Limits limits) = are_limits limits.low && (are_limits limits.very_low && are_limits limits.extremely_low)
+is_fit (command.Apply apply) = is_application apply
+is_fit (command.Remove remove) = true
+is_fit (command.Start start) = is_name 40 start.name
+is_fit (command.Admit admit) = true
+is_fit (command.Annual annual) = true
+is_fit (command.Interim interim) = true
+is_fit (command.Resume resume) = true
+is_fit (command.Gross gross) = true
+is_fit (command.Correct correct) = true
+is_fit (command.AskTransfer ask) = true
+is_fit (command.Transfer transfer) = true
+is_fit (command.MoveOut move_out) = true
+is_fit (command.Terminate terminate) = true
+is_fit (command.Withdraw withdraw) = true
+is_fit (command.Close close) = true

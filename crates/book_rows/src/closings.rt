@@ -1,0 +1,7 @@
+use days_core::Month;
+
+/// Closes a month.
+#[derive(Clone, Copy, Debug, PartialEq, Eq)]
+pub struct CloseAct {
+    pub month: Month,
+}

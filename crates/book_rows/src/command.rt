@@ -1,0 +1,35 @@
+use crate::applicants::{ApplyAct, RemoveAct};
+use crate::certifications::{
+    AdmitAct, AnnualAct, CorrectAct, GrossAct, InterimAct, ResumeAct, StartAct,
+};
+use crate::closings::CloseAct;
+use crate::moves::{AskTransferAct, MoveOutAct, TerminateAct, TransferAct, WithdrawAct};
+use crate::property::{LimitsAct, RentsAct, UnitAct};
+use rent_table::Plan;
+
+/// What a clerk asks the office to do.
+///
+/// Numbers of applicants, households, units and records are any that 32 bits hold: whether they name something is the
+/// office's matter.
+#[derive(Debug, Drop, PartialEq, Eq)]
+pub enum Command {
+    Plan(Plan),
+    Unit(UnitAct),
+    Rents(RentsAct),
+    Limits(LimitsAct),
+    Apply(ApplyAct),
+    Remove(RemoveAct),
+    Start(StartAct),
+    Admit(AdmitAct),
+    Annual(AnnualAct),
+    Interim(InterimAct),
+    Resume(ResumeAct),
+    Gross(GrossAct),
+    Correct(CorrectAct),
+    AskTransfer(AskTransferAct),
+    Transfer(TransferAct),
+    MoveOut(MoveOutAct),
+    Terminate(TerminateAct),
+    Withdraw(WithdrawAct),
+    Close(CloseAct),
+}

@@ -1,0 +1,22 @@
+//! The book of an office: the commands that it is given, and the rows of acts, records and lines that it holds.
+#![tactic(auto)]
+
+mod applicants;
+mod certifications;
+mod closings;
+mod command;
+mod moves;
+mod property;
+mod rows;
+mod tables;
+
+pub use applicants::{ApplyAct, RemoveAct};
+pub use certifications::{
+    AdmitAct, AnnualAct, CorrectAct, GrossAct, InterimAct, ResumeAct, StartAct,
+};
+pub use closings::CloseAct;
+pub use command::Command;
+pub use moves::{AskTransferAct, MoveOutAct, TerminateAct, TransferAct, WithdrawAct};
+pub use property::{LimitsAct, RentsAct, UnitAct};
+pub use rows::{ActRow, Batch, Table};
+pub use tables::Tables;
