@@ -6,6 +6,7 @@ mod certifications;
 mod closings;
 mod command;
 mod moves;
+mod names;
 mod property;
 mod rows;
 mod tables;
@@ -17,6 +18,7 @@ pub use certifications::{
 pub use closings::CloseAct;
 pub use command::Command;
 pub use moves::{AskTransferAct, MoveOutAct, TerminateAct, TransferAct, WithdrawAct};
+pub use names::is_name;
 pub use property::{LimitsAct, RentsAct, UnitAct};
 pub use rows::{ActRow, Batch, Table};
 pub use tables::Tables;

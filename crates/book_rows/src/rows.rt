@@ -1,6 +1,7 @@
 use days_core::Day;
-use plain_data::{Listed, Text};
-use record_history::Record;
+use plain_data::{Listed, NoMemory, Text};
+use record_history::{Dates, Record};
+use std::alloc::Global;
 use voucher_core::Line;
 
 /// An act that the office accepted.
@@ -18,6 +19,25 @@ pub struct ActRow {
     pub body: Text,
 }
 
+impl ActRow {
+    ghost use Rattle.std.specs.Prelude.{◌≡◌, IfOk};
+
+    /// Another row that is the same.
+    pub fn try_clone(&self, alloc: Global) -> Result<ActRow, NoMemory>
+        ensures { IfOk result (λ act. act ≡ self.now) }
+    {
+        let body = self.body.as_bytes().to_vec(alloc)?;
+        Ok(ActRow {
+            n: self.n,
+            session: self.session,
+            clerk: self.clerk,
+            request: self.request,
+            day: self.day,
+            body: Text::new(body),
+        })
+    }
+}
+
 /// The rows that one act appends.
 #[derive(Debug, Drop, PartialEq, Eq)]
 pub struct Batch {
@@ -26,6 +46,23 @@ pub struct Batch {
     pub made: Option<Record>,
     /// The lines of the closing that the act made.
     pub lines: Listed<Line>,
+}
+
+impl Batch {
+    ghost use Rattle.std.specs.Prelude.{◌≡◌, IfOk};
+
+    /// Another batch of the same rows.
+    pub fn try_clone(&self, alloc: Global) -> Result<Batch, NoMemory>
+        ensures { IfOk result (λ batch. batch ≡ self.now) }
+    {
+        let act = self.act.try_clone(alloc)?;
+        let lines = self.lines.as_slice().to_vec(alloc)?;
+        Ok(Batch {
+            act,
+            made: self.made,
+            lines: Listed::new(lines),
+        })
+    }
 }
 
 /// Which of a book's tables a row is in.
