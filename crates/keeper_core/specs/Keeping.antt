@@ -16,6 +16,10 @@ pub record BadRow : Type 0 where
   pub table : Table
   pub act : ℕ
 
+-- it is told that this is the book
+abbrev pub Only : Book → Book → Type 0
+Only kept book = book ≡ kept
+
 -- each book that is told now was told before
 abbrev pub Keeps : (Book → Type 0) → (Book → Type 0) → Type 0
 Keeps old new = (book : Book) → new book → old book

@@ -1,4 +1,4 @@
-use crate::copies::{copy_of_batch, copy_of_tables};
+use crate::copies::copy_of_tables;
 use crate::{Committed, Keeper, Loaded};
 use book_rows::{Batch, Tables};
 use plain_data::NoMemory;
@@ -67,7 +67,7 @@ impl MemoryKeeper {
         ensures done { OnOk result (self.new ≡ appended self.old batch.now) }
         ensures undone { OnErr result (self.new ≡ self.old) }
     {
-        let copy = copy_of_batch(alloc, batch)?;
+        let copy = batch.try_clone(alloc)?;
         self.tables.reserve(batch)?;
         self.tables.append(copy);
         Ok(())
@@ -75,9 +75,9 @@ impl MemoryKeeper {
 }
 
 impl Keeper for MemoryKeeper {
-    ghost use Rattle.std.specs.Prelude.{◌≡◌};
+    ghost use Rattle.keeper_core.specs.Keeping.{Only};
 
-    ghost holds = { λ keeper book. book ≡ keeper };
+    ghost holds = { Only };
 
     ghost bad = { λ _ _. ⊥ };
 

@@ -127,10 +127,10 @@ impl Keeper for PlannedKeeper {
     ghost use Rattle.std.specs.Prelude.{◌≡◌, ◌↔◌, IsTrue};
     ghost use Rattle.std.specs.Str.{is_utf8};
     ghost use Rattle.book_rows.specs.Book.{Book, IsBatch, IsBefore};
-    ghost use Rattle.keeper_core.specs.Keeping.{Gives, LoadCause, Commits, CommitCause};
+    ghost use Rattle.keeper_core.specs.Keeping.{Only, Gives, LoadCause, Commits, CommitCause};
     ghost use Rattle.keeper_core.specs.Planned.{is_failing, after_call};
 
-    ghost holds = { λ planned book. book ≡ planned.book };
+    ghost holds = { λ planned. Only planned.book };
 
     ghost bad = { λ _ _. ⊥ };
 
@@ -141,7 +141,7 @@ impl Keeper for PlannedKeeper {
     ghost leaves = { λ _ _. ⊥ };
 
     fn load(&mut self, alloc: Global) -> Loaded
-        ensures gives { Gives (λ book. book ≡ self.new.book) (λ _. ⊥) result }
+        ensures gives { Gives (Only self.new.book) (λ _. ⊥) result }
         ensures kept { self.new.book ≡ self.old.book }
         ensures cause { LoadCause self.old.plan.faults self.new.plan.faults result }
         ensures fails { (result ≡ Loaded.Failed) ↔ IsTrue (is_failing self.old.plan) }
@@ -159,7 +159,7 @@ impl Keeper for PlannedKeeper {
         requires batch { IsBatch batch.now }
         requires next { IsBefore self.old.book batch.now.act.n }
         requires text { IsTrue (is_utf8 batch.now.act.body) }
-        ensures leaves { Commits (λ book. book ≡ self.old.book) (λ book. book ≡ self.new.book) batch.now result }
+        ensures leaves { Commits (Only self.old.book) (Only self.new.book) batch.now result }
         ensures cause { CommitCause self.old.plan.faults self.new.plan.faults result }
         ensures fails { (result ≡ Committed.Failed) ↔ IsTrue (is_failing self.old.plan) }
         ensures plan { self.new.plan ≡ after_call self.old.plan }
