@@ -50,7 +50,7 @@ impl Plan {
         ensures after { self.new ≡ faulted self.old }
         ensures fault { Faulted self.old.faults self.new.faults }
     {
-        self.calls = self.calls.saturating_add(1);
+        self.count_call();
         self.faults = self.faults.saturating_add(1);
     }
 }
