@@ -63,7 +63,8 @@ impl MemoryKeeper {
         0
     }
 
-    fn append(&mut self, alloc: Global, batch: &Batch) -> Result<(), NoMemory>
+    // Appends all rows of the batch or none.
+    pub(crate) fn append(&mut self, alloc: Global, batch: &Batch) -> Result<(), NoMemory>
         ensures done { OnOk result (self.new ≡ appended self.old batch.now) }
         ensures undone { OnErr result (self.new ≡ self.old) }
     {

@@ -1,5 +1,6 @@
 use crate::{Committed, Keeper, Loaded, MemoryKeeper};
 use book_rows::{Batch, Tables};
+use plain_data::NoMemory;
 use std::alloc::Global;
 use std::marker::Model;
 
@@ -169,6 +170,9 @@ impl Keeper for PlannedKeeper {
             return Committed::Failed;
         }
         self.plan.count_call();
-        self.keeper.commit(alloc, batch)
+        match self.keeper.append(alloc, batch) {
+            Ok(()) => Committed::Done,
+            Err(NoMemory) => Committed::NoMemory,
+        }
     }
 }
