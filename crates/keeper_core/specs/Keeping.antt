@@ -16,7 +16,7 @@ pub record BadRow : Type 0 where
   pub table : Table
   pub act : ℕ
 
--- it is told that this is the book
+-- the book that is kept is told, and no other
 abbrev pub Only : Book → Book → Type 0
 Only kept book = book ≡ kept
 

@@ -172,6 +172,8 @@ fn hold(alloc: Global, tables: &Tables, batches: u32) -> Result<bool, NoMemory> 
     Ok(tables.acts == rows.acts && tables.records == rows.records && tables.lines == rows.lines)
 }
 
+fn may_cross_threads<K: Keeper + Send + Drop>(_keeper: K) {}
+
 #[test]
 fn keeps_what_was_committed(rt: HostRuntime) -> Result<(), Fail> {
     let alloc = rt.alloc();
@@ -189,6 +191,8 @@ fn keeps_what_was_committed(rt: HostRuntime) -> Result<(), Fail> {
     assert_eq!(rt; keeper.faults(), 0);
     let keeper = MemoryKeeper::with(keeper.into_tables());
     assert!(rt; hold(alloc, keeper.tables(), 2)?);
+    may_cross_threads(keeper);
+    may_cross_threads(PlannedKeeper::new(alloc, Vec::new(alloc)));
     Ok(())
 }
 
