@@ -72,9 +72,15 @@ is_unit unit = is_name 10 unit.name && (is_group unit.group && nat_le unit.bedro
 abbrev pub are_rents : Rents → Bool
 are_rents rents = nat_le rents.contract_rent 99999 && nat_le rents.utility 9999
 
+abbrev pub is_rents : RentsAct → Bool
+is_rents rents = is_group rents.group && are_rents rents.rents
+
 -- limits for 1 to 12 persons, in whole dollars a year
 abbrev pub are_limits : List ℕ → Bool
 are_limits limits = length limits == 12 && list_all (λ limit. nat_le limit 9999999) limits
+
+abbrev pub is_limits : LimitsAct → Bool
+is_limits limits = are_limits limits.low && (are_limits limits.very_low && are_limits limits.extremely_low)
 
 -- ---- applicants
 
@@ -94,8 +100,8 @@ is_application apply =
 abbrev pub is_fit : Command → Bool
 is_fit (command.Plan plan) = is_plan plan
 is_fit (command.Unit unit) = is_unit unit
-is_fit (command.Rents rents) = is_group rents.group && are_rents rents.rents
-is_fit (command.Limits limits) = are_limits limits.low && (are_limits limits.very_low && are_limits limits.extremely_low)
+is_fit (command.Rents rents) = is_rents rents
+is_fit (command.Limits limits) = is_limits limits
 is_fit (command.Apply apply) = is_application apply
 is_fit (command.Remove remove) = true
 is_fit (command.Start start) = is_name 40 start.name

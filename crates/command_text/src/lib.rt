@@ -1,0 +1,14 @@
+//! The texts of commands: how a command is read of JSON and written as it, and the text that stands for it in a book.
+#![tactic(auto)]
+
+mod applicants;
+mod bounds;
+mod certifications;
+mod command;
+mod fields;
+mod kind;
+mod moves;
+mod numbers;
+mod property;
+
+pub use command::{command_of_value, value_of_command};
