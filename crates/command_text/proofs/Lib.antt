@@ -1,1 +1,9 @@
 pub mod Names
+pub mod PlainText
+pub mod FieldsAgain
+pub mod FactsPlain
+pub mod PropertyAgain
+pub mod ApplicantsAgain
+pub mod CertificationsAgain
+pub mod MovesAgain
+pub mod CommandAgain

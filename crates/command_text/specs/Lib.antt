@@ -5,3 +5,4 @@ pub mod Applicants
 pub mod Certifications
 pub mod Moves
 pub mod Commands
+pub mod Holdable

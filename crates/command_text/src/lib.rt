@@ -7,8 +7,10 @@ mod certifications;
 mod command;
 mod fields;
 mod kind;
+mod laws;
 mod moves;
 mod numbers;
 mod property;
 
 pub use command::{command_of_value, value_of_command};
+pub use laws::bodies_read_back;
