@@ -7,3 +7,4 @@ pub mod ApplicantsAgain
 pub mod CertificationsAgain
 pub mod MovesAgain
 pub mod CommandAgain
+pub mod WithoutFloat

@@ -79,13 +79,17 @@ abbrev pub accepted : {A : Type 0} → Result A (List ℕ) → Option A
 accepted (Ok x) = Some x
 accepted (Err path) = None
 
+-- the command that a text is read as
+abbrev pub command_from : List ℕ → Option Command
+command_from text = option_and_then (λ d. accepted (command_at d)) (data_from text)
+
 -- the command, where this is its text
 abbrev pub only_own : List ℕ → Command → Option Command
 only_own body asked = if bytes_eq (body_of asked) body then Some asked else None
 
 -- the command whose text this is: read by its form, and written again the same
 abbrev pub command_in : List ℕ → Option Command
-command_in body = option_and_then (only_own body) (option_and_then (λ d. accepted (command_at d)) (data_from body))
+command_in body = option_and_then (only_own body) (command_from body)
 
 -- two commands are the same where their texts are
 abbrev pub is_same_command : Command → Command → Bool

@@ -1,5 +1,6 @@
-ghost use Rattle.std.specs.Prelude.{◌≡◌, true, IfOk};
+ghost use Rattle.std.specs.Prelude.{◌≡◌, true, false, IfOk};
 ghost use Rattle.serde_json.specs.View.{view};
+ghost use Rattle.serde_json.specs.Written.{has_float};
 ghost use Rattle.json_form.specs.Gives.{Gives};
 ghost use Rattle.book_rows.specs.Fit.{is_fit};
 ghost use Rattle.command_text.specs.Commands.{rest_at, command_at, command_data};
@@ -65,6 +66,14 @@ fn command_of_kind(alloc: Global, value: &Value, kind: Kind) -> Result<Command, 
 
 /// Writes the command as a value.
 pub fn value_of_command(alloc: Global, asked: &Command) -> Result<Value, NoMemory>
+    ensures value { IfOk result (λ value. view value ≡ command_data asked.now) }
+    // So that its text is exact.
+    ensures no_float { IfOk result (λ value. has_float (view value) ≡ false) }
+{
+    value_by_kind(alloc, asked)
+}
+
+fn value_by_kind(alloc: Global, asked: &Command) -> Result<Value, NoMemory>
     ensures { IfOk result (λ value. view value ≡ command_data asked.now) }
 {
     match asked {

@@ -2,15 +2,18 @@
 #![tactic(auto)]
 
 mod applicants;
+mod body;
 mod bounds;
 mod certifications;
 mod command;
 mod fields;
+mod holdable;
 mod kind;
 mod laws;
 mod moves;
 mod numbers;
 mod property;
 
+pub use body::{BodyFault, body_of_command, command_of_body};
 pub use command::{command_of_value, value_of_command};
 pub use laws::bodies_read_back;

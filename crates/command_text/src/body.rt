@@ -1,0 +1,76 @@
+ghost use Rattle.std.specs.Prelude.{◌≡◌, true, Some, None, IfOk};
+ghost use Rattle.serde_json.specs.View.{view};
+ghost use Rattle.book_rows.specs.Fit.{is_fit};
+ghost use Rattle.command_text.specs.Commands.{command_at, accepted, command_from, body_of, command_in};
+
+use crate::command::{command_of_value, value_of_command};
+use book_rows::Command;
+use json_form::{FormFault, value_of_bytes};
+use plain_data::{NoMemory, Text};
+use serde_json::Value;
+use std::alloc::Global;
+
+/// Why a text was not read as a command's.
+#[derive(Clone, Copy, Debug, PartialEq, Eq)]
+pub enum BodyFault {
+    /// It is no command's text.
+    BadBody,
+    /// Memory ran out.
+    NoMemory,
+}
+
+impl From<NoMemory> for BodyFault {
+    ghost use Rattle.command_text.specs.declared.body.BodyFault.TheVariants as fault;
+
+    ghost from_gives = { λ _ why. why ≡ fault.NoMemory };
+
+    fn from(_error: NoMemory) -> BodyFault {
+        BodyFault::NoMemory
+    }
+}
+
+/// The text of a command: compact JSON, with the members of each object in the byte order of their names.
+pub fn body_of_command(alloc: Global, asked: &Command) -> Result<Text, NoMemory>
+    ensures { IfOk result (λ body. body ≡ body_of asked.now) }
+{
+    let value = value_of_command(alloc, asked)?;
+    Ok(Text::new(value.to_string(alloc)?.into_bytes()))
+}
+
+/// The command whose text this is.
+pub fn command_of_body(alloc: Global, body: &Text) -> Result<Command, BodyFault>
+    ensures command { IfOk result (λ asked. command_in body.now ≡ Some asked) }
+    ensures fit { IfOk result (λ asked. is_fit asked ≡ true) }
+    ensures own { IfOk result (λ asked. body_of asked ≡ body.now) }
+    ensures bad_body { result ≡ Err BodyFault.BadBody → command_in body.now ≡ None }
+{
+    let asked = command_of_bytes(alloc, body.as_bytes())?;
+    if body_of_command(alloc, &asked)? != *body {
+        return Err(BodyFault::BadBody);
+    }
+    Ok(asked)
+}
+
+fn command_of_bytes(alloc: Global, bytes: &[u8]) -> Result<Command, BodyFault>
+    ensures command { IfOk result (λ asked. command_from bytes.now ≡ Some asked) }
+    ensures fit { IfOk result (λ asked. is_fit asked ≡ true) }
+    ensures bad_body { result ≡ Err BodyFault.BadBody → command_from bytes.now ≡ None }
+{
+    match value_of_bytes(alloc, bytes) {
+        Ok(value) => command_of_read(alloc, &value),
+        Err(FormFault::BadField(_)) => Err(BodyFault::BadBody),
+        Err(FormFault::NoMemory) => Err(BodyFault::NoMemory),
+    }
+}
+
+fn command_of_read(alloc: Global, value: &Value) -> Result<Command, BodyFault>
+    ensures command { IfOk result (λ asked. accepted (command_at (view value.now)) ≡ Some asked) }
+    ensures fit { IfOk result (λ asked. is_fit asked ≡ true) }
+    ensures bad_body { result ≡ Err BodyFault.BadBody → accepted (command_at (view value.now)) ≡ None }
+{
+    match command_of_value(alloc, value) {
+        Ok(asked) => Ok(asked),
+        Err(FormFault::BadField(_)) => Err(BodyFault::BadBody),
+        Err(FormFault::NoMemory) => Err(BodyFault::NoMemory),
+    }
+}
