@@ -4,6 +4,7 @@ ghost use Rattle.book_rows.specs.Fit.{is_fit};
 ghost use Rattle.command_text.specs.Commands.{command_at, accepted, command_from, body_of, command_in};
 
 use crate::command::{command_of_value, value_of_command};
+use crate::holdable::held_command;
 use book_rows::Command;
 use json_form::{FormFault, value_of_bytes};
 use plain_data::{NoMemory, Text};
@@ -31,6 +32,15 @@ impl From<NoMemory> for BodyFault {
 
 /// The text of a command: compact JSON, with the members of each object in the byte order of their names.
 pub fn body_of_command(alloc: Global, asked: &Command) -> Result<Text, NoMemory>
+    ensures body { IfOk result (λ body. body ≡ body_of asked.now) }
+    ensures read_again { IfOk result (λ body. is_fit asked.now ≡ true → command_in body ≡ Some asked.now) }
+{
+    held_command(asked);
+    let body = text_of_command(alloc, asked)?;
+    Ok(body)
+}
+
+fn text_of_command(alloc: Global, asked: &Command) -> Result<Text, NoMemory>
     ensures { IfOk result (λ body. body ≡ body_of asked.now) }
 {
     let value = value_of_command(alloc, asked)?;
