@@ -1,5 +1,5 @@
 -- Commands that are fit are read again from the values and from the texts that are written of them.
-use Rattle.std.proofs.Common.{◌≡◌, true, List, Some, Ok, ap, refl, sym, ◌∙◌, arith}
+use Rattle.std.proofs.Common.{◌≡◌, ◌≢◌, true, List, Some, None, Ok, ap, refl, sym, ◌∙◌, arith}
 use Rattle.std.specs.Prelude.{ℕ, bytes_eq, option_and_then}
 use Rattle.std.proofs.lemmas.Slice.Eq.{bytes_eq-Decides}
 use Rattle.book_rows.specs.declared.command.Command.{Command}
@@ -68,4 +68,9 @@ pub same_again : (asked other : Command) → is_fit asked ≡ true → IsHoldabl
 same_again asked other fit h fit_other h_other same =
     let bodies : body_of asked ≡ body_of other = (bytes_eq-Decides (body_of asked) (body_of other)).0 same in
     let found : Some asked ≡ Some other = sym (body_again asked fit h) ∙ ap command_in bodies ∙ body_again other fit_other h_other in
+    cc
+
+pub of_no_command : (body : List ℕ) → command_in body ≡ None → (asked : Command) → is_fit asked ≡ true → IsHoldable asked → body_of asked ≢ body
+of_no_command body none asked fit h same =
+    let found : command_in body ≡ Some asked = ap command_in (sym same) ∙ body_again asked fit h in
     cc

@@ -1,6 +1,8 @@
-ghost use Rattle.std.specs.Prelude.{◌≡◌, true, Some, None, IfOk};
+ghost use Rattle.std.specs.Prelude.{◌≡◌, ◌≢◌, true, Some, None, IfOk};
 ghost use Rattle.serde_json.specs.View.{view};
 ghost use Rattle.book_rows.specs.Fit.{is_fit};
+ghost use Rattle.book_rows.specs.declared.command.Command.{Command};
+ghost use Rattle.command_text.specs.Holdable.{IsHoldable};
 ghost use Rattle.command_text.specs.Commands.{command_at, accepted, command_from, body_of, command_in};
 
 use crate::command::{command_of_value, value_of_command};
@@ -49,6 +51,16 @@ fn text_of_command(alloc: Global, asked: &Command) -> Result<Text, NoMemory>
 
 /// The command whose text this is.
 pub fn command_of_body(alloc: Global, body: &Text) -> Result<Command, BodyFault>
+    ensures command { IfOk result (λ asked. command_in body.now ≡ Some asked) }
+    ensures fit { IfOk result (λ asked. is_fit asked ≡ true) }
+    ensures own { IfOk result (λ asked. body_of asked ≡ body.now) }
+    ensures bad_body { result ≡ Err BodyFault.BadBody → command_in body.now ≡ None }
+    ensures of_no_command { result ≡ Err BodyFault.BadBody → (asked : Command) → is_fit asked ≡ true → IsHoldable asked → body_of asked ≢ body.now }
+{
+    own_command(alloc, body)
+}
+
+fn own_command(alloc: Global, body: &Text) -> Result<Command, BodyFault>
     ensures command { IfOk result (λ asked. command_in body.now ≡ Some asked) }
     ensures fit { IfOk result (λ asked. is_fit asked ≡ true) }
     ensures own { IfOk result (λ asked. body_of asked ≡ body.now) }

@@ -17,3 +17,6 @@ mod property;
 pub use body::{BodyFault, body_of_command, command_of_body};
 pub use command::{command_of_value, value_of_command};
 pub use laws::bodies_read_back;
+
+#[cfg(test)]
+mod tests;
