@@ -9,6 +9,7 @@ mod moves;
 mod names;
 mod property;
 mod rows;
+mod same;
 mod tables;
 
 pub use applicants::{ApplyAct, RemoveAct};
@@ -21,4 +22,8 @@ pub use moves::{AskTransferAct, MoveOutAct, TerminateAct, TransferAct, WithdrawA
 pub use names::is_name;
 pub use property::{LimitsAct, RentsAct, UnitAct};
 pub use rows::{ActRow, Batch, Table};
+pub use same::{same_act, same_line, same_record};
 pub use tables::Tables;
+
+#[cfg(test)]
+mod tests;
