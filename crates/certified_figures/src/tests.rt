@@ -8,12 +8,10 @@ use std::test::Fail;
 
 const PASSBOOK: u32 = 200;
 
-fn rents(contract_rent: u32, utility: u32) -> Rents {
-    Rents {
-        contract_rent,
-        utility,
-    }
-}
+const RENTS: Rents = Rents {
+    contract_rent: 700,
+    utility: 60,
+};
 
 fn person(relation: Relation, born: Day) -> Member {
     Member {
@@ -92,18 +90,15 @@ fn facts_come_to_figures(rt: HostRuntime) -> Result<(), Fail> {
             annual: benefits,
             adjusted,
             ttp,
-            rents: rents(700, 60),
+            rents: RENTS,
             assistance,
         };
-        assert_eq!(rt;
-            figures_of_facts(&facts, day, PASSBOOK, rents(700, 60)),
-            expected
-        );
+        assert_eq!(rt; figures_of_facts(&facts, day, PASSBOOK, RENTS), expected);
     }
     Ok(())
 }
 
-// A payment of 212 leaves 780 - 212 = 568 of the rents of 720 and 60, and nothing of 150 and 60.
+// A payment of 212 leaves 780 - 212 = 568 of the rents of 720 and 60, and nothing of 152 and 60.
 #[test]
 fn figures_are_carried(rt: HostRuntime) -> Result<(), Fail> {
     let held = Record {
@@ -120,27 +115,41 @@ fn figures_are_carried(rt: HostRuntime) -> Result<(), Fail> {
         annual: 9_600,
         adjusted: 8_488,
         ttp: 212,
-        rents: rents(700, 60),
+        rents: RENTS,
         assistance: 548,
         dates: None,
     };
-    for (contract_rent, utility, assistance) in [(720, 60, 568), (150, 60, 0), (152, 61, 1)] {
-        let carried = figures_carried(&held, rents(contract_rent, utility));
-        let expected = Figures {
-            persons: 2,
-            size: 1,
-            annual: 9_600,
-            adjusted: 8_488,
-            ttp: 212,
-            rents: rents(contract_rent, utility),
-            assistance,
-        };
-        assert_eq!(rt; carried, expected);
-    }
-    assert_eq!(rt; no_figures().rents, rents(0, 0));
-    assert_eq!(rt;
-        no_figures().persons + no_figures().size + no_figures().ttp,
-        0
-    );
+    let raised = Rents {
+        contract_rent: 720,
+        utility: 60,
+    };
+    let expected = Figures {
+        persons: 2,
+        size: 1,
+        annual: 9_600,
+        adjusted: 8_488,
+        ttp: 212,
+        rents: raised,
+        assistance: 568,
+    };
+    assert_eq!(rt; figures_carried(&held, raised), expected);
+    let lowered = Rents {
+        contract_rent: 152,
+        utility: 60,
+    };
+    assert_eq!(rt; figures_carried(&held, lowered).assistance, 0);
+    let expected = Figures {
+        persons: 0,
+        size: 0,
+        annual: 0,
+        adjusted: 0,
+        ttp: 0,
+        rents: Rents {
+            contract_rent: 0,
+            utility: 0,
+        },
+        assistance: 0,
+    };
+    assert_eq!(rt; no_figures(), expected);
     Ok(())
 }
