@@ -1,0 +1,213 @@
+-- What the acts of a book say, read by their commands.
+use Rattle.std.specs.Prelude.{ℕ, ◌+◌, ◌-◌, ◌==◌, not, if◌then◌else◌, Bool, true, false, Option, Some, None, List, [], ◌∷◌, length, filter, find, fold, slice_get, unwrap_or, is_some}
+use Rattle.std.specs.List.{filter_map, list_any}
+use Rattle.std.specs.Option.{option_map}
+use Rattle.record_history.specs.declared.records.Record.{Record}
+use Rattle.rent_table.specs.declared.plan.Plan.{Plan}
+use Rattle.rent_table.specs.declared.rows.Unit.{Unit as UnitRow}
+use Rattle.rent_table.specs.declared.rows.RentRow.{RentRow}
+use Rattle.rent_table.specs.declared.rows.LimitRow.{LimitRow}
+use Rattle.wait_list.specs.declared.applicant.Applicant.{Applicant}
+use Rattle.wait_list.specs.Rank.{best_rank}
+use Rattle.voucher_core.specs.declared.line.Line.{Line}
+use Rattle.book_rows.specs.declared.property.UnitAct.{UnitAct}
+use Rattle.book_rows.specs.declared.property.RentsAct.{RentsAct}
+use Rattle.book_rows.specs.declared.property.LimitsAct.{LimitsAct}
+use Rattle.book_rows.specs.declared.applicants.ApplyAct.{ApplyAct}
+use Rattle.book_rows.specs.declared.moves.AskTransferAct.{AskTransferAct}
+use Rattle.book_rows.specs.declared.rows.ActRow.{ActRow}
+use Rattle.book_rows.specs.declared.command.Command.{Command}
+use Rattle.book_rows.specs.declared.command.Command.TheVariants as command
+use Rattle.book_rows.specs.Book.{Book}
+use Rattle.command_text.specs.Commands.{command_in}
+
+-- an act that was accepted: its number and its command
+pub record Act : Type 0 where
+  pub n : ℕ
+  pub command : Command
+
+-- the act of a row, where its body is that of a command
+abbrev pub act_of : ActRow → Option Act
+act_of row = option_map (λ asked. record { n = row.n; command = asked }) (command_in row.body)
+
+-- the acts of rows
+abbrev pub acts_of : List ActRow → List Act
+acts_of rows = filter_map act_of rows
+
+-- what a book holds, its acts read: how many acts, the acts, the records and the lines
+pub record Known : Type 0 where
+  pub count : ℕ
+  pub acts : List Act
+  pub records : List Record
+  pub lines : List Line
+
+abbrev pub known_of : Book → Known
+known_of book = record { count = length book.acts; acts = acts_of book.acts; records = book.records; lines = book.lines }
+
+-- ---- lists
+
+-- the first of a list
+abbrev pub first_in : {A : Type 0} → List A → Option A
+first_in items = slice_get items 0
+
+-- the last of a list
+abbrev pub last_in : {A : Type 0} → List A → Option A
+last_in items = fold (λ earlier item. Some item) None items
+
+-- the items with the numbers from that one on
+abbrev pub numbered : {A B : Type 0} → (ℕ → A → B) → ℕ → List A → List B
+numbered make number [] = []
+numbered make number (item ∷ items) = make number item ∷ numbered make (number + 1) items
+
+-- the item of that number, of items numbered from 1
+abbrev pub at_number : {A : Type 0} → List A → ℕ → Option A
+at_number items number = if number == 0 then None else slice_get items (number - 1)
+
+-- ---- the plan
+
+abbrev pub plan_in : Command → Option Plan
+plan_in (command.Plan plan) = Some plan
+plan_in _ = None
+
+-- the office's plan
+abbrev pub plan_of : List Act → Option Plan
+plan_of acts = first_in (filter_map (λ act. plan_in act.command) acts)
+
+-- the act that gave it
+abbrev pub plan_act : List Act → Option ℕ
+plan_act acts = option_map (λ act. act.n) (find (λ act. is_some (plan_in act.command)) acts)
+
+-- ---- units, rents and limits
+
+abbrev pub unit_in : Command → Option UnitAct
+unit_in (command.Unit unit) = Some unit
+unit_in _ = None
+
+abbrev pub unit_row : ℕ → UnitAct → UnitRow
+unit_row number unit = record { number = number; name = unit.name; group = unit.group; bedrooms = unit.bedrooms; accessible = unit.accessible }
+
+-- the units, numbered from 1 in the order of their acts
+abbrev pub units_of : List Act → List UnitRow
+units_of acts = numbered unit_row 1 (filter_map (λ act. unit_in act.command) acts)
+
+abbrev pub rents_in : Command → Option RentsAct
+rents_in (command.Rents rents) = Some rents
+rents_in _ = None
+
+abbrev pub rent_row : ℕ → RentsAct → RentRow
+rent_row act rents = record { group = rents.group; from = rents.from; act = act; rents = rents.rents }
+
+-- the rents, in the order of their acts
+abbrev pub rents_of : List Act → List RentRow
+rents_of acts = filter_map (λ act. option_map (rent_row act.n) (rents_in act.command)) acts
+
+abbrev pub limits_in : Command → Option LimitsAct
+limits_in (command.Limits limits) = Some limits
+limits_in _ = None
+
+abbrev pub limit_row : ℕ → LimitsAct → LimitRow
+limit_row act limits = record { from = limits.from; act = act; low = limits.low; very_low = limits.very_low; extremely_low = limits.extremely_low }
+
+-- the income limits, in the order of their acts
+abbrev pub limits_of : List Act → List LimitRow
+limits_of acts = filter_map (λ act. option_map (limit_row act.n) (limits_in act.command)) acts
+
+-- ---- applicants
+
+-- an application and the act that made it
+pub record Application : Type 0 where
+  pub act : ℕ
+  pub apply : ApplyAct
+
+abbrev pub apply_in : Command → Option ApplyAct
+apply_in (command.Apply apply) = Some apply
+apply_in _ = None
+
+-- the applications, in the order of their acts
+abbrev pub applications_of : List Act → List Application
+applications_of acts = filter_map (λ act. option_map (λ apply. record { act = act.n; apply = apply }) (apply_in act.command)) acts
+
+-- an applicant, ranked by the plan's ranks of preferences
+abbrev pub applicant_of : List ℕ → ℕ → Application → Applicant
+applicant_of ranks number application = record {
+  number = number;
+  act = application.act;
+  size = application.apply.size;
+  persons = application.apply.persons;
+  rank = best_rank ranks application.apply.preferences;
+  accessible = application.apply.accessible;
+  annual = application.apply.annual;
+}
+
+-- all who ever applied, numbered from 1 in the order of their acts
+abbrev pub applicants_of : List ℕ → List Act → List Applicant
+applicants_of ranks acts = numbered (applicant_of ranks) 1 (applications_of acts)
+
+-- the command removes or admits the applicant of that number
+abbrev pub takes_off_list : ℕ → Command → Bool
+takes_off_list number (command.Remove remove) = remove.applicant == number
+takes_off_list number (command.Admit admit) = admit.applicant == number
+takes_off_list number _ = false
+
+-- the applicants who were neither removed nor admitted
+abbrev pub waiting_of : List ℕ → List Act → List Applicant
+waiting_of ranks acts =
+    filter (λ applicant. not (list_any (λ act. takes_off_list applicant.number act.command) acts)) (applicants_of ranks acts)
+
+-- ---- households
+
+-- the name of the household that the command makes, if it makes one: its own, or that of the applicant
+abbrev pub name_given : List Application → Command → Option (List ℕ)
+name_given applications (command.Start start) = Some start.name
+name_given applications (command.Admit admit) =
+    Some (unwrap_or (option_map (λ application. application.apply.name) (at_number applications admit.applicant)) [])
+name_given applications _ = None
+
+-- the names of the households, numbered from 1 in the order of the acts that made them
+abbrev pub names_of : List Act → List (List ℕ)
+names_of acts = filter_map (λ act. name_given (applications_of acts) act.command) acts
+
+-- how many households there are
+abbrev pub household_count : List Act → ℕ
+household_count acts = length (names_of acts)
+
+-- what a household said of another unit, and the act by which it did
+pub record Request : Type 0 where
+  pub act : ℕ
+  pub wanted : Bool
+  pub accessible : Bool
+
+abbrev pub ask_in : Command → Option AskTransferAct
+ask_in (command.AskTransfer ask) = Some ask
+ask_in _ = None
+
+abbrev pub request_of : ℕ → Act → Option Request
+request_of household act =
+    option_map (λ ask. record { act = act.n; wanted = ask.wanted; accessible = ask.accessible })
+    (filtered (λ ask. ask.household == household) (ask_in act.command))
+  where
+    filtered : (AskTransferAct → Bool) → Option AskTransferAct → Option AskTransferAct
+    filtered passes None = None
+    filtered passes (Some ask) = if passes ask then Some ask else None
+
+-- the last that a household said of it
+abbrev pub last_request : List Act → ℕ → Option Request
+last_request acts household = last_in (filter_map (request_of household) acts)
+
+-- ---- closings
+
+-- a month that was closed, and the act that closed it
+pub record Closing : Type 0 where
+  pub act : ℕ
+  pub month : ℕ
+
+abbrev pub closing_of : Act → Option Closing
+closing_of act = option_map (λ month. record { act = act.n; month = month }) (month_in act.command)
+  where
+    month_in : Command → Option ℕ
+    month_in (command.Close close) = Some close.month
+    month_in _ = None
+
+-- the last closing
+abbrev pub last_closing : List Act → Option Closing
+last_closing acts = last_in (filter_map closing_of acts)

@@ -1,0 +1,91 @@
+-- Who is next for a unit on a day, by the tables.
+use Rattle.std.specs.Prelude.{ℕ, ◌+◌, ◌-◌, ◌/◌, ◌==◌, ◌&&◌, not, nat_lt, if◌then◌else◌, Bool, true, false, Option, Some, None, option_and_then, List, length, filter, count_by}
+use Rattle.std.specs.List.{range_with_len, filter_map, flat_map}
+use Rattle.std.specs.Option.{option_map, option_map_or}
+use Rattle.row_choice.specs.Latest.{latest as latest_by}
+use Rattle.days_core.specs.Calendar.{month_of}
+use Rattle.record_history.specs.declared.records.Record.{Record}
+use Rattle.record_history.specs.Records.{live_records, in_force}
+use Rattle.record_history.specs.Held.{records_of}
+use Rattle.due_dates.specs.Stale.{ends_assistance}
+use Rattle.tenancy_rules.specs.Order.{is_move_in, is_transfer}
+use Rattle.rent_table.specs.declared.plan.Plan.{Plan}
+use Rattle.rent_table.specs.declared.rows.Unit.{Unit as UnitRow}
+use Rattle.rent_table.specs.declared.rows.LimitRow.{LimitRow}
+use Rattle.rent_table.specs.Admission.{suits}
+use Rattle.wait_list.specs.declared.targets.Targets.{Targets}
+use Rattle.wait_list.specs.Target.{wants_extremely_low}
+use Rattle.wait_list.specs.Next.{Asked}
+use Rattle.office_step.specs.Acts.{Act, Request, last_request}
+
+-- ---- movers
+
+-- the live transfer with the greatest number
+abbrev pub newest_transfer : List Record → Option Record
+newest_transfer own = latest_by (λ r other. nat_lt r.number other.number) (filter (λ r. is_transfer r.kind) (live_records own))
+
+-- the household wants another unit, and wanted it after the act of its newest live transfer
+abbrev pub counts : List Record → Request → Bool
+counts own request = request.wanted && option_map_or (λ r. nat_lt r.act request.act) (newest_transfer own) true
+
+-- the record is of an assisted household that lives in another unit, and the unit is for so many persons
+abbrev pub would_move : Plan → UnitRow → Record → Bool
+would_move plan unit r = not (ends_assistance r.kind) && (not (r.unit == unit.number) && suits plan unit r.persons)
+
+-- a household that would move: the act of its request, and whether it needs accessible features
+pub record Mover : Type 0 where
+  pub household : ℕ
+  pub act : ℕ
+  pub accessible : Bool
+
+-- the household as a mover, where it is one
+abbrev pub mover_of : Plan → UnitRow → ℕ → List Act → List (List Record) → ℕ → Option Mover
+mover_of plan unit day acts households household =
+    option_and_then (λ request.
+    if counts (records_of households household) request && option_map_or (would_move plan unit) (in_force (records_of households household) day) false
+    then Some (record { household = household; act = request.act; accessible = request.accessible }) else None)
+    (last_request acts household)
+
+-- all movers
+abbrev pub movers_of : Plan → UnitRow → ℕ → List Act → List (List Record) → List Mover
+movers_of plan unit day acts households = filter_map (mover_of plan unit day acts households) (range_with_len 1 (length households))
+
+-- the household whose request came first
+abbrev pub first_mover : List Mover → Option ℕ
+first_mover movers = option_map (λ m. m.household) (latest_by (λ m other. nat_lt other.act m.act) movers)
+
+-- ---- admissions of a year
+
+-- the number of the fiscal year in which a month lies
+abbrev pub fiscal_year : Plan → ℕ → ℕ
+fiscal_year plan month = (month + 13 - plan.fiscal_month) / 12
+
+-- the record is a move-in of the fiscal year of the day
+abbrev pub is_admission : Plan → ℕ → Record → Bool
+is_admission plan day r = is_move_in r.kind && fiscal_year plan (month_of r.from) == fiscal_year plan (month_of day)
+
+-- the move-ins of that year that count
+abbrev pub admissions : Plan → ℕ → List (List Record) → List Record
+admissions plan day households = filter (is_admission plan day) (flat_map live_records households)
+
+-- how far the office is with them
+abbrev pub targets_of : Plan → ℕ → List (List Record) → Targets
+targets_of plan day households = record {
+  method = plan.method;
+  expected = plan.expected;
+  admitted = length (admissions plan day households);
+  extremely = count_by (λ r. r.extremely) (admissions plan day households);
+}
+
+-- ---- the question
+
+-- what is asked about the unit on the day
+abbrev pub asked_of : Plan → UnitRow → ℕ → Option LimitRow → List Act → List (List Record) → Asked
+asked_of plan unit day limits acts households = record {
+  unit = unit;
+  plan = plan;
+  limits = limits;
+  wanted = wants_extremely_low (targets_of plan day households);
+  needing = if unit.accessible then first_mover (filter (λ m. m.accessible) (movers_of plan unit day acts households)) else None;
+  other = first_mover (filter (λ m. not (unit.accessible && m.accessible)) (movers_of plan unit day acts households));
+}

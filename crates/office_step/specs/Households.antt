@@ -1,0 +1,58 @@
+-- What the records of households say, on a day or after a change.
+use Rattle.std.specs.Prelude.{ℕ, ◌+◌, ◌==◌, ◌||◌, nat_le, Bool, true, false, Option, Some, None, List, map, filter, find, is_some}
+use Rattle.std.specs.List.{range_with_len, list_any}
+use Rattle.std.specs.Option.{option_map, option_map_or, option_or}
+use Rattle.record_history.specs.declared.records.Kind.{Kind}
+use Rattle.record_history.specs.declared.records.Kind.TheVariants as kind
+use Rattle.record_history.specs.declared.records.Record.{Record}
+use Rattle.record_history.specs.Records.{live_records, in_force, latest}
+use Rattle.tenancy_rules.specs.declared.change.Change.{Change}
+
+-- the records of one household
+abbrev pub own_of : List Record → ℕ → List Record
+own_of records household = filter (λ r. r.household == household) records
+
+-- the records of so many households, each in a list of its own
+abbrev pub households_of : List Record → ℕ → List (List Record)
+households_of records count = map (own_of records) (range_with_len 1 count)
+
+-- the record of that number
+abbrev pub record_at : List Record → ℕ → Option Record
+record_at own number = find (λ r. r.number == number) own
+
+-- the record that one which names no other continues: the one in force on its first day, or record 1 where none is
+abbrev pub continued : List Record → ℕ → Option Record
+continued own from = option_or (in_force own from) (record_at own 1)
+
+-- the unit of a record that names none
+abbrev pub unit_continued : List Record → ℕ → ℕ
+unit_continued own from = option_map_or (λ r. r.unit) (continued own from) 0
+
+-- the last of the records that has begun by the day
+abbrev pub standing_on : List Record → ℕ → Option Record
+standing_on live day = latest (filter (λ r. nat_le r.from day) live)
+
+-- it begins a household's year: a move-in, an initial certification or an annual recertification
+abbrev pub begins_year : Kind → Bool
+begins_year kind.MI = true
+begins_year kind.IC = true
+begins_year kind.AR = true
+begins_year _ = false
+
+-- a correction may name it: it was computed from facts
+abbrev pub rests_on_facts : Kind → Bool
+rests_on_facts kind.MI = true
+rests_on_facts kind.IC = true
+rests_on_facts kind.AR = true
+rests_on_facts kind.IR = true
+rests_on_facts _ = false
+
+-- ---- changes
+
+-- the change of an act that makes a record: it counts, and the one that it corrects no longer does
+abbrev pub adding : Record → Change
+adding made = record { drop = made.corrects; add = Some made }
+
+-- the change of a withdrawal
+abbrev pub dropping : ℕ → Change
+dropping target = record { drop = target; add = None }

@@ -1,0 +1,183 @@
+-- The record that an act makes, and the lines of a closing.
+use Rattle.std.specs.Prelude.{ℕ, ◌+◌, ◌-◌, ◌==◌, if◌then◌else◌, Bool, true, false, Option, Some, None, option_and_then, List, [], length}
+use Rattle.std.specs.Option.{option_map, option_map_or}
+use Rattle.days_core.specs.declared.rents.Rents.{Rents}
+use Rattle.record_history.specs.declared.records.Dates.{Dates}
+use Rattle.record_history.specs.declared.records.Kind.{Kind}
+use Rattle.record_history.specs.declared.records.Kind.TheVariants as kind
+use Rattle.record_history.specs.declared.records.Record.{Record}
+use Rattle.record_history.specs.Records.{newest_number}
+use Rattle.record_history.specs.Held.{records_of}
+use Rattle.facts_core.specs.declared.facts.Facts.{Facts}
+use Rattle.rent_table.specs.declared.rows.LimitRow.{LimitRow}
+use Rattle.rent_table.specs.Table.{limits_on}
+use Rattle.rent_table.specs.Admission.{has_extremely_low_income}
+use Rattle.tenancy_rules.specs.Order.{is_move_in}
+use Rattle.due_dates.specs.Stale.{unit_rents_on}
+use Rattle.voucher_core.specs.declared.line.Line.{Line}
+use Rattle.voucher_core.specs.Lines.{closing_lines, placed}
+use Rattle.certified_figures.specs.declared.figures.Figures.{Figures}
+use Rattle.certified_figures.specs.Figures.{figures_of, carried_figures, no_figures}
+use Rattle.book_rows.specs.declared.command.Command.{Command}
+use Rattle.book_rows.specs.declared.command.Command.TheVariants as command
+use Rattle.book_rows.specs.declared.closings.CloseAct.{CloseAct}
+use Rattle.office_step.specs.Acts.{Known, plan_of, units_of, rents_of, limits_of, household_count, last_closing}
+use Rattle.office_step.specs.Households.{own_of, households_of, record_at, continued, unit_continued}
+
+-- ---- what an act reads
+
+-- the households' records, each in a list of its own
+abbrev pub households_in : Known → List (List Record)
+households_in known = households_of known.records (household_count known.acts)
+
+-- the records of one household
+abbrev pub own_in : Known → ℕ → List Record
+own_in known household = records_of (households_in known) household
+
+-- the number of the household that comes next
+abbrev pub next_household : Known → ℕ
+next_household known = household_count known.acts + 1
+
+-- the rents of a unit on a day
+abbrev pub rents_in_unit : Known → ℕ → ℕ → Option Rents
+rents_in_unit known unit day = unit_rents_on (units_of known.acts) (rents_of known.acts) unit day
+
+-- ---- a record
+
+-- what a record says beside its figures
+pub record Heading : Type 0 where
+  pub household : ℕ
+  pub kind : Kind
+  pub from : ℕ
+  pub corrects : ℕ
+  pub unit : ℕ
+  pub dates : Option Dates
+
+-- the next record of the household, made by the next act
+abbrev pub made_with : Known → Heading → Bool → Figures → Record
+made_with known heading extremely figures = record {
+  household = heading.household;
+  number = newest_number (own_in known heading.household) + 1;
+  act = known.count + 1;
+  kind = heading.kind;
+  from = heading.from;
+  corrects = heading.corrects;
+  unit = heading.unit;
+  persons = figures.persons;
+  size = figures.size;
+  extremely = extremely;
+  annual = figures.annual;
+  adjusted = figures.adjusted;
+  ttp = figures.ttp;
+  rents = figures.rents;
+  assistance = figures.assistance;
+  dates = heading.dates;
+}
+
+-- limits stand, and by them the income is extremely low
+abbrev pub is_extremely_low : Option LimitRow → Figures → Bool
+is_extremely_low limits figures = option_map_or (λ row. has_extremely_low_income row figures.size figures.annual) limits false
+
+-- a move-in of extremely low income on its first day; of other records it isn't told
+abbrev pub told_extremely_low : Known → Heading → Figures → Bool
+told_extremely_low known heading figures =
+    if is_move_in heading.kind then is_extremely_low (limits_on (limits_of known.acts) heading.from) figures else false
+
+-- a record computed from the facts, with its unit's rents on its first day
+abbrev pub made_of_facts : Known → Heading → Facts → Option Record
+made_of_facts known heading facts =
+    option_and_then (λ plan. option_map (λ rents. made_of (figures_of facts heading.from plan.passbook rents))
+    (rents_in_unit known heading.unit heading.from)) (plan_of known.acts)
+  where
+    made_of : Figures → Record
+    made_of figures = made_with known heading (told_extremely_low known heading figures) figures
+
+-- a record that carries over what was certified, with its unit's rents on its first day
+abbrev pub made_of_carried : Known → Heading → Option Record
+made_of_carried known heading =
+    option_and_then (λ held. option_map (λ rents. made_with known heading false (carried_figures held rents))
+    (rents_in_unit known heading.unit heading.from)) (continued (own_in known heading.household) heading.from)
+
+-- a record that certifies nothing
+abbrev pub made_of_nothing : Known → Heading → Record
+made_of_nothing known heading = made_with known heading false no_figures
+
+-- ---- the record of an act
+
+-- a new household's first record
+abbrev pub new_heading : Known → Kind → ℕ → ℕ → Heading
+new_heading known kind unit from =
+    record { household = next_household known; kind = kind; from = from; corrects = 0; unit = unit; dates = None }
+
+-- a further record of a household, for the unit that it has
+abbrev pub further_heading : Known → ℕ → Kind → ℕ → Option Dates → Heading
+further_heading known household kind from dates =
+    record { household = household; kind = kind; from = from; corrects = 0; unit = unit_continued (own_in known household) from; dates = dates }
+
+-- a correction keeps the kind, the unit and the dates of its target
+abbrev pub correction_heading : ℕ → Record → ℕ → Heading
+correction_heading household target from =
+    record { household = household; kind = target.kind; from = from; corrects = target.number; unit = target.unit; dates = target.dates }
+
+-- a transfer is for the new unit
+abbrev pub transfer_heading : ℕ → ℕ → ℕ → Heading
+transfer_heading household unit from =
+    record { household = household; kind = kind.UT; from = from; corrects = 0; unit = unit; dates = None }
+
+-- a withdrawal has the first day of its target, and no unit
+abbrev pub withdrawal_heading : ℕ → Record → Heading
+withdrawal_heading household target =
+    record { household = household; kind = kind.WD; from = target.from; corrects = target.number; unit = 0; dates = None }
+
+-- all three days are the one on which the work was done
+abbrev pub resumed_dates : ℕ → Option Dates
+resumed_dates done = Some (record { event = done; notice = done; done = done })
+
+-- the record that the next act makes, if it makes one
+abbrev pub record_of : Known → Command → Option Record
+record_of known (command.Plan plan) = None
+record_of known (command.Unit unit) = None
+record_of known (command.Rents rents) = None
+record_of known (command.Limits limits) = None
+record_of known (command.Apply apply) = None
+record_of known (command.Remove remove) = None
+record_of known (command.Start start) = made_of_facts known (new_heading known kind.IC start.unit start.from) start.facts
+record_of known (command.Admit admit) = made_of_facts known (new_heading known kind.MI admit.unit admit.from) admit.facts
+record_of known (command.Annual annual) =
+    made_of_facts known (further_heading known annual.household kind.AR annual.from None) annual.facts
+record_of known (command.Interim interim) =
+    made_of_facts known (further_heading known interim.household kind.IR interim.from (Some interim.dates)) interim.facts
+record_of known (command.Resume resume) =
+    made_of_facts known (further_heading known resume.household kind.IC resume.from (resumed_dates resume.done)) resume.facts
+record_of known (command.Gross gross) = made_of_carried known (further_heading known gross.household kind.GR gross.from None)
+record_of known (command.Correct correct) =
+    option_and_then (λ target. made_of_facts known (correction_heading correct.household target correct.from) correct.facts)
+    (record_at (own_in known correct.household) correct.target)
+record_of known (command.AskTransfer ask) = None
+record_of known (command.Transfer transfer) =
+    made_of_carried known (transfer_heading transfer.household transfer.unit transfer.from)
+record_of known (command.MoveOut move_out) =
+    Some (made_of_nothing known (further_heading known move_out.household kind.MO (move_out.last + 1) None))
+record_of known (command.Terminate terminate) =
+    Some (made_of_nothing known (further_heading known terminate.household kind.TM terminate.from None))
+record_of known (command.Withdraw withdraw) =
+    option_map (λ target. made_of_nothing known (withdrawal_heading withdraw.household target))
+    (record_at (own_in known withdraw.household) withdraw.target)
+record_of known (command.Close close) = None
+
+-- ---- the lines of a closing
+
+-- the act of the last closing, and 0 where there was none
+abbrev pub last_close : Known → ℕ
+last_close known = option_map_or (λ closing. closing.act) (last_closing known.acts) 0
+
+-- the lines that closing the month makes
+abbrev pub lines_of_close : Known → CloseAct → List Line
+lines_of_close known close =
+    option_map_or (λ plan. placed 1 (closing_lines (own_in known) (household_count known.acts) close.month plan.first (last_close known) (known.count + 1)))
+    (plan_of known.acts) []
+
+-- the lines that the next act makes
+abbrev pub lines_of : Known → Command → List Line
+lines_of known (command.Close close) = lines_of_close known close
+lines_of known _ = []

@@ -1,0 +1,270 @@
+-- The refusals of an office in their one order, each by the lists and numbers that it reads. None: it doesn't stand.
+use Rattle.std.specs.Prelude.{ℕ, ◌+◌, ◌==◌, ◌&&◌, not, nat_eq, nat_le, nat_lt, if◌then◌else◌, Bool, true, false, Option, Some, None, option_and_then, List, length, filter, find, is_some, bytes_eq}
+use Rattle.std.specs.List.{range_with_len}
+use Rattle.std.specs.Option.{option_eq, option_map, option_map_or}
+use Rattle.days_core.specs.Calendar.{month_of, last_of}
+use Rattle.facts_core.specs.declared.facts.Facts.{Facts}
+use Rattle.facts_core.specs.Rules.{broken_rule}
+use Rattle.payment_rules.specs.Payment.{gross_rent_of}
+use Rattle.record_history.specs.declared.records.Record.{Record}
+use Rattle.record_history.specs.declared.records.Dates.{Dates}
+use Rattle.record_history.specs.declared.records.Kind.{Kind}
+use Rattle.record_history.specs.declared.records.Kind.TheVariants as kind
+use Rattle.record_history.specs.Records.{live_records, in_force, comes_before, latest}
+use Rattle.record_history.specs.Held.{records_of}
+use Rattle.rent_table.specs.declared.plan.Plan.{Plan}
+use Rattle.rent_table.specs.declared.rows.Unit.{Unit as UnitRow}
+use Rattle.rent_table.specs.declared.rows.RentRow.{RentRow}
+use Rattle.rent_table.specs.declared.rows.LimitRow.{LimitRow}
+use Rattle.rent_table.specs.Table.{unit_at, unit_named, rents_on, limits_on}
+use Rattle.rent_table.specs.Admission.{suits, admission_limit}
+use Rattle.due_dates.specs.declared.due.Due.{Due}
+use Rattle.due_dates.specs.declared.due.Due.TheVariants as due
+use Rattle.due_dates.specs.Rightful.{rightful_day_of, next_anniversary}
+use Rattle.due_dates.specs.Stale.{rent_due_day_of}
+use Rattle.due_dates.specs.Overdue.{is_overdue}
+use Rattle.tenancy_rules.specs.declared.change.Change.{Change}
+use Rattle.tenancy_rules.specs.Changed.{without, changed_records}
+use Rattle.tenancy_rules.specs.Order.{first_out_of_order, earliest}
+use Rattle.tenancy_rules.specs.Occupancy.{first_double_use}
+use Rattle.wait_list.specs.declared.applicant.Applicant.{Applicant}
+use Rattle.wait_list.specs.declared.ask.Candidate.{Candidate}
+use Rattle.wait_list.specs.declared.ask.Candidate.TheVariants as candidate
+use Rattle.wait_list.specs.Waiting.{is_listed}
+use Rattle.voucher_core.specs.Certified.{certified_amount}
+use Rattle.book_rows.specs.declared.rows.ActRow.{ActRow}
+use Rattle.book_rows.specs.declared.command.Command.{Command}
+use Rattle.command_text.specs.Commands.{body_of}
+use Rattle.office_step.specs.declared.call.Call.{Call}
+use Rattle.office_step.specs.declared.refusal.Named.TheVariants as named
+use Rattle.office_step.specs.declared.refusal.Refusal.{Refusal}
+use Rattle.office_step.specs.declared.refusal.Refusal.TheVariants as refusal
+use Rattle.office_step.specs.Acts.{Closing}
+use Rattle.office_step.specs.Households.{record_at, standing_on, begins_year, rests_on_facts}
+
+-- ---- 1 to 4: the call and the book
+
+-- the row is of the call's clerk and request
+abbrev pub is_request_of : ℕ → ℕ → ActRow → Bool
+is_request_of clerk request row = row.clerk == clerk && row.request == request
+
+-- the act of the same clerk, request and command
+abbrev pub repeated : List ActRow → ℕ → ℕ → List ℕ → Option ActRow
+repeated rows clerk request body = find (λ row. is_request_of clerk request row && bytes_eq row.body body) rows
+
+-- that act has the clerk and request, and another command
+abbrev pub request_reused : List ActRow → ℕ → ℕ → List ℕ → Option Refusal
+request_reused rows clerk request body =
+    option_map (λ row. refusal.RequestReused row.n) (find (λ row. is_request_of clerk request row && not (bytes_eq row.body body)) rows)
+
+-- it isn't a plan and none was accepted
+abbrev pub no_plan : Option ℕ → Bool → Option Refusal
+no_plan given is_plan = if not is_plan && not (is_some given) then Some refusal.NoPlan else None
+
+-- it is a plan and that act was one
+abbrev pub plan_given : Option ℕ → Bool → Option Refusal
+plan_given given is_plan = if is_plan then option_map (λ act. refusal.PlanGiven act) given else None
+
+-- the book holds as many acts as its capacity
+abbrev pub book_full : ℕ → ℕ → Option Refusal
+book_full held capacity = if nat_le capacity held then Some (refusal.BookFull held) else None
+
+-- ---- 5: numbers that name nothing
+
+-- there is no such household
+abbrev pub no_household : ℕ → ℕ → Option Refusal
+no_household count household =
+    if nat_le 1 household && nat_le household count then None else Some (refusal.NoSuch named.Household household)
+
+-- the applicant was never made, was removed or was admitted
+abbrev pub no_applicant : List Applicant → ℕ → Option Refusal
+no_applicant waiting applicant = if is_listed waiting applicant then None else Some (refusal.NoSuch named.Applicant applicant)
+
+-- there is no such unit
+abbrev pub no_unit : List UnitRow → ℕ → Option Refusal
+no_unit units unit = if is_some (unit_at units unit) then None else Some (refusal.NoSuch named.Unit unit)
+
+-- the household has no such record
+abbrev pub no_record : List Record → ℕ → Option Refusal
+no_record own number = if is_some (record_at own number) then None else Some (refusal.NoSuch named.Record number)
+
+-- the household has no such record, or its kind can't be corrected
+abbrev pub no_target : List Record → ℕ → Option Refusal
+no_target own number =
+    if option_map_or (λ r. rests_on_facts r.kind) (record_at own number) false then None else Some (refusal.NoSuch named.Record number)
+
+-- ---- 6 and 7: what the clerk saw
+
+-- below the household's newest record
+abbrev pub stale : ℕ → ℕ → Option Refusal
+stale newest seen = if nat_lt seen newest then Some (refusal.Stale newest) else None
+
+-- above it
+abbrev pub unseen : ℕ → ℕ → Option Refusal
+unseen newest seen = if nat_lt newest seen then Some (refusal.Unseen newest) else None
+
+-- ---- 8 and 9: facts and days
+
+-- a rule of the facts is broken on the first day
+abbrev pub facts_rule : Facts → ℕ → Option Refusal
+facts_rule facts from = option_map (λ rule. refusal.FactsRule rule) (broken_rule facts from)
+
+-- the day lies outside its range
+abbrev pub day_range : ℕ → ℕ → ℕ → Option Refusal
+day_range first last day = if nat_le first day && nat_le day last then None else Some (refusal.DayRange first last)
+
+-- ---- 10 to 12: rents, limits and targets
+
+-- the unit's group has no rents on the day
+abbrev pub no_rent : List UnitRow → List RentRow → ℕ → ℕ → Option Refusal
+no_rent units rents unit day =
+    option_and_then (λ row. if is_some (rents_on rents row.group day) then None else Some (refusal.NoRent row.group day)) (unit_at units unit)
+
+-- no limits stand on the day
+abbrev pub no_limits : List LimitRow → ℕ → Option Refusal
+no_limits limits day = if is_some (limits_on limits day) then None else Some (refusal.NoLimits day)
+
+-- the target isn't live
+abbrev pub not_live : List Record → ℕ → Option Refusal
+not_live own target = if is_some (record_at (live_records own) target) then None else Some (refusal.NotLive target)
+
+-- ---- 13: the rightful day
+
+-- the first day isn't the rightful one
+abbrev pub wrong_day : Option ℕ → ℕ → Option Refusal
+wrong_day right from = if option_eq nat_eq right (Some from) then None else Some (refusal.WrongDay right)
+
+-- the last of the records by which a household's year begins
+abbrev pub last_base : List Record → Option Record
+last_base live = latest (filter (λ r. begins_year r.kind) live)
+
+-- an annual by these live records, of which the opening one is the first, and a base
+abbrev pub annual_due : List Record → Option Record → Option Due
+annual_due live base =
+    option_and_then (λ opening. option_map (λ r. due.Annual opening.from r.from) base) (earliest live)
+
+-- the rightful day of an annual: the first anniversary after the last such record that counts
+abbrev pub annual_right : List Record → Option ℕ
+annual_right own = option_map rightful_day_of (annual_due (live_records own) (last_base (live_records own)))
+
+-- the live records with the target of a correction left out
+abbrev pub others_of : List Record → Record → List Record
+others_of own target = without target.number (live_records own)
+
+-- the rightful day of an annual's correction: by the records before the target
+abbrev pub corrected_annual_right : List Record → Record → Option ℕ
+corrected_annual_right own target =
+    option_map rightful_day_of (annual_due (others_of own target) (last_base (filter (λ r. comes_before r target) (others_of own target))))
+
+-- the payment is above that of the record in force on the day, by these live records
+abbrev pub is_higher : List Record → ℕ → ℕ → Bool
+is_higher live ttp event = nat_lt (option_map_or (λ r. r.ttp) (standing_on live event) 0) ttp
+
+-- the rightful day of an interim
+abbrev pub interim_right : List Record → Dates → ℕ → ℕ → ℕ
+interim_right live dates ttp report_days = rightful_day_of (due.Interim dates (is_higher live ttp dates.event) report_days)
+
+-- the rightful day of a resumed certification
+abbrev pub resume_right : ℕ → ℕ
+resume_right done = rightful_day_of (due.Resume done)
+
+-- the rightful day of a correction to that payment of an annual, an interim or a resumed certification; of another any
+-- day is
+abbrev pub corrected_right : List Record → Record → ℕ → ℕ → ℕ → Option ℕ
+corrected_right own target ttp report_days from = right_of target.kind target.dates
+  where
+    right_of : Kind → Option Dates → Option ℕ
+    right_of kind.AR dates = corrected_annual_right own target
+    right_of kind.IR (Some dates) = Some (interim_right (others_of own target) dates ttp report_days)
+    right_of kind.IC (Some dates) = Some (resume_right dates.done)
+    right_of kind dates = Some from
+
+-- ---- 14 to 17: order, names and places
+
+-- the first record out of order after the change
+abbrev pub disorder : List Record → Change → Option Refusal
+disorder own change = option_map (λ r. refusal.Disorder r.number) (first_out_of_order (changed_records own change))
+
+-- that unit has the name
+abbrev pub name_taken : List UnitRow → List ℕ → Option Refusal
+name_taken units name = option_map (λ unit. refusal.NameTaken unit) (unit_named units name)
+
+-- the unit isn't for so many persons
+abbrev pub size_misfit : Plan → UnitRow → ℕ → Option Refusal
+size_misfit plan unit persons = if suits plan unit persons then None else Some (refusal.SizeMisfit unit.number persons)
+
+-- the other household that would have the unit, and the least day on which it would
+abbrev pub unit_taken : List (List Record) → ℕ → Change → Option Refusal
+unit_taken households household change =
+    option_map (λ found. refusal.UnitTaken found.0 found.1) (first_double_use households household change)
+
+-- ---- 18 to 20: admission
+
+-- it is the same applicant or the same household
+abbrev pub is_same_candidate : Candidate → Candidate → Bool
+is_same_candidate (candidate.Applicant number) (candidate.Applicant other) = number == other
+is_same_candidate (candidate.Household number) (candidate.Household other) = number == other
+is_same_candidate _ _ = false
+
+-- the next candidate is another
+abbrev pub not_next : Option Candidate → Candidate → Option Refusal
+not_next next asked = if option_map_or (λ c. is_same_candidate c asked) next false then None else Some (refusal.NotNext next)
+
+-- the annual income is above the admission limit of the size
+abbrev pub ineligible : Plan → LimitRow → ℕ → ℕ → Option Refusal
+ineligible plan limits size annual =
+    if nat_lt (admission_limit plan limits size) annual then Some (refusal.Ineligible (admission_limit plan limits size) annual) else None
+
+-- the household would bear the whole gross rent
+abbrev pub no_assistance : ℕ → ℕ → Option Refusal
+no_assistance ttp gross = if nat_le gross ttp then Some (refusal.NoAssistance ttp gross) else None
+
+-- ---- 21 to 24: closing
+
+-- the month after a closing, up to 2099-12
+abbrev pub month_after : ℕ → Option ℕ
+month_after month = if nat_lt month 2639 then Some (month + 1) else None
+
+-- the next month to close: the plan's first, or the one after the last closing's
+abbrev pub next_to_close : ℕ → Option Closing → Option ℕ
+next_to_close first None = Some first
+next_to_close first (Some closing) = month_after closing.month
+
+-- it isn't the next month to close
+abbrev pub wrong_month : Option ℕ → ℕ → Option Refusal
+wrong_month next month = if option_eq nat_eq next (Some month) then None else Some (refusal.WrongMonth next)
+
+-- the least day, in the span, on which the household's record in force has other rents than its unit, with that record
+abbrev pub household_rent_due : List Record → List UnitRow → List RentRow → ℕ → ℕ → ℕ → Option Refusal
+household_rent_due own units rents first last household =
+    option_and_then (λ day. option_map (λ r. refusal.RentDue household r.number day) (in_force own day))
+    (rent_due_day_of own units rents first last)
+
+-- the first answer that there is for households 1, 2 and so on
+abbrev pub first_household : (ℕ → Option Refusal) → ℕ → Option Refusal
+first_household refused count = option_and_then refused (find (λ household. is_some (refused household)) (range_with_len 1 count))
+
+-- the least household of which the rents are due
+abbrev pub rent_due : List (List Record) → List UnitRow → List RentRow → ℕ → ℕ → Option Refusal
+rent_due households units rents first last =
+    first_household (λ household. household_rent_due (records_of households household) units rents first last household) (length households)
+
+-- the record from which a household's year runs in the month
+abbrev pub base_for : List Record → ℕ → Option Record
+base_for own month = last_base (filter (λ r. nat_le r.from (last_of month)) (live_records own))
+
+-- the household is paid for the month by a certification of fifteen or more months before
+abbrev pub household_overdue : List Record → ℕ → ℕ → Option Refusal
+household_overdue own month household =
+    if certified_amount own month == 0 then None
+    else option_and_then (λ opening. option_and_then (λ base.
+    if is_overdue base.from month then Some (refusal.Overdue household (next_anniversary opening.from base.from)) else None)
+    (base_for own month)) (earliest (live_records own))
+
+-- the least household that is overdue
+abbrev pub overdue : List (List Record) → ℕ → Option Refusal
+overdue households month = first_household (λ household. household_overdue (records_of households household) month household) (length households)
+
+-- the lines held and those of the closing exceed the capacity
+abbrev pub lines_full : ℕ → ℕ → ℕ → Option Refusal
+lines_full held more capacity = if nat_lt capacity (held + more) then Some (refusal.LinesFull held more) else None
