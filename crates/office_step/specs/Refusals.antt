@@ -10,7 +10,7 @@ use Rattle.record_history.specs.declared.records.Record.{Record}
 use Rattle.record_history.specs.declared.records.Dates.{Dates}
 use Rattle.record_history.specs.declared.records.Kind.{Kind}
 use Rattle.record_history.specs.declared.records.Kind.TheVariants as kind
-use Rattle.record_history.specs.Records.{live_records, in_force, comes_before, latest}
+use Rattle.record_history.specs.Records.{live_records, is_live_as_of, in_force, comes_before, latest}
 use Rattle.record_history.specs.Held.{records_of}
 use Rattle.rent_table.specs.declared.plan.Plan.{Plan}
 use Rattle.rent_table.specs.declared.rows.Unit.{Unit as UnitRow}
@@ -39,7 +39,6 @@ use Rattle.office_step.specs.declared.call.Call.{Call}
 use Rattle.office_step.specs.declared.refusal.Named.TheVariants as named
 use Rattle.office_step.specs.declared.refusal.Refusal.{Refusal}
 use Rattle.office_step.specs.declared.refusal.Refusal.TheVariants as refusal
-use Rattle.office_step.specs.Acts.{Closing}
 use Rattle.office_step.specs.Households.{record_at, standing_on, begins_year, rests_on_facts}
 
 -- ---- 1 to 4: the call and the book
@@ -124,9 +123,9 @@ no_rent units rents unit day =
 abbrev pub no_limits : List LimitRow → ℕ → Option Refusal
 no_limits limits day = if is_some (limits_on limits day) then None else Some (refusal.NoLimits day)
 
--- the target isn't live
-abbrev pub not_live : List Record → ℕ → Option Refusal
-not_live own target = if is_some (record_at (live_records own) target) then None else Some (refusal.NotLive target)
+-- the target isn't live as of the act
+abbrev pub not_live : ℕ → List Record → ℕ → Option Refusal
+not_live act own target = if is_live_as_of act own target then None else Some (refusal.NotLive target)
 
 -- ---- 13: the rightful day
 
@@ -181,9 +180,13 @@ corrected_right own target ttp report_days from = right_of target.kind target.da
 
 -- ---- 14 to 17: order, names and places
 
--- the first record out of order after the change
+-- the number of the first record out of order after the change
+abbrev pub first_fault : List Record → Change → Option ℕ
+first_fault own change = option_map (λ r. r.number) (first_out_of_order (changed_records own change))
+
+-- a record would be out of order after the change
 abbrev pub disorder : List Record → Change → Option Refusal
-disorder own change = option_map (λ r. refusal.Disorder r.number) (first_out_of_order (changed_records own change))
+disorder own change = option_map (λ target. refusal.Disorder target) (first_fault own change)
 
 -- that unit has the name
 abbrev pub name_taken : List UnitRow → List ℕ → Option Refusal
@@ -225,10 +228,10 @@ no_assistance ttp gross = if nat_le gross ttp then Some (refusal.NoAssistance tt
 abbrev pub month_after : ℕ → Option ℕ
 month_after month = if nat_lt month 2639 then Some (month + 1) else None
 
--- the next month to close: the plan's first, or the one after the last closing's
-abbrev pub next_to_close : ℕ → Option Closing → Option ℕ
+-- the next month to close: the plan's first, or the one after that which was closed last
+abbrev pub next_to_close : ℕ → Option ℕ → Option ℕ
 next_to_close first None = Some first
-next_to_close first (Some closing) = month_after closing.month
+next_to_close first (Some closed) = month_after closed
 
 -- it isn't the next month to close
 abbrev pub wrong_month : Option ℕ → ℕ → Option Refusal
@@ -240,9 +243,13 @@ household_rent_due own units rents first last household =
     option_and_then (λ day. option_map (λ r. refusal.RentDue household r.number day) (in_force own day))
     (rent_due_day_of own units rents first last)
 
--- the first answer that there is for households 1, 2 and so on
+-- the first household, from 1 on, for which there is an answer
+abbrev pub first_with : (ℕ → Option Refusal) → ℕ → Option ℕ
+first_with refused count = find (λ household. is_some (refused household)) (range_with_len 1 count)
+
+-- that answer
 abbrev pub first_household : (ℕ → Option Refusal) → ℕ → Option Refusal
-first_household refused count = option_and_then refused (find (λ household. is_some (refused household)) (range_with_len 1 count))
+first_household refused count = option_and_then refused (first_with refused count)
 
 -- the least household of which the rents are due
 abbrev pub rent_due : List (List Record) → List UnitRow → List RentRow → ℕ → ℕ → Option Refusal

@@ -1,5 +1,5 @@
 -- What the office of one clerk does with a call: a repeat, the first refusal that stands, or the rows that it appends.
-use Rattle.std.specs.Prelude.{ℕ, ◌+◌, ◌-◌, ◌==◌, ◌≡◌, ◌≤◌, max, min, if◌then◌else◌, Bool, true, false, Option, Some, None, option_and_then, List, [], ◌∷◌, length, filter, map}
+use Rattle.std.specs.Prelude.{ℕ, ◌+◌, ◌-◌, ◌==◌, ◌≡◌, ◌≤◌, ◌&&◌, nat_le, max, min, if◌then◌else◌, Bool, true, false, Option, Some, None, option_and_then, List, [], ◌∷◌, length, filter, map}
 use Rattle.std.specs.Option.{option_map, option_map_or}
 use Rattle.days_core.specs.Calendar.{first_of as first_day_of, last_of as last_day_of}
 use Rattle.payment_rules.specs.Payment.{gross_rent_of}
@@ -31,6 +31,7 @@ use Rattle.book_rows.specs.declared.rows.ActRow.{ActRow}
 use Rattle.book_rows.specs.declared.rows.Batch.{Batch}
 use Rattle.book_rows.specs.declared.command.Command.{Command}
 use Rattle.book_rows.specs.declared.command.Command.TheVariants as command
+use Rattle.book_rows.specs.Fit.{is_within, is_fit}
 use Rattle.book_rows.specs.Book.{Book, empty_book, appended}
 use Rattle.command_text.specs.Commands.{body_of}
 use Rattle.office_step.specs.declared.call.Call.{Call}
@@ -258,7 +259,7 @@ abbrev pub of_correct_then : Known → CorrectAct → List (Option Refusal)
 of_correct_then known correct =
     no_rent_of_target known correct
     ∷ no_limits_of_target known correct
-    ∷ not_live (own_in known correct.household) correct.target
+    ∷ not_live known.count (own_in known correct.household) correct.target
     ∷ wrong_correction known correct
     ∷ disorder_in known (command.Correct correct)
     ∷ unit_taken_in known (command.Correct correct) ∷ []
@@ -286,7 +287,7 @@ rent_due_in known close =
 
 abbrev pub of_close : Known → CloseAct → List (Option Refusal)
 of_close known close =
-    wrong_month (option_and_then (λ plan. next_to_close plan.first (last_closing known.acts)) (plan_of known.acts)) close.month
+    wrong_month (option_and_then (λ plan. next_to_close plan.first (option_map (λ closing. closing.month) (last_closing known.acts))) (plan_of known.acts)) close.month
     ∷ rent_due_in known close
     ∷ overdue (households_in known) close.month ∷ []
 
@@ -324,7 +325,7 @@ refusals_of known today (command.Withdraw withdraw) =
     ∷ no_record (own_in known withdraw.household) withdraw.target
     ∷ stale_in known withdraw.household withdraw.seen
     ∷ unseen_in known withdraw.household withdraw.seen
-    ∷ not_live (own_in known withdraw.household) withdraw.target
+    ∷ not_live known.count (own_in known withdraw.household) withdraw.target
     ∷ disorder (own_in known withdraw.household) (dropping withdraw.target)
     ∷ unit_taken (households_in known) withdraw.household (dropping withdraw.target) ∷ []
 refusals_of known today (command.Close close) = of_close known close
@@ -382,9 +383,14 @@ step book capacity session clock call =
 
 -- ---- what an office can hold
 
+-- a call by a clerk and request of the right range, whose command is fit
+abbrev pub is_fit_call : Call → Bool
+is_fit_call call = is_within 1 9999 call.clerk && (nat_le 1 call.request && is_fit call.command)
+
 -- for the row's own session, day and call the office appends exactly these rows
 pub record IsAppended (capacity : Capacity) (book : Book) (rows : Batch) : Type 0 where
   pub call : Call
+  pub fit : is_fit_call call ≡ true
   pub same : step book capacity rows.act.session rows.act.day call ≡ appends rows
 
 -- a book that an office of that capacity comes to, act by act from nothing
