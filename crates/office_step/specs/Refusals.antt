@@ -1,5 +1,5 @@
 -- The refusals of an office in their one order, each by the lists and numbers that it reads. None: it doesn't stand.
-use Rattle.std.specs.Prelude.{ℕ, ◌+◌, ◌==◌, ◌&&◌, not, nat_eq, nat_le, nat_lt, if◌then◌else◌, Bool, true, false, Option, Some, None, option_and_then, List, length, filter, find, is_some, bytes_eq}
+use Rattle.std.specs.Prelude.{ℕ, ◌+◌, ◌==◌, ◌&&◌, not, nat_eq, nat_le, nat_lt, if◌then◌else◌, Bool, true, false, Option, Some, None, option_and_then, List, [], ◌∷◌, length, map, filter, find, is_some, bytes_eq}
 use Rattle.std.specs.List.{range_with_len}
 use Rattle.std.specs.Option.{option_eq, option_map, option_map_or}
 use Rattle.days_core.specs.Calendar.{month_of, last_of}
@@ -40,6 +40,12 @@ use Rattle.office_step.specs.declared.refusal.Named.TheVariants as named
 use Rattle.office_step.specs.declared.refusal.Refusal.{Refusal}
 use Rattle.office_step.specs.declared.refusal.Refusal.TheVariants as refusal
 use Rattle.office_step.specs.Households.{record_at, standing_on, begins_year, rests_on_facts}
+
+-- the first that stands
+abbrev pub first_of : List (Option Refusal) → Option Refusal
+first_of [] = None
+first_of (Some refused ∷ rest) = Some refused
+first_of (None ∷ rest) = first_of rest
 
 -- ---- 1 to 4: the call and the book
 
@@ -243,13 +249,9 @@ household_rent_due own units rents first last household =
     option_and_then (λ day. option_map (λ r. refusal.RentDue household r.number day) (in_force own day))
     (rent_due_day_of own units rents first last)
 
--- the first household, from 1 on, for which there is an answer
-abbrev pub first_with : (ℕ → Option Refusal) → ℕ → Option ℕ
-first_with refused count = find (λ household. is_some (refused household)) (range_with_len 1 count)
-
--- that answer
+-- the refusal of the first of so many households, from 1 on, for which one stands
 abbrev pub first_household : (ℕ → Option Refusal) → ℕ → Option Refusal
-first_household refused count = option_and_then refused (first_with refused count)
+first_household refused count = first_of (map refused (range_with_len 1 count))
 
 -- the least household of which the rents are due
 abbrev pub rent_due : List (List Record) → List UnitRow → List RentRow → ℕ → ℕ → Option Refusal

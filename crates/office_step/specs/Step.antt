@@ -42,14 +42,8 @@ use Rattle.office_step.specs.Acts.{Known, known_of, plan_of, plan_act, units_of,
 use Rattle.office_step.specs.Households.{record_at, unit_continued, adding, dropping}
 use Rattle.office_step.specs.Candidates.{asked_of}
 use Rattle.office_step.specs.Made.{households_in, own_in, next_household, record_of, lines_of}
-use Rattle.office_step.specs.Refusals.{repeated, request_reused, no_plan, plan_given, book_full, no_household, no_applicant, no_unit, no_record, no_target, stale, unseen, facts_rule, day_range, no_rent, no_limits, not_live, wrong_day, annual_right, interim_right, resume_right, corrected_right, disorder, name_taken, size_misfit, unit_taken, not_next, ineligible, no_assistance, next_to_close, wrong_month, rent_due, overdue, lines_full}
+use Rattle.office_step.specs.Refusals.{first_of, repeated, request_reused, no_plan, plan_given, book_full, no_household, no_applicant, no_unit, no_record, no_target, stale, unseen, facts_rule, day_range, no_rent, no_limits, not_live, wrong_day, annual_right, interim_right, resume_right, corrected_right, disorder, name_taken, size_misfit, unit_taken, not_next, ineligible, no_assistance, next_to_close, wrong_month, rent_due, overdue, lines_full}
 use Rattle.office_step.specs.Reply.{done_of}
-
--- the first that stands
-abbrev pub first_of : List (Option Refusal) → Option Refusal
-first_of [] = None
-first_of (Some refused ∷ rest) = Some refused
-first_of (None ∷ rest) = first_of rest
 
 -- ---- days
 

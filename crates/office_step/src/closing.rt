@@ -1,6 +1,7 @@
-ghost use Rattle.std.specs.Prelude.{◌≡◌, is_some, length};
+ghost use Rattle.std.specs.Prelude.{◌≡◌};
+ghost use Rattle.std.specs.Option.{option_or};
 ghost use Rattle.record_history.specs.Held.{records_of};
-ghost use Rattle.office_step.specs.Refusals.{month_after, next_to_close, wrong_month, household_rent_due, first_with, rent_due};
+ghost use Rattle.office_step.specs.Refusals.{month_after, next_to_close, wrong_month, household_rent_due, rent_due};
 
 use crate::Refusal;
 use days_core::{Day, Month};
@@ -46,16 +47,28 @@ pub fn wrong_month(next: Option<Month>, month: Month) -> Option<Refusal>
 pub fn rent_due(history: &History, table: &RentTable, first: Day, last: Day) -> Option<Refusal>
     ensures { result ≡ rent_due history.now.households table.now.units table.now.rents first last }
 {
-    let household = first_due(history, table, first, last)?;
-    household_rent_due(history, table, first, last, household)
+    let mut due = None;
+    for place in 0..history.households() {
+        due = due_so_far(due, history, table, first, last, place + 1);
+    }
+    due
 }
 
-fn first_due(history: &History, table: &RentTable, first: Day, last: Day) -> Option<u32>
-    ensures { result ≡ first_with (λ household. household_rent_due (records_of history.now.households household) table.now.units table.now.rents first last household) (length history.now.households) }
+/// What was found before, or else that of the household.
+fn due_so_far(
+    found: Option<Refusal>,
+    history: &History,
+    table: &RentTable,
+    first: Day,
+    last: Day,
+    household: u32,
+) -> Option<Refusal>
+    ensures { result ≡ option_or found (household_rent_due (records_of history.now.households household) table.now.units table.now.rents first last household) }
 {
-    (1..=history.households()).find(|household| household_rent_due(
-        history, table, first, last, *household,
-    ).is_some())
+    match found {
+        Some(_) => found,
+        None => household_rent_due(history, table, first, last, household),
+    }
 }
 
 fn household_rent_due(
