@@ -24,7 +24,7 @@ use Rattle.due_dates.specs.Rightful.{rightful_day_of, next_anniversary}
 use Rattle.due_dates.specs.Stale.{rent_due_day_of}
 use Rattle.due_dates.specs.Overdue.{is_overdue}
 use Rattle.tenancy_rules.specs.declared.change.Change.{Change}
-use Rattle.tenancy_rules.specs.Changed.{without, changed_records}
+use Rattle.tenancy_rules.specs.Changed.{without, changed_records, is_before}
 use Rattle.tenancy_rules.specs.Order.{first_out_of_order, earliest}
 use Rattle.tenancy_rules.specs.Occupancy.{first_double_use}
 use Rattle.wait_list.specs.declared.applicant.Applicant.{Applicant}
@@ -139,27 +139,31 @@ not_live act own target = if is_live_as_of act own target then None else Some (r
 abbrev pub wrong_day : Option ℕ → ℕ → Option Refusal
 wrong_day right from = if option_eq nat_eq right (Some from) then None else Some (refusal.WrongDay right)
 
--- the last of the records by which a household's year begins
-abbrev pub last_base : List Record → Option Record
-last_base live = latest (filter (λ r. begins_year r.kind) live)
+-- the live records with one left out, as for its correction; 0 leaves none out, since records are numbered from 1
+abbrev pub others_of : List Record → ℕ → List Record
+others_of own number = without number (live_records own)
 
--- an annual by these live records, of which the opening one is the first, and a base
-abbrev pub annual_due : List Record → Option Record → Option Due
-annual_due live base =
-    option_and_then (λ opening. option_map (λ r. due.Annual opening.from r.from) base) (earliest live)
+-- a record by which a household's year begins, before that place in the order of first day and number
+abbrev pub is_base_before : ℕ → ℕ → Record → Bool
+is_base_before day number r = is_before day number r && begins_year r.kind
 
--- the rightful day of an annual: the first anniversary after the last such record that counts
+-- the last of these
+abbrev pub base_before : List Record → ℕ → ℕ → Option Record
+base_before live day number = latest (filter (is_base_before day number) live)
+
+-- the first anniversary of the opening record later than the first day of the base, where these are
+abbrev pub annual_day : Option Record → Option Record → Option ℕ
+annual_day opening base =
+    option_and_then (λ r. option_map (λ last. rightful_day_of (due.Annual r.from last.from)) base) opening
+
+-- the rightful day of an annual: by the last such record, all of which begin by 2099-12-31
 abbrev pub annual_right : List Record → Option ℕ
-annual_right own = option_map rightful_day_of (annual_due (live_records own) (last_base (live_records own)))
+annual_right own = annual_day (earliest (others_of own 0)) (base_before (others_of own 0) 80354 0)
 
--- the live records with the target of a correction left out
-abbrev pub others_of : List Record → Record → List Record
-others_of own target = without target.number (live_records own)
-
--- the rightful day of an annual's correction: by the records before the target
+-- the rightful day of an annual's correction: without the target, by the last such record before it
 abbrev pub corrected_annual_right : List Record → Record → Option ℕ
 corrected_annual_right own target =
-    option_map rightful_day_of (annual_due (others_of own target) (last_base (filter (λ r. comes_before r target) (others_of own target))))
+    annual_day (earliest (others_of own target.number)) (base_before (others_of own target.number) target.from target.number)
 
 -- the payment is above that of the record in force on the day, by these live records
 abbrev pub is_higher : List Record → ℕ → ℕ → Bool
@@ -173,16 +177,16 @@ interim_right live dates ttp report_days = rightful_day_of (due.Interim dates (i
 abbrev pub resume_right : ℕ → ℕ
 resume_right done = rightful_day_of (due.Resume done)
 
--- the rightful day of a correction to that payment of an annual, an interim or a resumed certification; of another any
--- day is
+-- the rightful day of a correction to that payment, by the target's kind and dates: of an annual, an interim or a resumed
+-- certification; of another it is any day
+abbrev pub corrected_by : Kind → Option Dates → List Record → Record → ℕ → ℕ → ℕ → Option ℕ
+corrected_by kind.AR dates own target ttp report_days from = corrected_annual_right own target
+corrected_by kind.IR (Some dates) own target ttp report_days from = Some (interim_right (others_of own target.number) dates ttp report_days)
+corrected_by kind.IC (Some dates) own target ttp report_days from = Some (resume_right dates.done)
+corrected_by _ _ own target ttp report_days from = Some from
+
 abbrev pub corrected_right : List Record → Record → ℕ → ℕ → ℕ → Option ℕ
-corrected_right own target ttp report_days from = right_of target.kind target.dates
-  where
-    right_of : Kind → Option Dates → Option ℕ
-    right_of kind.AR dates = corrected_annual_right own target
-    right_of kind.IR (Some dates) = Some (interim_right (others_of own target) dates ttp report_days)
-    right_of kind.IC (Some dates) = Some (resume_right dates.done)
-    right_of kind dates = Some from
+corrected_right own target ttp report_days from = corrected_by target.kind target.dates own target ttp report_days from
 
 -- ---- 14 to 17: order, names and places
 
@@ -258,17 +262,17 @@ abbrev pub rent_due : List (List Record) → List UnitRow → List RentRow → �
 rent_due households units rents first last =
     first_household (λ household. household_rent_due (records_of households household) units rents first last household) (length households)
 
--- the record from which a household's year runs in the month
-abbrev pub base_for : List Record → ℕ → Option Record
-base_for own month = last_base (filter (λ r. nat_le r.from (last_of month)) (live_records own))
+-- the household is certified for the month by a record of fifteen or more months before; the day is its next anniversary
+abbrev pub overdue_day : List Record → ℕ → Option Record → Option Record → Option ℕ
+overdue_day own month opening base =
+    option_and_then (λ r. option_and_then (λ last. if is_overdue last.from month then Some (next_anniversary r.from last.from) else None) base) opening
 
--- the household is paid for the month by a certification of fifteen or more months before
+-- the household is to be paid for the month, and overdue
 abbrev pub household_overdue : List Record → ℕ → ℕ → Option Refusal
 household_overdue own month household =
     if certified_amount own month == 0 then None
-    else option_and_then (λ opening. option_and_then (λ base.
-    if is_overdue base.from month then Some (refusal.Overdue household (next_anniversary opening.from base.from)) else None)
-    (base_for own month)) (earliest (live_records own))
+    else option_map (λ anniversary. refusal.Overdue household anniversary)
+    (overdue_day own month (earliest (others_of own 0)) (base_before (others_of own 0) (last_of month + 1) 0))
 
 -- the least household that is overdue
 abbrev pub overdue : List (List Record) → ℕ → Option Refusal

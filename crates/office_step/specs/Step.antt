@@ -42,7 +42,7 @@ use Rattle.office_step.specs.Acts.{Known, known_of, plan_of, plan_act, units_of,
 use Rattle.office_step.specs.Households.{record_at, unit_continued, adding, dropping}
 use Rattle.office_step.specs.Candidates.{asked_of}
 use Rattle.office_step.specs.Made.{households_in, own_in, next_household, record_of, lines_of}
-use Rattle.office_step.specs.Refusals.{first_of, repeated, request_reused, no_plan, plan_given, book_full, no_household, no_applicant, no_unit, no_record, no_target, stale, unseen, facts_rule, day_range, no_rent, no_limits, not_live, wrong_day, annual_right, interim_right, resume_right, corrected_right, disorder, name_taken, size_misfit, unit_taken, not_next, ineligible, no_assistance, next_to_close, wrong_month, rent_due, overdue, lines_full}
+use Rattle.office_step.specs.Refusals.{first_of, repeated, request_reused, no_plan, plan_given, book_full, no_household, no_applicant, no_unit, no_record, no_target, stale, unseen, facts_rule, day_range, no_rent, no_limits, not_live, wrong_day, others_of, annual_right, interim_right, resume_right, corrected_right, disorder, name_taken, size_misfit, unit_taken, not_next, ineligible, no_assistance, next_to_close, wrong_month, rent_due, overdue, lines_full}
 use Rattle.office_step.specs.Reply.{done_of}
 
 -- ---- days
@@ -188,7 +188,7 @@ of_interim_first known today interim =
 abbrev pub wrong_interim : Known → InterimAct → Option Refusal
 wrong_interim known interim =
     option_and_then (λ plan. of_made known (command.Interim interim) (λ made.
-    wrong_day (Some (interim_right (live_records (own_in known interim.household)) interim.dates made.ttp plan.report_days)) interim.from))
+    wrong_day (Some (interim_right (others_of (own_in known interim.household) 0) interim.dates made.ttp plan.report_days)) interim.from))
     (plan_of known.acts)
 
 abbrev pub of_interim_then : Known → InterimAct → List (Option Refusal)

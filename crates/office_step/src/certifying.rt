@@ -1,11 +1,9 @@
-ghost use Rattle.std.specs.Prelude.{◌≡◌, ◌≤◌};
-ghost use Rattle.record_history.specs.Records.{live_records};
+ghost use Rattle.std.specs.Prelude.{◌≡◌};
 ghost use Rattle.record_history.specs.Held.{records_of};
-ghost use Rattle.office_step.specs.Refusals.{facts_rule, day_range, no_rent, no_limits, not_live, wrong_day, is_higher, interim_right, resume_right};
+ghost use Rattle.office_step.specs.Refusals.{facts_rule, day_range, no_rent, no_limits, not_live, wrong_day};
 
 use crate::Refusal;
 use days_core::Day;
-use due_dates::{Due, rightful_day};
 use facts_core::{Facts, broken_rule};
 use record_history::{Dates, History, Record};
 use rent_table::{LimitRow, RentTable, Unit};
@@ -71,43 +69,4 @@ pub fn wrong_day(right: Option<Day>, from: Day) -> Option<Refusal>
         return None;
     }
     Some(Refusal::WrongDay { right })
-}
-
-/// The rightful day of an interim certification by which the household would pay `ttp`.
-pub fn interim_right(
-    history: &History,
-    household: u32,
-    dates: Dates,
-    ttp: u32,
-    report_days: u32,
-) -> Day
-    requires event { dates.event ≤ 80353 }
-    requires notice { dates.notice ≤ 80353 }
-    requires done { dates.done ≤ 80353 }
-    requires report_days { report_days ≤ 365 }
-    ensures { result ≡ interim_right (live_records (records_of history.now.households household)) dates ttp report_days }
-{
-    let higher = is_higher(history, household, ttp, dates.event);
-    rightful_day(&Due::Interim {
-        dates,
-        higher,
-        report_days,
-    })
-}
-
-fn is_higher(history: &History, household: u32, ttp: u32, event: Day) -> bool
-    ensures { result ≡ is_higher (live_records (records_of history.now.households household)) ttp event }
-{
-    match history.in_force(household, event) {
-        Some(held) => held.ttp < ttp,
-        None => 0 < ttp,
-    }
-}
-
-/// The rightful day of assistance that begins again, by the day on which the work on it was done.
-pub fn resume_right(done: Day) -> Day
-    requires { done ≤ 80353 }
-    ensures { result ≡ resume_right done }
-{
-    rightful_day(&Due::Resume { done })
 }

@@ -6,19 +6,22 @@ mod book;
 mod call;
 mod certifying;
 mod closing;
+mod live;
 mod named;
 mod refusal;
 mod reply;
+mod rightful;
 mod units;
 
 pub use admission::{ineligible, no_assistance, not_next};
 pub use book::{book_full, lines_full, no_plan, plan_given, repeated, request_reused};
 pub use call::{Call, Capacity};
-pub use certifying::{
-    day_range, facts_rule, interim_right, no_limits, no_rent, not_live, resume_right, wrong_day,
-};
+pub use certifying::{day_range, facts_rule, no_limits, no_rent, not_live, wrong_day};
 pub use closing::{next_to_close, rent_due, wrong_month};
 pub use named::{no_applicant, no_household, no_record, no_target, no_unit, stale, unseen};
 pub use refusal::{Named, Refusal};
 pub use reply::{Done, Made};
+pub use rightful::{
+    annual_right, corrected_annual_right, corrected_right, interim_right, resume_right,
+};
 pub use units::{disorder, name_taken, size_misfit, unit_taken};
