@@ -263,16 +263,20 @@ rent_due households units rents first last =
     first_household (λ household. household_rent_due (records_of households household) units rents first last household) (length households)
 
 -- the household is certified for the month by a record of fifteen or more months before; the day is its next anniversary
-abbrev pub overdue_day : List Record → ℕ → Option Record → Option Record → Option ℕ
-overdue_day own month opening base =
+abbrev pub overdue_day : ℕ → Option Record → Option Record → Option ℕ
+overdue_day month opening base =
     option_and_then (λ r. option_and_then (λ last. if is_overdue last.from month then Some (next_anniversary r.from last.from) else None) base) opening
+
+-- nothing is to be paid for the month
+unfoldable pub is_unpaid : List Record → ℕ → Bool
+is_unpaid own month = certified_amount own month == 0
 
 -- the household is to be paid for the month, and overdue
 abbrev pub household_overdue : List Record → ℕ → ℕ → Option Refusal
 household_overdue own month household =
-    if certified_amount own month == 0 then None
+    if is_unpaid own month then None
     else option_map (λ anniversary. refusal.Overdue household anniversary)
-    (overdue_day own month (earliest (others_of own 0)) (base_before (others_of own 0) (last_of month + 1) 0))
+    (overdue_day month (earliest (others_of own 0)) (base_before (others_of own 0) (last_of month + 1) 0))
 
 -- the least household that is overdue
 abbrev pub overdue : List (List Record) → ℕ → Option Refusal

@@ -6,6 +6,7 @@ mod book;
 mod call;
 mod certifying;
 mod closing;
+mod lateness;
 mod live;
 mod named;
 mod refusal;
@@ -18,6 +19,7 @@ pub use book::{book_full, lines_full, no_plan, plan_given, repeated, request_reu
 pub use call::{Call, Capacity};
 pub use certifying::{day_range, facts_rule, no_limits, no_rent, not_live, wrong_day};
 pub use closing::{next_to_close, rent_due, wrong_month};
+pub use lateness::overdue;
 pub use named::{no_applicant, no_household, no_record, no_target, no_unit, stale, unseen};
 pub use refusal::{Named, Refusal};
 pub use reply::{Done, Made};

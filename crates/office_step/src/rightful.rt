@@ -34,7 +34,7 @@ pub fn corrected_annual_right(history: &History, household: u32, target: &Record
     Some(anniversary(opening.from, base.from))
 }
 
-fn anniversary(opening: Day, after: Day) -> Day
+pub fn anniversary(opening: Day, after: Day) -> Day
     requires opening { opening ≤ 80353 }
     requires after { after ≤ 80353 }
     ensures { result ≡ rightful_day_of (due.Annual opening after) }
