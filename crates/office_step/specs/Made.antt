@@ -21,6 +21,7 @@ use Rattle.certified_figures.specs.Figures.{figures_of, carried_figures, no_figu
 use Rattle.book_rows.specs.declared.command.Command.{Command}
 use Rattle.book_rows.specs.declared.command.Command.TheVariants as command
 use Rattle.book_rows.specs.declared.closings.CloseAct.{CloseAct}
+use Rattle.office_step.specs.declared.made.Heading.{Heading}
 use Rattle.office_step.specs.Acts.{Known, plan_of, units_of, rents_of, limits_of, household_count, last_closing}
 use Rattle.office_step.specs.Households.{own_of, households_of, record_at, continued, unit_continued}
 
@@ -44,21 +45,12 @@ rents_in_unit known unit day = unit_rents_on (units_of known.acts) (rents_of kno
 
 -- ---- a record
 
--- what a record says beside its figures
-pub record Heading : Type 0 where
-  pub household : ℕ
-  pub kind : Kind
-  pub from : ℕ
-  pub corrects : ℕ
-  pub unit : ℕ
-  pub dates : Option Dates
-
--- the next record of the household, made by the next act
-abbrev pub made_with : Known → Heading → Bool → Figures → Record
-made_with known heading extremely figures = record {
+-- a record of that number and act
+abbrev pub entry : ℕ → ℕ → Heading → Bool → Figures → Record
+entry number act heading extremely figures = record {
   household = heading.household;
-  number = newest_number (own_in known heading.household) + 1;
-  act = known.count + 1;
+  number = number;
+  act = act;
   kind = heading.kind;
   from = heading.from;
   corrects = heading.corrects;
@@ -74,14 +66,18 @@ made_with known heading extremely figures = record {
   dates = heading.dates;
 }
 
+-- the next record of the household, made by the next act
+abbrev pub made_with : Known → Heading → Bool → Figures → Record
+made_with known heading extremely figures =
+    entry (newest_number (own_in known heading.household) + 1) (known.count + 1) heading extremely figures
+
 -- limits stand, and by them the income is extremely low
 abbrev pub is_extremely_low : Option LimitRow → Figures → Bool
 is_extremely_low limits figures = option_map_or (λ row. has_extremely_low_income row figures.size figures.annual) limits false
 
--- a move-in of extremely low income on its first day; of other records it isn't told
-abbrev pub told_extremely_low : Known → Heading → Figures → Bool
-told_extremely_low known heading figures =
-    if is_move_in heading.kind then is_extremely_low (limits_on (limits_of known.acts) heading.from) figures else false
+-- a move-in of extremely low income by the limits of its first day; of other records it isn't told
+abbrev pub told_extremely_low : Kind → Option LimitRow → Figures → Bool
+told_extremely_low kind limits figures = if is_move_in kind then is_extremely_low limits figures else false
 
 -- a record computed from the facts, with its unit's rents on its first day
 abbrev pub made_of_facts : Known → Heading → Facts → Option Record
@@ -90,7 +86,7 @@ made_of_facts known heading facts =
     (rents_in_unit known heading.unit heading.from)) (plan_of known.acts)
   where
     made_of : Figures → Record
-    made_of figures = made_with known heading (told_extremely_low known heading figures) figures
+    made_of figures = made_with known heading (told_extremely_low heading.kind (limits_on (limits_of known.acts) heading.from) figures) figures
 
 -- a record that carries over what was certified, with its unit's rents on its first day
 abbrev pub made_of_carried : Known → Heading → Option Record

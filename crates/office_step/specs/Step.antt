@@ -63,9 +63,13 @@ last_act_day [] = 0
 last_act_day (row ∷ []) = row.day
 last_act_day (row ∷ next ∷ rows) = last_act_day (next ∷ rows)
 
--- the day of the next act: the clock's, put into 2000-01-01 to 2099-12-31, or the last act's where that is later
+-- the clock's day, put into 2000-01-01 to 2099-12-31, or the last act's where that is later
+abbrev pub day_after : ℕ → ℕ → ℕ
+day_after last clock = max (min (max clock first_day) last_day) last
+
+-- the day of the next act
 abbrev pub act_day : List ActRow → ℕ → ℕ
-act_day rows clock = max (min (max clock first_day) last_day) (last_act_day rows)
+act_day rows clock = day_after (last_act_day rows) clock
 
 -- the first day of the plan, and 0 where there is none
 abbrev pub plan_day : Known → ℕ

@@ -6,8 +6,10 @@ mod book;
 mod call;
 mod certifying;
 mod closing;
+mod days;
 mod lateness;
 mod live;
+mod made;
 mod named;
 mod refusal;
 mod reply;
@@ -19,10 +21,12 @@ pub use book::{book_full, lines_full, no_plan, plan_given, repeated, request_reu
 pub use call::{Call, Capacity};
 pub use certifying::{day_range, facts_rule, no_limits, no_rent, not_live, wrong_day};
 pub use closing::{next_to_close, rent_due, wrong_month};
+pub use days::act_day;
 pub use lateness::overdue;
+pub use made::{Heading, adding, continued, dropping, entry, rents_in_unit, told_extremely_low};
 pub use named::{no_applicant, no_household, no_record, no_target, no_unit, stale, unseen};
 pub use refusal::{Named, Refusal};
-pub use reply::{Done, Made};
+pub use reply::{Done, Made, certified};
 pub use rightful::{
     annual_right, corrected_annual_right, corrected_right, interim_right, resume_right,
 };

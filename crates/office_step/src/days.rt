@@ -1,0 +1,24 @@
+ghost use Rattle.std.specs.Prelude.{◌≡◌, ◌≤◌};
+ghost use Rattle.office_step.specs.Step.{day_after};
+
+use days_core::Day;
+
+/// 2000-01-01 and 2099-12-31.
+const FIRST_DAY: u32 = 43_829;
+
+const LAST_DAY: u32 = 80_353;
+
+/// The day of the next act: the clock's, put into 2000-01-01 to 2099-12-31, or that of the last act where it is later.
+/// Where there is no act, `last` is 1880-01-01.
+pub fn act_day(last: Day, clock: Day) -> Day
+    ensures value { result ≡ day_after last clock }
+    ensures first { 43829 ≤ result }
+    ensures not_before { last ≤ result }
+{
+    let number = clock
+        .number()
+        .max(FIRST_DAY)
+        .min(LAST_DAY)
+        .max(last.number());
+    Day::from_number(number).unwrap()
+}
