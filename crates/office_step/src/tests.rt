@@ -104,12 +104,9 @@ fn days_and_months(rt: HostRuntime) {
         Some(month(&rt, "2024-06"))
     );
     assert_eq!(rt; next_to_close(plan, Some(month(&rt, "2099-12"))), None);
-    let next = Some(month(&rt, "2024-06"));
-    assert_eq!(rt;
-        wrong_month(next, month(&rt, "2024-07")),
-        Some(Refusal::WrongMonth { next })
-    );
-    assert_eq!(rt; wrong_month(next, month(&rt, "2024-06")), None);
+    let june = month(&rt, "2024-06");
+    assert!(rt; wrong_month(Some(june), month(&rt, "2024-07")).is_some());
+    assert!(rt; wrong_month(Some(june), june).is_none());
     assert!(rt; wrong_month(None, month(&rt, "2099-12")).is_some());
 }
 
@@ -200,7 +197,7 @@ fn hold(rt: &impl Abort, alloc: Global, history: &mut History, held: Record) -> 
 }
 
 // Certified on 2024-01-01 and again on the first of 2025 and 2026: the next annual is of 2027, and the one of record 2 stays
-// where it is. An interim told in time, with a payment above 212, begins 30 days after 20 March: in May.
+// where it is.
 #[test]
 fn rightful_days(rt: HostRuntime) -> Result<(), Fail> {
     let alloc = rt.alloc();
@@ -222,35 +219,38 @@ fn rightful_days(rt: HostRuntime) -> Result<(), Fail> {
         (2, Kind::AR, "2025-01-01", "2025-01-01"),
     ] {
         let target = held(&rt, number, kind, from, None);
+        assert!(rt; target.dates.is_none());
         assert_eq!(rt;
             corrected_right(&history, 1, &target, 260, 30, any),
             Some(day(&rt, right))
         );
     }
+    Ok(())
+}
+
+// An interim told in time, with a payment above 212, begins with the first month 30 days after 20 March: in May.
+#[test]
+fn a_change_is_told(rt: HostRuntime) -> Result<(), Fail> {
+    let history = history_of(&rt, rt.alloc(), &[])?;
+    let event = day(&rt, "2024-03-10");
+    let notice = day(&rt, "2024-03-20");
+    let done = day(&rt, "2024-03-25");
+    assert!(rt; event.number() <= 80_353);
+    assert!(rt; notice.number() <= 80_353);
+    assert!(rt; done.number() <= 80_353);
     let told = Dates {
-        event: day(&rt, "2024-03-10"),
-        notice: day(&rt, "2024-03-20"),
-        done: day(&rt, "2024-03-25"),
+        event,
+        notice,
+        done,
     };
-    assert!(rt; told.event.number() <= 80_353);
-    assert!(rt; told.notice.number() <= 80_353);
-    assert!(rt; told.done.number() <= 80_353);
+    let april = day(&rt, "2024-04-01");
+    let may = day(&rt, "2024-05-01");
     let records = history.records(1);
-    assert_eq!(rt;
-        interim_right(records, 0, told, 260, 30),
-        day(&rt, "2024-05-01")
-    );
-    assert_eq!(rt;
-        interim_right(records, 0, told, 212, 30),
-        day(&rt, "2024-04-01")
-    );
-    assert_eq!(rt; resume_right(told.done), day(&rt, "2024-04-01"));
-    let right = Some(day(&rt, "2024-05-01"));
-    assert_eq!(rt;
-        wrong_day(right, day(&rt, "2024-04-01")),
-        Some(Refusal::WrongDay { right })
-    );
-    assert_eq!(rt; wrong_day(right, day(&rt, "2024-05-01")), None);
+    assert!(rt; interim_right(records, 0, told, 260, 30) == may);
+    assert!(rt; interim_right(records, 0, told, 212, 30) == april);
+    assert!(rt; resume_right(done) == april);
+    assert!(rt; wrong_day(Some(may), april).is_some() && wrong_day(Some(may), may).is_none());
+    assert!(rt; wrong_day(None, may).is_some());
     Ok(())
 }
 
