@@ -1,11 +1,11 @@
 -- The opening record of a household and the one from which its year runs begin by 2099-12-31.
-use Rattle.std.proofs.Common.{◌≡◌, ℕ, ◌≤◌, ◌==◌, not, List, Option, None}
+use Rattle.std.proofs.Common.{ℕ, ◌≤◌, ◌==◌, not, List, None}
 use Rattle.std.specs.Prelude.{All, filter, IfSome}
 use Rattle.std.proofs.lemmas.List.Elements.{All-filter, All-weaker}
 use Rattle.row_choice.proofs.LatestLemmas.{latest-among}
 use Rattle.record_history.specs.declared.records.Record.{Record}
 use Rattle.record_history.specs.Held.{IsWithin}
-use Rattle.record_history.specs.Records.{is_live, live_records, comes_before, latest}
+use Rattle.record_history.specs.Records.{is_live, live_records, comes_before}
 use Rattle.tenancy_rules.specs.Order.{comes_after, earliest}
 use Rattle.office_step.specs.Refusals.{others_of, is_base_before, base_before}
 

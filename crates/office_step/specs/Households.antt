@@ -1,12 +1,12 @@
 -- What the records of households say, on a day or after a change.
-use Rattle.std.specs.Prelude.{ℕ, ◌≤◌, ◌+◌, ◌==◌, ◌||◌, nat_le, Bool, true, false, Option, Some, None, List, map, filter, find, is_some}
-use Rattle.std.specs.List.{range_with_len, list_any}
-use Rattle.std.specs.Option.{option_map, option_map_or, option_or}
+use Rattle.std.specs.Prelude.{ℕ, ◌≤◌, ◌==◌, nat_le, Bool, true, false, Option, Some, None, List, map, filter, find}
+use Rattle.std.specs.List.{range_with_len}
+use Rattle.std.specs.Option.{option_map_or, option_or}
 use Rattle.record_history.specs.declared.records.Kind.{Kind}
 use Rattle.record_history.specs.declared.records.Kind.TheVariants as kind
 use Rattle.record_history.specs.declared.records.Record.{Record}
 use Rattle.record_history.specs.declared.records.Dates.{Dates}
-use Rattle.record_history.specs.Records.{live_records, in_force, latest}
+use Rattle.record_history.specs.Records.{in_force, latest}
 use Rattle.tenancy_rules.specs.declared.change.Change.{Change}
 
 -- the records of one household

@@ -1,5 +1,5 @@
 -- The record that an act makes, and the lines of a closing.
-use Rattle.std.specs.Prelude.{ℕ, ◌+◌, ◌-◌, ◌==◌, if◌then◌else◌, Bool, true, false, Option, Some, None, option_and_then, List, [], length}
+use Rattle.std.specs.Prelude.{ℕ, ◌+◌, if◌then◌else◌, Bool, false, Option, Some, None, option_and_then, List, []}
 use Rattle.std.specs.Option.{option_map, option_map_or}
 use Rattle.days_core.specs.declared.rents.Rents.{Rents}
 use Rattle.record_history.specs.declared.records.Dates.{Dates}
@@ -23,7 +23,7 @@ use Rattle.book_rows.specs.declared.command.Command.TheVariants as command
 use Rattle.book_rows.specs.declared.closings.CloseAct.{CloseAct}
 use Rattle.office_step.specs.declared.made.Heading.{Heading}
 use Rattle.office_step.specs.Acts.{Known, plan_of, units_of, rents_of, limits_of, household_count, last_closing}
-use Rattle.office_step.specs.Households.{own_of, households_of, record_at, continued, unit_continued}
+use Rattle.office_step.specs.Households.{households_of, record_at, continued, unit_continued}
 
 -- ---- what an act reads
 

@@ -1,16 +1,15 @@
 -- The refusals of an office in their one order, each by the lists and numbers that it reads. None: it doesn't stand.
-use Rattle.std.specs.Prelude.{ℕ, ◌+◌, ◌==◌, ◌&&◌, not, nat_eq, nat_le, nat_lt, if◌then◌else◌, Bool, true, false, Option, Some, None, option_and_then, List, [], ◌∷◌, length, map, filter, find, is_some, bytes_eq}
+use Rattle.std.specs.Prelude.{ℕ, ◌+◌, ◌==◌, ◌&&◌, not, nat_eq, nat_le, nat_lt, if◌then◌else◌, Bool, false, Option, Some, None, option_and_then, List, [], ◌∷◌, length, map, filter, find, is_some, bytes_eq}
 use Rattle.std.specs.List.{range_with_len}
 use Rattle.std.specs.Option.{option_eq, option_map, option_map_or}
-use Rattle.days_core.specs.Calendar.{month_of, last_of}
+use Rattle.days_core.specs.Calendar.{last_of}
 use Rattle.facts_core.specs.declared.facts.Facts.{Facts}
 use Rattle.facts_core.specs.Rules.{broken_rule}
-use Rattle.payment_rules.specs.Payment.{gross_rent_of}
 use Rattle.record_history.specs.declared.records.Record.{Record}
 use Rattle.record_history.specs.declared.records.Dates.{Dates}
 use Rattle.record_history.specs.declared.records.Kind.{Kind}
 use Rattle.record_history.specs.declared.records.Kind.TheVariants as kind
-use Rattle.record_history.specs.Records.{live_records, is_live_as_of, in_force, comes_before, latest}
+use Rattle.record_history.specs.Records.{live_records, is_live_as_of, in_force, latest}
 use Rattle.record_history.specs.Held.{records_of}
 use Rattle.rent_table.specs.declared.plan.Plan.{Plan}
 use Rattle.rent_table.specs.declared.rows.Unit.{Unit as UnitRow}
@@ -18,7 +17,6 @@ use Rattle.rent_table.specs.declared.rows.RentRow.{RentRow}
 use Rattle.rent_table.specs.declared.rows.LimitRow.{LimitRow}
 use Rattle.rent_table.specs.Table.{unit_at, unit_named, rents_on, limits_on}
 use Rattle.rent_table.specs.Admission.{suits, admission_limit}
-use Rattle.due_dates.specs.declared.due.Due.{Due}
 use Rattle.due_dates.specs.declared.due.Due.TheVariants as due
 use Rattle.due_dates.specs.Rightful.{rightful_day_of, next_anniversary}
 use Rattle.due_dates.specs.Stale.{rent_due_day_of}
@@ -33,9 +31,6 @@ use Rattle.wait_list.specs.declared.ask.Candidate.TheVariants as candidate
 use Rattle.wait_list.specs.Waiting.{is_listed}
 use Rattle.voucher_core.specs.Certified.{certified_amount}
 use Rattle.book_rows.specs.declared.rows.ActRow.{ActRow}
-use Rattle.book_rows.specs.declared.command.Command.{Command}
-use Rattle.command_text.specs.Commands.{body_of}
-use Rattle.office_step.specs.declared.call.Call.{Call}
 use Rattle.office_step.specs.declared.refusal.Named.TheVariants as named
 use Rattle.office_step.specs.declared.refusal.Refusal.{Refusal}
 use Rattle.office_step.specs.declared.refusal.Refusal.TheVariants as refusal

@@ -1,5 +1,5 @@
 -- The reply to an act that was accepted, by the rows of the book.
-use Rattle.std.specs.Prelude.{ℕ, ◌==◌, nat_le, Bool, Option, Some, None, List, length, filter, find}
+use Rattle.std.specs.Prelude.{ℕ, ◌==◌, nat_le, List, length, filter, find}
 use Rattle.std.specs.Option.{option_map_or}
 use Rattle.payment_rules.specs.Payment.{tenant_rent_of, reimbursement_of}
 use Rattle.record_history.specs.declared.records.Record.{Record}

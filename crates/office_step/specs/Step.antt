@@ -1,20 +1,15 @@
 -- What the office of one clerk does with a call: a repeat, the first refusal that stands, or the rows that it appends.
-use Rattle.std.specs.Prelude.{ℕ, ◌+◌, ◌-◌, ◌==◌, ◌≡◌, ◌≤◌, ◌&&◌, nat_le, max, min, if◌then◌else◌, Bool, true, false, Option, Some, None, option_and_then, List, [], ◌∷◌, length, filter, map}
+use Rattle.std.specs.Prelude.{ℕ, ◌+◌, ◌≡◌, ◌&&◌, nat_le, max, min, if◌then◌else◌, Bool, true, false, Option, Some, None, option_and_then, List, [], ◌∷◌, length}
 use Rattle.std.specs.Option.{option_map, option_map_or}
 use Rattle.days_core.specs.Calendar.{first_of as first_day_of, last_of as last_day_of}
 use Rattle.payment_rules.specs.Payment.{gross_rent_of}
-use Rattle.facts_core.specs.declared.facts.Facts.{Facts}
 use Rattle.record_history.specs.declared.records.Record.{Record}
-use Rattle.record_history.specs.declared.records.Dates.{Dates}
-use Rattle.record_history.specs.Records.{live_records, newest_number}
+use Rattle.record_history.specs.Records.{newest_number}
 use Rattle.rent_table.specs.declared.plan.Plan.{Plan}
 use Rattle.rent_table.specs.declared.rows.Unit.{Unit as UnitRow}
-use Rattle.rent_table.specs.declared.rows.LimitRow.{LimitRow}
 use Rattle.rent_table.specs.Table.{unit_at, limits_on}
 use Rattle.due_dates.specs.Stale.{gross_day_of}
-use Rattle.tenancy_rules.specs.declared.change.Change.{Change}
 use Rattle.tenancy_rules.specs.Order.{is_move_in}
-use Rattle.wait_list.specs.declared.applicant.Applicant.{Applicant}
 use Rattle.wait_list.specs.declared.ask.Candidate.{Candidate}
 use Rattle.wait_list.specs.declared.ask.Candidate.TheVariants as candidate
 use Rattle.wait_list.specs.Next.{next_candidate}
@@ -41,7 +36,7 @@ use Rattle.office_step.specs.declared.reply.Done.{Done}
 use Rattle.office_step.specs.Acts.{Known, known_of, plan_of, plan_act, units_of, rents_of, limits_of, waiting_of, household_count, last_closing}
 use Rattle.office_step.specs.Households.{record_at, unit_continued, adding, dropping}
 use Rattle.office_step.specs.Candidates.{asked_of}
-use Rattle.office_step.specs.Made.{households_in, own_in, next_household, record_of, lines_of}
+use Rattle.office_step.specs.Made.{households_in, own_in, record_of, lines_of}
 use Rattle.office_step.specs.Refusals.{first_of, repeated, request_reused, no_plan, plan_given, book_full, no_household, no_applicant, no_unit, no_record, no_target, stale, unseen, facts_rule, day_range, no_rent, no_limits, not_live, wrong_day, others_of, annual_right, interim_right, resume_right, corrected_right, disorder, name_taken, size_misfit, unit_taken, not_next, ineligible, no_assistance, next_to_close, wrong_month, rent_due, overdue, lines_full}
 use Rattle.office_step.specs.Reply.{done_of}
 

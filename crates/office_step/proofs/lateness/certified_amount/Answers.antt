@@ -1,8 +1,7 @@
-use Rattle.std.proofs.Common.{◌≡◌, ◌∙◌, sym, ap, ℕ, ◌+◌, List, arith}
+use Rattle.std.proofs.Common.{◌≡◌, ◌∙◌, sym, ap, ℕ, ◌+◌, arith}
 use Rattle.std.specs.Prelude.{sum_by}
 use Rattle.std.specs.List.{range_with_len}
 use Rattle.days_core.specs.Calendar.{days_in}
-use Rattle.record_history.specs.declared.records.Record.{Record}
 use Rattle.record_history.specs.Held.{records_of}
 use Rattle.office_step.proofs.DayShares.{share_at, sum_by-one_more}
 use Rattle.office_step.proofs.lateness.certified_amount.Goals as goal
