@@ -11,7 +11,7 @@ fn act(alloc: Global, n: u32, day: Day) -> Result<ActRow, Fail> {
         n,
         session: 1,
         clerk: 7,
-        request: 40 + n,
+        request: 41,
         day,
         body: Text::new(b"{\"kind\":\"close\",\"month\":\"2024-01\"}".to_vec(alloc)?),
     })
