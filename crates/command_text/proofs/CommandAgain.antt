@@ -1,6 +1,6 @@
 -- Commands that are fit are read again from the values and from the texts that are written of them.
 use Rattle.std.proofs.Common.{◌≡◌, ◌≢◌, true, List, Some, None, Ok, ap, refl, sym, ◌∙◌, arith}
-use Rattle.std.specs.Prelude.{ℕ, bytes_eq, option_and_then}
+use Rattle.std.specs.Prelude.{ℕ, option_and_then}
 use Rattle.std.proofs.lemmas.Slice.Eq.{bytes_eq-Decides}
 use Rattle.book_rows.specs.declared.command.Command.{Command}
 use Rattle.book_rows.specs.declared.command.Command.TheVariants as command

@@ -1,9 +1,8 @@
 -- The values that are written of a household's facts are plain.
-use Rattle.std.proofs.Common.{◌≡◌, ℕ, ◌≤◌, suc, codes, List, map, IsUtf8, refl}
+use Rattle.std.proofs.Common.{◌≤◌, codes, List, IsUtf8, refl}
 use Rattle.std.specs.List.{All}
 use Rattle.std.proofs.lemmas.List.Elements.{recursion_from_All}
 use Rattle.serde_json.specs.Data.{Data}
-use Rattle.serde_json.specs.View.{items_of}
 use Rattle.json_form.specs.Written.{array_data}
 use Rattle.json_form.proofs.Again.{day_text-is_utf8}
 use Rattle.facts_core.specs.declared.members.Relation.{Relation}

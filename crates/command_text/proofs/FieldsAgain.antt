@@ -1,14 +1,14 @@
 -- The values that are written of a command's fields: they are read again, and are plain.
-use Rattle.std.proofs.Common.{◌≡◌, ℕ, suc, ◌<◌, ◌≤◌, ◌^◌, ◌&&◌, ◌==◌, Bool, true, nat_le, List, [], ◌∷◌, map, length, Result, Ok, IsUtf8, refl, sym, ap, ◌∙◌, arith}
-use Rattle.std.specs.List.{All, AllByRecursion, list_all}
+use Rattle.std.proofs.Common.{◌≡◌, ℕ, suc, ◌<◌, ◌≤◌, ◌^◌, ◌&&◌, ◌==◌, Bool, true, nat_le, List, [], ◌∷◌, map, length, Result, Ok, IsUtf8, refl, ap, arith}
+use Rattle.std.specs.List.{AllByRecursion, list_all}
 use Rattle.std.proofs.lemmas.Bool.{and_parts, le-leb, leb-true, lt-ltb}
-use Rattle.std.proofs.lemmas.List.Elements.{recursion_from_All, All-from_recursion}
+use Rattle.std.proofs.lemmas.List.Elements.{All-from_recursion}
 use Rattle.std.proofs.lemmas.Str.{IsUtf8-from_ascii}
 use Rattle.std.proofs.lemmas.Str.Ascii.{IsAscii-from_all}
 use Rattle.json.proofs.Printed.Utf8.{are_ascii, IsUtf8-are_ascii}
-use Rattle.serde_json.specs.Data.{Data, string}
+use Rattle.serde_json.specs.Data.{Data}
 use Rattle.serde_json.specs.View.{items_of}
-use Rattle.json_form.specs.Form.{fit, text_at, month_at, number_at, items_from, count_of, array_at}
+use Rattle.json_form.specs.Form.{fit, month_at, number_at, items_from, count_of, array_at}
 use Rattle.json_form.specs.Written.{number_data, array_data}
 use Rattle.json_form.proofs.Again.{array_again}
 use Rattle.days_core.specs.Calendar.{month_year}
@@ -16,7 +16,7 @@ use Rattle.days_core.specs.DayText.{month_text}
 use Rattle.days_core.proofs.DayTextLemmas.{month_from-month_text}
 use Rattle.rent_table.specs.declared.plan.Bound.{Bound}
 use Rattle.book_rows.specs.Fit.{is_within, is_printable, is_name, is_bound, are_bounds, are_limits}
-use Rattle.command_text.specs.Fields.{passing, name_at, name_data, month_within, month_data, numbers_at, numbers_data, limits_at, bound_at, bound_data, bounds_at, bounds_data}
+use Rattle.command_text.specs.Fields.{name_at, name_data, month_within, month_data, numbers_at, numbers_data, limits_at, bound_at, bound_data, bounds_at, bounds_data}
 use Rattle.command_text.proofs.Names.{name_data_text}
 use Rattle.command_text.proofs.PlainText.{IsPlain, ArePlain}
 

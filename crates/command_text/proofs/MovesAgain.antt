@@ -1,5 +1,5 @@
 -- The values that are written of commands about moves and closings: they are read again, and are plain.
-use Rattle.std.proofs.Common.{◌≡◌, true, Ok, codes, refl}
+use Rattle.std.proofs.Common.{◌≡◌, Ok, codes, refl}
 use Rattle.json_form.proofs.Again.{u32_again, day_again, day_text-is_utf8}
 use Rattle.book_rows.specs.declared.moves.AskTransferAct.{AskTransferAct}
 use Rattle.book_rows.specs.declared.moves.TransferAct.{TransferAct}

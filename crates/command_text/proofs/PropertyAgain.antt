@@ -1,6 +1,5 @@
 -- The values that are written of commands about the property: they are read again, and are plain.
-use Rattle.std.proofs.Common.{◌≡◌, ◌&&◌, true, nat_le, Ok, length, codes, refl, arith}
-use Rattle.std.specs.List.{list_all}
+use Rattle.std.proofs.Common.{◌≡◌, true, nat_le, Ok, codes, refl, arith}
 use Rattle.std.proofs.lemmas.Bool.{and_parts}
 use Rattle.json_form.proofs.Again.{day_again, day_text-is_utf8}
 use Rattle.rent_table.specs.declared.plan.Plan.{Plan}

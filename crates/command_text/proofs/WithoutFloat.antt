@@ -11,7 +11,7 @@ use Rattle.json_form.proofs.Again.{array_without_float}
 use Rattle.facts_core.proofs.FactsAgain.{facts_without_float}
 use Rattle.book_rows.specs.declared.command.Command.{Command}
 use Rattle.book_rows.specs.declared.command.Command.TheVariants as command
-use Rattle.command_text.specs.Fields.{name_data, numbers_data, bound_data, bounds_data}
+use Rattle.command_text.specs.Fields.{name_data, numbers_data, bound_data}
 use Rattle.command_text.specs.Commands.{command_data}
 
 name_without_float : (name : List ℕ) → has_float (name_data name) ≡ false

@@ -1,6 +1,6 @@
 -- The words for the kinds of commands.
 use Rattle.std.specs.Prelude.{ℕ, if◌then◌else◌, List, Option, Some, None, option_and_then, Result, codes, bytes_eq}
-use Rattle.serde_json.specs.Data.{Data, string}
+use Rattle.serde_json.specs.Data.{Data}
 use Rattle.serde_json.specs.Find.{as_str}
 use Rattle.json_form.specs.Form.{fit}
 use Rattle.command_text.specs.declared.kind.Kind.{Kind}

@@ -1,7 +1,7 @@
 -- How commands about the property are written in JSON: the plan, units, rents and income limits.
 use Rattle.std.specs.Prelude.{ℕ, List, [], ◌∷◌, Result, Ok, codes}
 use Rattle.serde_json.specs.Data.{Data, boolean, string, object, member, no_members}
-use Rattle.json_form.specs.Form.{◌>>=◌, under, fit, bool_at, day_at, number_at, object_at, field, only}
+use Rattle.json_form.specs.Form.{◌>>=◌, bool_at, day_at, number_at, field, only}
 use Rattle.json_form.specs.Written.{number_data, day_data}
 use Rattle.rent_table.specs.declared.plan.Plan.{Plan}
 use Rattle.book_rows.specs.declared.property.UnitAct.{UnitAct}

@@ -1,6 +1,5 @@
 use Rattle.std.proofs.Common.{sym, ◌∙◌, subst}
 use Rattle.std.specs.Str.{IsUtf8}
-use Rattle.serde_json.specs.Data.{string}
 use Rattle.command_text.proofs.Names.{name_data_text, name_data_other, view-Null}
 use Rattle.command_text.proofs.fields.name_value.Goals as goal
 
