@@ -1,0 +1,5 @@
+pub mod Points
+pub mod Keyed
+pub mod Ordered
+pub mod Places
+mod Rows

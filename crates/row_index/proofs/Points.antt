@@ -1,0 +1,94 @@
+-- What a list has at the point where a binary search ended.
+use Rattle.std.proofs.Common.{◌≡◌, ◌≢◌, ℕ, zero, suc, ◌<◌, ◌≤◌, Bool, true, false, List, [], ◌∷◌, length, get_or, Option, Some, None, eqb, refl, sym, ◌∙◌, ap, arith}
+use Rattle.std.specs.Prelude.{find, All, if◌then◌else◌, nat_lt, slice_get}
+use Rattle.std.specs.List.{AllWithin}
+use Rattle.std.specs.List.Sorted.{IsPartitionPoint, IsNonDecreasingBy}
+use Rattle.std.proofs.lemmas.Bool.{false≢true}
+use Rattle.std.proofs.lemmas.Bool.Decides.{nat_tests}
+use Rattle.std.proofs.lemmas.List.Elements.{All-nil, All-cons, All-head, All-tail}
+
+-- the element that is there, where it passes
+abbrev pub if_passes : {X : Type 0} → (X → Bool) → Option X → Option X
+if_passes passes None = None
+if_passes passes (Some x) = if passes x then Some x else None
+
+-- where no element passes, none is found
+pub none_found : {X : Type 0} (passes : X → Bool) (xs : List X) → All (λ x. passes x ≡ false) xs → find passes xs ≡ None
+none_found passes [] none = refl
+none_found passes (x ∷ xs) none = rw (All-head (λ x. passes x ≡ false) x xs none) (none_found passes xs (All-tail (λ x. passes x ≡ false) x xs none))
+
+-- whether the first element passes or not
+found_or_not : {X : Type 0} (passes : X → Bool) (x : X) (xs : List X) (b : Bool) → passes x ≡ b →
+    (if b then Some x else find passes xs) ≡ None → (find passes xs ≡ None → All (λ y. passes y ≡ false) xs) → All (λ y. passes y ≡ false) (x ∷ xs)
+found_or_not passes x xs true is none rest = absurd (cc)
+found_or_not passes x xs false is none rest = All-cons (λ y. passes y ≡ false) x xs is (rest none)
+
+-- where none is found, no element passes
+pub All-not_found : {X : Type 0} (passes : X → Bool) (xs : List X) → find passes xs ≡ None → All (λ x. passes x ≡ false) xs
+All-not_found passes [] none = All-nil (λ x. passes x ≡ false)
+All-not_found passes (x ∷ xs) none = found_or_not passes x xs (passes x) refl none (All-not_found passes xs)
+
+-- no element before the place passes, and where one from there on passes, the one at the place does: then it alone may
+-- be the first that passes
+pub find_at_point : {X : Type 0} (passes : X → Bool) (xs : List X) (i : ℕ) → i ≤ length xs →
+    AllWithin (λ x. passes x ≡ false) xs 0 i →
+    ((j : ℕ) (d : X) → i ≤ j → j < length xs → passes (get_or xs j d) ≡ true → passes (get_or xs i d) ≡ true) →
+    find passes xs ≡ if_passes passes (slice_get xs i)
+find_at_point passes [] i le before from = refl
+find_at_point passes (x ∷ xs) zero le before from = by (passes x) refl
+  where
+    by_rest : passes x ≡ false → (b : Bool) (k : ℕ) → k < length xs → (d : _) → passes (get_or xs k d) ≡ b → b ≡ false
+    by_rest fails false k within d is = refl
+    by_rest fails true k within d is = absurd (false≢true (sym fails ∙ from (suc k) d (omega arith) (omega arith) is))
+
+    by : (b : Bool) → passes x ≡ b → (if b then Some x else find passes xs) ≡ (if b then Some x else None)
+    by true is = refl
+    by false is = none_found passes xs (λ k d within. by_rest is (passes (get_or xs k d)) k within d refl)
+find_at_point passes (x ∷ xs) (suc i) le before from =
+    rw (before 0 x (omega arith) (omega arith))
+    (find_at_point passes xs i (omega arith)
+    (λ k d low high. before (suc k) d (omega arith) (omega arith))
+    (λ j d low high is. from (suc j) d (omega arith) (omega arith) is))
+
+-- of elements that never fall, the first with a number stands where those with smaller numbers end
+pub find_number : {X : Type 0} (n : X → ℕ) (xs : List X) (a i : ℕ) → IsNonDecreasingBy n xs → i ≤ length xs →
+    IsPartitionPoint (λ x. nat_lt (n x) a ≡ true) (λ x. nat_lt (n x) a ≡ false) xs i →
+    find (λ x. eqb (n x) a) xs ≡ if_passes (λ x. eqb (n x) a) (slice_get xs i)
+find_number n xs a i rise le point =
+    find_at_point (λ x. eqb (n x) a) xs i le
+    (λ k d low high. other (n (get_or xs k d)) (point.0 k d low high))
+    (λ j d low high is. same (n (get_or xs i d)) (n (get_or xs j d)) (point.1 i d (omega arith) (omega arith)) (rise i j d low high) is)
+  where
+    other : (m : ℕ) → nat_lt m a ≡ true → eqb m a ≡ false
+    other m lt = grind (arith, nat_tests)
+
+    same : (m k : ℕ) → nat_lt m a ≡ false → m ≤ k → eqb k a ≡ true → eqb m a ≡ true
+    same m k not_below below is = grind (arith, nat_tests)
+
+-- what a search finds by the element that was read at the point
+module _ {X : Type 0} (passes : X → Bool) (xs : List X) (i : ℕ) (first : find passes xs ≡ if_passes passes (slice_get xs i)) (read : Option X) (there : read ≡ slice_get xs i) where
+  at_point : find passes xs ≡ if_passes passes read
+  at_point = first ∙ ap (if_passes passes) (sym there)
+
+  pub found_there : (x : X) → read ≡ Some x → passes x ≡ true → Some x ≡ find passes xs
+  found_there x is passed = sym (at_point ∙ ap (if_passes passes) is ∙ rw passed refl)
+
+  pub found_not_there : (x : X) → read ≡ Some x → passes x ≡ false → None ≡ find passes xs
+  found_not_there x is failed = sym (at_point ∙ ap (if_passes passes) is ∙ rw failed refl)
+
+  pub nothing_there : read ≡ None → None ≡ find passes xs
+  nothing_there is = sym (at_point ∙ ap (if_passes passes) is)
+
+-- the same of a number, among elements that never fall
+module _ {X : Type 0} (n : X → ℕ) (xs : List X) (a i : ℕ) (rise : IsNonDecreasingBy n xs) (le : i ≤ length xs)
+    (point : IsPartitionPoint (λ x. nat_lt (n x) a ≡ true) (λ x. nat_lt (n x) a ≡ false) xs i) (read : Option X) (there : read ≡ slice_get xs i) where
+  pub number_there : (x : X) → read ≡ Some x → n x ≡ a → Some x ≡ find (λ y. eqb (n y) a) xs
+  number_there x is same =
+      found_there (λ y. eqb (n y) a) xs i (find_number n xs a i rise le point) read there x is (grind (arith, nat_tests, same))
+
+  pub number_not_there : (x : X) → read ≡ Some x → n x ≢ a → None ≡ find (λ y. eqb (n y) a) xs
+  number_not_there x is other =
+      found_not_there (λ y. eqb (n y) a) xs i (find_number n xs a i rise le point) read there x is (grind (arith, nat_tests, other))
+
+  pub number_past : read ≡ None → None ≡ find (λ y. eqb (n y) a) xs
+  number_past is = nothing_there (λ y. eqb (n y) a) xs i (find_number n xs a i rise le point) read there is
