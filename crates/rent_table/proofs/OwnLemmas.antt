@@ -1,24 +1,13 @@
 -- A unit whose number and name are new leaves each unit its own number and name.
-use Rattle.std.proofs.Common.{◌≡◌, ◌≢◌, sym, Bool, true, false, nat_eq, List, [], ◌∷◌, ◌++◌, refl}
-use Rattle.std.specs.Prelude.{Option, Some, None, find, All, if◌then◌else◌}
+use Rattle.std.proofs.Common.{◌≡◌, ◌≢◌, sym, nat_eq, List, [], ◌∷◌, ◌++◌, refl}
+use Rattle.std.specs.Prelude.{Option, Some, None, find}
 use Rattle.std.specs.Option.{option_map}
 use Rattle.std.specs.Cmp.Lexicographic.{other_text}
 use Rattle.std.proofs.lemmas.Bool.{eqb-false}
-use Rattle.std.proofs.lemmas.List.Elements.{All-nil, All-cons}
 use Rattle.std.proofs.lemmas.List.Quantifiers.{all_pairs_push}
+use Rattle.row_index.proofs.Points.{All-not_found}
 use Rattle.rent_table.specs.declared.rows.Unit.{Unit as UnitRow}
 use Rattle.rent_table.specs.Table.{unit_at, has_name, unit_named, HaveOwnNumbers, HaveOwnNames}
-
--- whether the first element passes or not
-found_or_not : {X : Type 0} (p : X → Bool) (x : X) (xs : List X) (b : Bool) → p x ≡ b →
-    (if b then Some x else find p xs) ≡ None → (find p xs ≡ None → All (λ y. p y ≡ false) xs) → All (λ y. p y ≡ false) (x ∷ xs)
-found_or_not p x xs true is none rest = absurd (cc)
-found_or_not p x xs false is none rest = All-cons (λ y. p y ≡ false) x xs is (rest none)
-
--- where a search finds nothing each element fails its test
-pub All-not_found : {X : Type 0} (p : X → Bool) (xs : List X) → find p xs ≡ None → All (λ x. p x ≡ false) xs
-All-not_found p [] none = All-nil (λ x. p x ≡ false)
-All-not_found p (x ∷ xs) none = found_or_not p x xs (p x) refl none (All-not_found p xs)
 
 -- a unit with a new number leaves each its own number
 pub HaveOwnNumbers-push : (units : List UnitRow) (unit : UnitRow) → HaveOwnNumbers units → unit_at units unit.number ≡ None →

@@ -6,6 +6,7 @@ use Rattle.days_core.specs.declared.rents.Rents.{Rents}
 use Rattle.rent_table.specs.declared.rows.Unit.{Unit as UnitRow}
 use Rattle.rent_table.specs.declared.rows.RentRow.{RentRow}
 use Rattle.rent_table.specs.declared.rows.LimitRow.{LimitRow}
+use Rattle.rent_table.specs.Names.{AreByName}
 use Rattle.row_choice.specs.Latest.{comes_before, latest}
 
 -- what an office has on record, in the order in which it came, and for how many more rows of each sort it has room
@@ -45,10 +46,12 @@ RentActsRise rows = AllPairs (λ row next. row.act < next.act) rows
 abbrev pub LimitActsRise : List LimitRow → Type 0
 LimitActsRise rows = AllPairs (λ row next. row.act < next.act) rows
 
--- what is true of the rows of every table: the numbers and names of units are their own, and acts rise
-pub record IsSound (units : List UnitRow) (rents : List RentRow) (limits : List LimitRow) : Type 0 where
+-- what is true of every table: the numbers and names of units are their own, the units' places are kept in the order of
+-- their names, and acts rise
+pub record IsSound (units : List UnitRow) (by_name : List ℕ) (rents : List RentRow) (limits : List LimitRow) : Type 0 where
   pub numbers : HaveOwnNumbers units
   pub names : HaveOwnNames units
+  pub places : AreByName units by_name
   pub rent_acts : RentActsRise rents
   pub limit_acts : LimitActsRise limits
 

@@ -3,6 +3,7 @@
 
 mod admission;
 mod laws;
+mod lookup;
 mod plan;
 mod rows;
 mod standing;

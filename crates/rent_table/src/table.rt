@@ -3,6 +3,7 @@ ghost use Rattle.std.specs.Option.{option_copied};
 ghost use Rattle.rent_table.specs.Table.{unit_at, unit_named, rents_on, limits_on};
 ghost use Rattle.rent_table.specs.Table.{HaveOwnNumbers, HaveOwnNames, RentActsRise, LimitActsRise};
 
+use crate::lookup::{add_by_name, unit_of_name, unit_of_number};
 use crate::standing::{limit_row_on, rent_row_on};
 use crate::{LimitRow, RentRow, Unit};
 use days_core::{Day, Rents};
@@ -14,12 +15,14 @@ use std::marker::Model;
 #[derive(Debug, Drop)]
 pub struct RentTable {
     units: Vec<Unit>,
+    // The places of the units in the order of their names.
+    by_name: Vec<usize>,
     rents: Vec<RentRow>,
     limits: Vec<LimitRow>,
 }
 
 impl Model for RentTable {
-    ghost use Rattle.std.specs.Prelude.{◌-◌, vec_len, vec_capacity};
+    ghost use Rattle.std.specs.Prelude.{◌-◌, min, vec_len, vec_capacity};
     ghost use Rattle.rent_table.specs.Table.{Table, IsSound};
 
     ghost Value = { Table };
@@ -28,12 +31,12 @@ impl Model for RentTable {
       units = table.units.items;
       rents = table.rents.items;
       limits = table.limits.items;
-      unit_room = vec_capacity table.units - vec_len table.units;
+      unit_room = min (vec_capacity table.units - vec_len table.units) (vec_capacity table.by_name - vec_len table.by_name);
       rent_room = vec_capacity table.rents - vec_len table.rents;
       limit_room = vec_capacity table.limits - vec_len table.limits;
     } };
 
-    ghost invariant = { λ table. IsSound table.units.items table.rents.items table.limits.items };
+    ghost invariant = { λ table. IsSound table.units.items table.by_name.items table.rents.items table.limits.items };
 }
 
 impl RentTable {
@@ -44,6 +47,7 @@ impl RentTable {
     {
         Ok(RentTable {
             units: Vec::new(alloc),
+            by_name: Vec::new(alloc),
             rents: Vec::new(alloc),
             limits: Vec::new(alloc),
         })
@@ -63,6 +67,7 @@ impl RentTable {
         ensures limit_room_kept { self.old.limit_room ≤ self.new.limit_room }
     {
         self.units.reserve(1)?;
+        self.by_name.reserve(1)?;
         self.rents.reserve(1)?;
         self.limits.reserve(1)?;
         Ok(())
@@ -80,6 +85,7 @@ impl RentTable {
         ensures rent_room { self.new.rent_room ≡ self.old.rent_room }
         ensures limit_room { self.new.limit_room ≡ self.old.limit_room }
     {
+        add_by_name(&self.units, &mut self.by_name, &unit);
         self.units.push_reserved(unit);
     }
 
@@ -116,7 +122,7 @@ impl RentTable {
         ensures value { option_copied result ≡ unit_at self.now.units number }
         ensures own_numbers { HaveOwnNumbers self.now.units }
     {
-        self.units.iter().find(|unit| unit.number == number)
+        unit_of_number(&self.units, number)
     }
 
     /// The number of the unit of that name.
@@ -124,10 +130,16 @@ impl RentTable {
         ensures value { result ≡ unit_named self.now.units name.now }
         ensures own_names { HaveOwnNames self.now.units }
     {
-        self.units
-            .iter()
-            .find(|unit| unit.name == *name)
-            .map(|unit| unit.number)
+        unit_of_name(&self.units, &self.by_name, name).map(|unit| unit.number)
+    }
+
+    /// The units in the order in which they were added.
+    pub fn unit_rows(&self) -> &[Unit]
+        ensures rows { result.now ≡ self.now.units }
+        ensures own_numbers { HaveOwnNumbers self.now.units }
+        ensures own_names { HaveOwnNames self.now.units }
+    {
+        &self.units
     }
 
     /// The rents that were ever set, in the order of their acts.

@@ -115,6 +115,57 @@ fn keeps_units_and_rows(rt: HostRuntime) -> Result<(), Fail> {
     Ok(())
 }
 
+fn add(
+    rt: &impl Abort,
+    alloc: Global,
+    table: &mut RentTable,
+    number: u32,
+    name: &[u8],
+) -> Result<(), Fail> {
+    let added = unit(alloc, number, name)?;
+    table.reserve()?;
+    assert!(rt; table.unit(added.number).is_none());
+    assert!(rt; table.unit_named(&added.name).is_none());
+    table.push_unit(added);
+    Ok(())
+}
+
+// Units 1 and 2 stand where their numbers say, the others don't.
+#[test]
+fn finds_each_unit_by_number_and_name(rt: HostRuntime) -> Result<(), Fail> {
+    let alloc = rt.alloc();
+    let mut table = RentTable::new(alloc)?;
+    add(&rt, alloc, &mut table, 1, b"M")?;
+    add(&rt, alloc, &mut table, 2, b"B")?;
+    add(&rt, alloc, &mut table, 9, b"Q")?;
+    add(&rt, alloc, &mut table, 5, b"BA")?;
+    add(&rt, alloc, &mut table, 40, b"A2")?;
+    for (name, number) in [
+        ("M", Some(1)),
+        ("B", Some(2)),
+        ("Q", Some(9)),
+        ("BA", Some(5)),
+        ("A2", Some(40)),
+        ("", None),
+        ("C", None),
+        ("Z", None),
+    ] {
+        let named = table.unit_named(&Text::new(name.as_bytes().to_vec(alloc)?));
+        assert_eq!(rt; named, number, "{name}");
+    }
+    for (number, there) in [
+        (1, true),
+        (3, false),
+        (5, true),
+        (9, true),
+        (40, true),
+        (0, false),
+    ] {
+        assert_eq!(rt; table.unit(number).is_some(), there, "{number}");
+    }
+    Ok(())
+}
+
 fn plan(rt: &impl Abort, alloc: Global, early: bool) -> Plan {
     let bounds = [(1, 1), (1, 2), (2, 4), (3, 6), (4, 8), (5, 10)];
     Plan {
