@@ -74,14 +74,14 @@ fn history_of(alloc: Global, households: u32) -> Result<History, NoMemory> {
     let mut history = History::new(alloc)?;
     for household in 1..households.saturating_add(1) {
         for place in 0..6 {
-            hold(alloc, &mut history, household, place)?;
+            hold(&mut history, household, place)?;
         }
     }
     Ok(history)
 }
 
 /// Holds a household's next record: from the first day of each third month on, but known a month and more later.
-fn hold(alloc: Global, history: &mut History, household: u32, place: u32) -> Result<(), NoMemory>
+fn hold(history: &mut History, household: u32, place: u32) -> Result<(), NoMemory>
     requires household { 1 ≤ household }
     requires place { place < 6 }
 {
@@ -94,7 +94,7 @@ fn hold(alloc: Global, history: &mut History, household: u32, place: u32) -> Res
     {
         return Ok(());
     }
-    history.reserve(alloc, household)?;
+    history.reserve(household)?;
     history.push(Record {
         household,
         number: place + 1,

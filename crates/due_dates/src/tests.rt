@@ -187,7 +187,7 @@ fn record(number: u32, kind: Kind, from: Day, unit: u32, contract_rent: u32) -> 
     }
 }
 
-fn hold(rt: &impl Abort, alloc: Global, history: &mut History, held: Record) -> Result<(), Fail> {
+fn hold(rt: &impl Abort, history: &mut History, held: Record) -> Result<(), Fail> {
     assert!(rt; held.household == 1);
     assert!(rt; held.number > 0);
     assert!(rt; history.newest(1) == held.number - 1);
@@ -196,7 +196,7 @@ fn hold(rt: &impl Abort, alloc: Global, history: &mut History, held: Record) -> 
     assert!(rt; held.rents.contract_rent <= 99_999);
     assert!(rt; held.rents.utility <= 9_999);
     assert!(rt; held.assistance <= 109_998);
-    history.reserve(alloc, 1)?;
+    history.reserve(1)?;
     history.push(held);
     Ok(())
 }
@@ -212,7 +212,7 @@ fn history_of(
         let newest = history.newest(1);
         assert!(rt; newest < 9);
         let held = record(newest + 1, *kind, day(rt, from), *unit, *contract_rent);
-        hold(rt, alloc, &mut history, held)?;
+        hold(rt, &mut history, held)?;
     }
     Ok(history)
 }

@@ -2,14 +2,14 @@
 use Rattle.std.proofs.Common.{◌≡◌, ◌⊎◌, inl, inr, ℕ, zero, suc, ◌+◌, ◌-◌, ◌<◌, ◌≤◌, max, List, [], ◌∷◌, ◌++◌, length, get_or, set, refl, sym, ap, ◌∙◌, arith, length-append}
 use Rattle.std.specs.Prelude.{All, nat_lt, ◌==◌, if◌then◌else◌, Bool, true, false}
 use Rattle.std.proofs.Math.Seq.{get_or-append_seam}
-use Rattle.std.proofs.lemmas.List.{get_or_append_left}
+use Rattle.std.proofs.lemmas.List.{length-set, get_or_append_left}
 use Rattle.std.proofs.lemmas.List.Sums.{fold-append}
 use Rattle.std.proofs.lemmas.List.Elements.{All-nil, All-push, All-set}
 use Rattle.std.proofs.lemmas.Bool.{cases_lt, ne_eqb}
 use Rattle.std.proofs.lemmas.Bool.Decides.{nat_tests}
 use Rattle.record_history.specs.declared.records.Record.{Record}
 use Rattle.record_history.specs.Records.{newest_number}
-use Rattle.record_history.specs.Held.{Held, IsWithin, AreNumbered, AreKept, records_of, room_of, with_place}
+use Rattle.record_history.specs.Held.{Held, IsWithin, AreNumbered, AreKept, AreSound, records_of, room_of, with_place}
 use Rattle.record_history.proofs.Latest.{at_place, either_is}
 
 pub kept_none : AreKept []
@@ -51,17 +51,14 @@ records_at households household has =
     rw no refl
 
 -- a place more is kept
-pub kept_place : (ok : Bool) (lists : List (List Record)) (place : ℕ) → All AreKept lists → All AreKept (if ok then with_place lists place else lists)
-kept_place ok lists place all =
-    either_is (All AreKept) ok (with_place lists place) lists
-    (either_is (All AreKept) (nat_lt place (length lists)) lists (lists ++ [] ∷ []) all (All-push AreKept lists [] all kept_none)) all
+kept_place : (lists : List (List Record)) (place : ℕ) → All AreKept lists → All AreKept (with_place lists place)
+kept_place lists place all =
+    either_is (All AreKept) (nat_lt place (length lists)) lists (lists ++ [] ∷ []) all (All-push AreKept lists [] all kept_none)
 
 -- a place more is one for a household whose number fits
-pub few_place : (ok : Bool) (lists : List (List Record)) (place : ℕ) → length lists ≤ 4294967295 → place < 4294967295 →
-    length (if ok then with_place lists place else lists) ≤ 4294967295
-few_place ok lists place few fits =
-    either_is (λ (now : List (List Record)). length now ≤ 4294967295) ok (with_place lists place) lists
-    (by_test (nat_lt place (length lists)) refl) few
+few_place : (lists : List (List Record)) (place : ℕ) → length lists ≤ 4294967295 → place < 4294967295 →
+    length (with_place lists place) ≤ 4294967295
+few_place lists place few fits = by_test (nat_lt place (length lists)) refl
   where
     past : nat_lt place (length lists) ≡ false → length lists ≤ place
     past is = grind (arith, nat_tests)
@@ -70,20 +67,24 @@ few_place ok lists place few fits =
     by_test true is = few
     by_test false is = omega (arith, length-append lists ([] ∷ []), past is, fits)
 
--- a record more is kept
-pub kept_push : (old : Held) (lists : List (List Record)) (held : Record) → lists ≡ old.households → All AreKept lists → IsWithin held →
+-- a record more is kept, in the list of its household
+pub sound_push : (old : Held) (lists : List (List Record)) (next later : List Record) (held : Record) → lists ≡ old.households →
+    AreSound lists next → IsWithin held → held.household ≤ 4294967295 → later ≡ [] →
     1 ≤ room_of old.room held.household → held.number ≡ newest_number (records_of old.households held.household) + 1 →
-    All AreKept (set lists (held.household - 1) (get_or lists (held.household - 1) [] ++ held ∷ []))
-kept_push old lists held same all within room next =
-    let own : List Record = get_or lists (held.household - 1) [] in
-    let before : AreKept (get_or lists (held.household - 1) []) = at_place AreKept lists (held.household - 1) [] all kept_none in
+    AreSound (set (with_place lists (held.household - 1)) (held.household - 1) (get_or lists (held.household - 1) [] ++ held ∷ [])) later
+sound_push old lists next later held same sound within fits none room number =
+    let is : 1 ≤ held.household = is_household old.room held.household room in
+    let before : AreKept (get_or lists (held.household - 1) []) = at_place AreKept lists (held.household - 1) [] sound.kept kept_none in
     let found : records_of old.households held.household ≡ get_or lists (held.household - 1) [] =
-    records_at old.households held.household (is_household old.room held.household room)
-    ∙ ap (λ (hs : List (List Record)). get_or hs (held.household - 1) []) (sym same) in
-    let number : held.number ≡ newest_number (get_or lists (held.household - 1) []) + 1 = next ∙ ap (λ (rs : List Record). newest_number rs + 1) found in
-    All-set AreKept lists (held.household - 1) (get_or lists (held.household - 1) [] ++ held ∷ [])
-    (record {
-      within = All-push IsWithin (get_or lists (held.household - 1) []) held before.within within;
-      numbered = numbered_push (get_or lists (held.household - 1) []) held before.numbered number;
-    })
-    all
+    records_at old.households held.household is ∙ ap (λ (hs : List (List Record)). get_or hs (held.household - 1) []) (sym same) in
+    let follows : held.number ≡ newest_number (get_or lists (held.household - 1) []) + 1 = number ∙ ap (λ (rs : List Record). newest_number rs + 1) found in
+    record {
+      few = rw length-set (few_place lists (held.household - 1) sound.few (omega arith));
+      kept = All-set AreKept (with_place lists (held.household - 1)) (held.household - 1) (get_or lists (held.household - 1) [] ++ held ∷ [])
+          (record {
+            within = All-push IsWithin (get_or lists (held.household - 1) []) held before.within within;
+            numbered = numbered_push (get_or lists (held.household - 1) []) held before.numbered follows;
+          })
+          (kept_place lists (held.household - 1) sound.kept);
+      empty = none;
+    }

@@ -1,11 +1,12 @@
 -- Vectors of which one changes.
-use Rattle.std.proofs.Common.{◌≡◌, ◌⊎◌, inl, inr, ℕ, ◌-◌, ◌<◌, ◌≤◌, List, [], ◌∷◌, length, get_or, set, ap, sym, ◌∙◌, subst, arith, ◌++◌, zero, suc, Vec}
-use Rattle.std.specs.Prelude.{vec_items, vec_len, vec_capacity}
+use Rattle.std.proofs.Common.{◌≡◌, ◌⊎◌, inl, inr, ℕ, ◌-◌, ◌<◌, ◌≤◌, List, [], ◌∷◌, length, get_or, set, ap, sym, ◌∙◌, subst, arith, refl, ◌++◌, zero, suc, Vec}
+use Rattle.std.specs.Prelude.{vec_items, vec_len, vec_capacity, nat_lt, false, if◌then◌else◌}
 use Rattle.std.specs.declared.alloc.Global.{Global}
-use Rattle.std.proofs.lemmas.List.{length-map, map-set, get_or-map, get_or-set_same, get_or-set_other}
+use Rattle.std.proofs.lemmas.List.{length-map, length_push, map-set, get_or-map, get_or-set_same, get_or-set_other, get_or_past, get_or_push, set_at}
 use Rattle.std.proofs.Math.Seq.{map-set_same}
 use Rattle.std.proofs.lemmas.Bool.{cases_eq}
-use Rattle.record_history.specs.Held.{lists_in, room_in}
+use Rattle.std.proofs.lemmas.Bool.Decides.{nat_tests}
+use Rattle.record_history.specs.Held.{with_place, lists_in, room_in}
 
 -- where there is room there is a place
 there : (xs : List ℕ) (place : ℕ) → 1 ≤ get_or xs place 0 → place < length xs
@@ -68,3 +69,29 @@ module _ {T : Type 0} where
       room_in (set vectors place v) ≡ set (room_in vectors) place (get_or (room_in vectors) place 0 - 1)
   room_pushed vectors place v d within less =
       map-set spare vectors place v ∙ ap (set (room_in vectors) place) (less ∙ ap (λ (n : ℕ). n - 1) (sym (room_at vectors place d within)))
+
+  -- a place with room that no vector has is the next
+  pub is_next : (vectors : List (Vec T Global)) (to_come place : ℕ) → length vectors ≤ place →
+      1 ≤ get_or (room_in vectors ++ to_come ∷ []) place 0 → length vectors ≡ place
+  is_next vectors to_come place past room =
+      let long : length (room_in vectors) ≡ length vectors = length-map vectors spare in
+      let within : place < length (room_in vectors ++ to_come ∷ []) = there (room_in vectors ++ to_come ∷ []) place room in
+      omega (arith, long, within, length_push (room_in vectors) to_come)
+
+-- there is no list at the place after all
+no_list : {A : Type 0} (lists : List A) (place : ℕ) → length lists ≡ place → nat_lt place (length lists) ≡ false
+no_list lists place long = grind (arith, nat_tests)
+
+-- a list of one item more is one at the next place, with the item
+pub lists_more : {T : Type 0} (lists : List (List T)) (place : ℕ) (item : T) → length lists ≡ place →
+    lists ++ (item ∷ []) ∷ [] ≡ set (with_place lists place) place (get_or lists place [] ++ item ∷ [])
+lists_more lists place item long =
+    let none : get_or lists place [] ≡ [] = get_or_past lists place [] (omega arith) in
+    rw (no_list lists place long, none, set_at lists [] [] (item ∷ []) place long) refl
+
+-- the room for one item less at the last place, and none at the one after it
+pub room_more : {A : Type 0} (lists : List A) (room : List ℕ) (to_come place : ℕ) → length lists ≡ place → length room ≡ place →
+    (room ++ (to_come - 1) ∷ []) ++ 0 ∷ []
+    ≡ set (room ++ to_come ∷ []) place (get_or (room ++ to_come ∷ []) place 0 - 1) ++ (if nat_lt place (length lists) then [] else 0 ∷ [])
+room_more lists room to_come place long same =
+    rw (no_list lists place long, get_or_push room to_come 0 place same, set_at room to_come [] (to_come - 1) place same) refl

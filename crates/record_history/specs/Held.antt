@@ -1,10 +1,11 @@
 -- What a history holds: the records of each household, and the room for more.
-use Rattle.std.specs.Prelude.{ℕ, ◌+◌, ◌-◌, ◌==◌, ◌≤◌, ◌<◌, ◌≡◌, All, nat_lt, if◌then◌else◌, List, [], ◌∷◌, ◌++◌, length, map, slice_index_or, slice_set, vec_items, vec_len, vec_capacity}
+use Rattle.std.specs.Prelude.{ℕ, ◌+◌, ◌-◌, ◌==◌, ◌≤◌, ◌<◌, ◌≡◌, All, nat_le, nat_lt, if◌then◌else◌, List, [], ◌∷◌, ◌++◌, length, map, slice_index_or, slice_set, vec_items, vec_len, vec_capacity}
 use Rattle.std.specs.Global.{Vec}
 use Rattle.record_history.specs.declared.records.Record.{Record}
 use Rattle.record_history.specs.Records.{newest_number}
 
--- the records of household 1, 2 and so on in the order in which they came, and how many more fit for each
+-- the records of household 1, 2 and so on in the order in which they came, and how many more fit for each and, last, for
+-- the household to come
 pub record Held : Type 0 where
   pub households : List (List Record)
   pub room : List ℕ
@@ -25,6 +26,12 @@ with_place lists place = if nat_lt place (length lists) then lists else lists ++
 abbrev pub with_record : List (List Record) → Record → List (List Record)
 with_record households held = slice_set households (held.household - 1) (records_of households held.household ++ held ∷ [])
 
+-- the room once a record more of the household is there: one less for it, and where it is new, none yet for the household
+-- to come after it
+abbrev pub room_after : List (List Record) → List ℕ → ℕ → List ℕ
+room_after households room household =
+    slice_set room (household - 1) (room_of room household - 1) ++ (if nat_le household (length households) then [] else 0 ∷ [])
+
 -- what vectors hold
 abbrev pub lists_in : {T : Type 0} → List (Vec T) → List (List T)
 lists_in vectors = map vec_items vectors
@@ -32,6 +39,14 @@ lists_in vectors = map vec_items vectors
 -- the room that vectors have
 abbrev pub room_in : {T : Type 0} → List (Vec T) → List ℕ
 room_in vectors = map (λ v. vec_capacity v - vec_len v) vectors
+
+-- the room of a vector to come, for which there is a place or not
+abbrev pub room_to_come : {T : Type 0} → Vec (Vec T) → Vec T → ℕ
+room_to_come vectors next = if nat_lt (vec_len vectors) (vec_capacity vectors) then vec_capacity next - vec_len next else 0
+
+-- the room that vectors have, and last that of the one to come
+abbrev pub all_room : {T : Type 0} → Vec (Vec T) → Vec T → List ℕ
+all_room vectors next = room_in vectors.items ++ room_to_come vectors next ∷ []
 
 -- The bounds within which each record lies: it begins by 2099-12-31, and its amounts are those that a contract allows.
 pub record IsWithin (r : Record) : Type 0 where
@@ -51,7 +66,8 @@ pub record AreKept (records : List Record) : Type 0 where
   pub within : All IsWithin records
   pub numbered : AreNumbered records
 
--- what is true of the lists of all households
-pub record AreSound (households : List (List Record)) : Type 0 where
+-- what is true of the lists of all households, and of that of the household to come
+pub record AreSound (households : List (List Record)) (next : List Record) : Type 0 where
   pub few : length households ≤ 4294967295
   pub kept : All AreKept households
+  pub empty : next ≡ []

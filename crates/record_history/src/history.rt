@@ -9,50 +9,54 @@ use std::marker::Model;
 
 /// The records of each household, which are numbered from 1 without gaps.
 ///
-/// Contracts see the lists of records, and beside them the room that each has for more.
+/// Contracts see the lists of records, and beside them the room that each has for more, and last that of the household to
+/// come.
 #[derive(Drop)]
 pub struct History {
     lists: Vec<Vec<Record>>,
+    /// The list of the household to come, empty.
+    next: Vec<Record>,
 }
 
 impl Model for History {
-    ghost use Rattle.record_history.specs.Held.{Held, lists_in, room_in, AreSound};
+    ghost use Rattle.record_history.specs.Held.{Held, lists_in, all_room, AreSound};
 
     ghost Value = { Held };
 
-    ghost view = { λ history. record { households = lists_in history.lists.items; room = room_in history.lists.items } };
+    ghost view = { λ history. record { households = lists_in history.lists.items; room = all_room history.lists history.next } };
 
-    ghost invariant = { λ history. AreSound (lists_in history.lists.items) };
+    ghost invariant = { λ history. AreSound (lists_in history.lists.items) history.next.items };
 }
 
 impl History {
-    ghost use Rattle.std.specs.Prelude.{◌≡◌, ◌≤◌, ◌<◌, ◌+◌, ◌-◌, ◌==◌, [], ℕ, map, nat_eq, length, slice_set, find, option_copied, is_ok, if◌then◌else◌, All, IfOk, OnOk, IsOk, IfSome};
+    ghost use Rattle.std.specs.Prelude.{◌≡◌, ◌≤◌, ◌<◌, ◌+◌, ◌-◌, ◌==◌, [], ◌∷◌, ℕ, map, nat_eq, length, slice_set, find, option_copied, is_ok, if◌then◌else◌, All, IfOk, OnOk, IsOk, IfSome};
     ghost use Rattle.record_history.specs.Records.{as_of, is_live_as_of, in_force, in_force_as_of, newest_number, newest_act};
-    ghost use Rattle.record_history.specs.Held.{records_of, room_of, with_place, with_record, IsWithin, AreNumbered};
+    ghost use Rattle.record_history.specs.Held.{records_of, room_of, room_after, with_place, with_record, IsWithin, AreNumbered};
     ghost use Rattle.record_history.specs.Stretch.{stretches};
     ghost use Rattle.record_history.specs.Runs.{number_on, run_of, CoverLongest};
 
     pub fn new(alloc: Global) -> Result<History, NoMemory>
-        ensures { IfOk result (λ history. history ≡ record { households = []; room = [] }) }
+        ensures { IfOk result (λ history. history ≡ record { households = []; room = 0 ∷ [] }) }
     {
         Ok(History {
             lists: Vec::new(alloc),
+            next: Vec::new(alloc),
         })
     }
 
-    /// Makes room for one more record of the household.
-    pub fn reserve(&mut self, alloc: Global, household: u32) -> Result<(), NoMemory>
+    /// Makes room for one more record of the household, which is one of those there are or the next.
+    pub fn reserve(&mut self, household: u32) -> Result<(), NoMemory>
         requires first { 1 ≤ household }
         requires next { household ≤ length self.old.households + 1 }
-        ensures households { self.new.households ≡ (if is_ok result then with_place self.old.households (household - 1) else self.old.households) }
+        ensures households { self.new.households ≡ self.old.households }
         ensures room { OnOk result (1 ≤ room_of self.new.room household) }
         ensures kept { (other : ℕ) → room_of self.old.room other ≤ room_of self.new.room other }
         ensures succeeds { 1 ≤ room_of self.old.room household → IsOk result }
     {
-        reserve_at(alloc, &mut self.lists, household as usize - 1)
+        reserve_at(&mut self.lists, &mut self.next, household as usize - 1)
     }
 
-    /// Holds a record more, for which there is room.
+    /// Holds a record more, for which there is room. It takes no memory.
     pub fn push(&mut self, held: Record)
         requires room { 1 ≤ room_of self.old.room held.household }
         requires number { held.number ≡ newest_number (records_of self.old.households held.household) + 1 }
@@ -61,12 +65,17 @@ impl History {
         requires contract_rent { held.rents.contract_rent ≤ 99999 }
         requires utility { held.rents.utility ≤ 9999 }
         requires assistance { held.assistance ≤ 109998 }
-        ensures households { self.new.households ≡ with_record self.old.households held }
-        ensures room { self.new.room ≡ slice_set self.old.room (held.household - 1) (room_of self.old.room held.household - 1) }
+        ensures households { self.new.households ≡ with_record (with_place self.old.households (held.household - 1)) held }
+        ensures room { self.new.room ≡ room_after self.old.households self.old.room held.household }
     {
         // The check of the move below refuses a type that the function doesn't name, as Option and Dates.
         let _dates: Option<Dates> = held.dates;
-        push_at(&mut self.lists, held.household as usize - 1, held);
+        push_at(
+            &mut self.lists,
+            &mut self.next,
+            held.household as usize - 1,
+            held,
+        );
     }
 
     /// How many households there are.

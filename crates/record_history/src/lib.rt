@@ -5,12 +5,16 @@ mod force;
 mod history;
 mod laws;
 mod lists;
+mod live;
+mod order;
 mod records;
 mod runs;
 mod stretch;
 
 pub use history::History;
 pub use laws::in_force_is_latest;
+pub use live::is_live;
+pub use order::{comes_before, later};
 pub use records::{Dates, Kind, Record};
 pub use runs::Run;
 pub use stretch::{Stretch, add_day};

@@ -33,12 +33,7 @@ fn record(number: u32, act: u32, kind: Kind, from: Day, corrects: u32) -> Record
     }
 }
 
-fn hold(
-    rt: &impl Abort,
-    alloc: Global,
-    history: &mut History,
-    held: Record,
-) -> Result<(), NoMemory> {
+fn hold(rt: &impl Abort, history: &mut History, held: Record) -> Result<(), NoMemory> {
     assert!(rt; held.household == 1);
     assert!(rt; held.number > 0);
     assert!(rt; history.newest(1) == held.number - 1);
@@ -47,7 +42,7 @@ fn hold(
     assert!(rt; held.rents.contract_rent <= 99_999);
     assert!(rt; held.rents.utility <= 9_999);
     assert!(rt; held.assistance <= 109_998);
-    history.reserve(alloc, 1)?;
+    history.reserve(1)?;
     history.push(held);
     Ok(())
 }
@@ -70,7 +65,7 @@ fn tells_what_was_known_at_each_act(rt: HostRuntime) -> Result<(), Fail> {
         (3, 11, Kind::IR, "2024-04-01", 2),
     ] {
         let held = record(number, act, kind, day(&rt, from), corrects);
-        hold(&rt, alloc, &mut history, held)?;
+        hold(&rt, &mut history, held)?;
     }
     let march = day(&rt, "2024-03-15");
     assert_eq!(rt; number_of(history.in_force_as_of(1, march, 10)), 2);
@@ -113,7 +108,7 @@ fn a_withdrawal_brings_nothing_back(rt: HostRuntime) -> Result<(), Fail> {
         (4, 4, Kind::WD, "2024-01-01", 3),
     ] {
         let held = record(number, act, kind, day(&rt, from), corrects);
-        hold(&rt, alloc, &mut history, held)?;
+        hold(&rt, &mut history, held)?;
     }
     let june = day(&rt, "2024-06-01");
     for (act, number) in [(1, 1), (2, 2), (3, 3), (4, 1)] {

@@ -1,17 +1,19 @@
-use Rattle.std.proofs.Common.{ap, arith}
-use Rattle.std.specs.Prelude.{vec_items, vec_len, vec_capacity}
-use Rattle.record_history.proofs.Places.{is_there, lists_pushed, room_pushed}
+use Rattle.std.proofs.Common.{◌≡◌, ◌∙◌, arith, length}
+use Rattle.std.proofs.lemmas.List.{length-map}
+use Rattle.record_history.specs.Held.{lists_in, room_in, room_to_come}
+use Rattle.record_history.proofs.Places.{is_next, lists_more, room_more}
 use Rattle.record_history.proofs.lists.push_at.Goals as goal
 
-pub returns-clause-lists : goal.returns-clause-lists
-returns-clause-lists g c =
+pub returns-else-place-len-clause-lists : goal.returns-else-place-len-clause-lists
+returns-else-place-len-clause-lists g c =
     let vectors = c.args.lists.now.items in
-    let at = c.index_mut.result.now in
-    lists_pushed vectors c.args.place c.push_reserved.new.self at c.args.item (is_there vectors c.args.place c.requires) (cc (ap vec_items c.index_mut.ensures.value))
+    let next : length vectors ≡ c.args.place = is_next vectors (room_to_come c.args.lists.now c.args.next.now) c.args.place (omega (arith, c.if-place-len.false, c.len.ensures)) c.requires.room in
+    c.push_next.ensures.lists ∙ lists_more (lists_in vectors) c.args.place c.args.item (rw length-map next)
 
-pub returns-clause-room : goal.returns-clause-room
-returns-clause-room g c =
+pub returns-else-place-len-clause-room : goal.returns-else-place-len-clause-room
+returns-else-place-len-clause-room g c =
     let vectors = c.args.lists.now.items in
-    let at = c.index_mut.result.now in
-    room_pushed vectors c.args.place c.push_reserved.new.self at (is_there vectors c.args.place c.requires)
-    (omega (arith, ap vec_capacity c.index_mut.ensures.value, ap vec_len c.index_mut.ensures.value, c.push_reserved.ensures.len, c.push_reserved.ensures.capacity))
+    let to_come = room_to_come c.args.lists.now c.args.next.now in
+    let next : length vectors ≡ c.args.place = is_next vectors to_come c.args.place (omega (arith, c.if-place-len.false, c.len.ensures)) c.requires.room in
+    rw (c.push_next.ensures.room, c.push_next.ensures.to_come)
+    (room_more vectors (room_in vectors) to_come c.args.place next (rw length-map next))
