@@ -7,8 +7,8 @@ ghost use Rattle.tenancy_rules.specs.Changed.{changed_records, AddsNext, Numbers
 ghost use Rattle.tenancy_rules.specs.Order.{may_begin, may_follow, has_its_unit, is_in_order, is_out_of_order, sooner, record_before, first_out_of_order};
 
 use crate::Change;
-use crate::changed::{comes_before, is_kept, latest_before};
-use record_history::{History, Kind, Record};
+use crate::changed::{is_kept, latest_before};
+use record_history::{History, Kind, Record, comes_before};
 
 /// The number of the first record that would be out of order after the change, and None where none would be.
 ///
@@ -51,7 +51,8 @@ fn record_before<'a>(records: &'a [Record], change: &'a Change, next: &Record) -
     latest_before(records, change, next.from.number(), next.number)
 }
 
-fn sooner<'a>(first: Option<&'a Record>, held: &'a Record) -> Option<&'a Record>
+/// The one of the two that comes first.
+pub fn sooner<'a>(first: Option<&'a Record>, held: &'a Record) -> Option<&'a Record>
     ensures { option_copied result ≡ sooner (option_copied first.entry) held.now }
 {
     match first {

@@ -141,21 +141,16 @@ fn history_of(
         let mut held = record(rt, *household, newest + 1, *row);
         held.act = act;
         held.corrects = *corrects;
-        hold(rt, alloc, &mut history, held)?;
+        hold(rt, &mut history, held)?;
     }
     Ok(history)
 }
 
-fn hold(
-    rt: &impl Abort,
-    alloc: Global,
-    history: &mut History,
-    held: Record,
-) -> Result<(), NoMemory> {
+fn hold(rt: &impl Abort, history: &mut History, held: Record) -> Result<(), NoMemory> {
     let household = held.household;
     assert!(rt; household > 0);
     assert!(rt; household - 1 <= history.households());
-    history.reserve(alloc, household)?;
+    history.reserve(household)?;
     assert!(rt; history.newest(household) < 100);
     assert!(rt; held.number == history.newest(household) + 1);
     assert!(rt; history.newest_act(household) < held.act);
