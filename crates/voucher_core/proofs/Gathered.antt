@@ -55,7 +55,7 @@ placed-push place (k ∷ lines) l =
     ap (λ (ls : List Line). record k { place = place } ∷ ls)
     (placed-push (place + 1) lines l ∙ ap (λ (n : ℕ). placed (place + 1) lines ++ record l { place = n } ∷ []) same)
 
-length-placed : (place : ℕ) (lines : List Line) → length (placed place lines) ≡ length lines
+pub length-placed : (place : ℕ) (lines : List Line) → length (placed place lines) ≡ length lines
 length-placed place [] = refl
 length-placed place (l ∷ lines) = ap suc (length-placed (place + 1) lines)
 

@@ -2,6 +2,7 @@ pub mod Totals
 pub mod Weights
 pub mod Differences
 pub mod EachDay
+pub mod DayShares
 pub mod Paid
 pub mod Settled
 pub mod Named

@@ -14,15 +14,18 @@ use Rattle.voucher_core.specs.declared.changes.Change.{Change}
 use Rattle.voucher_core.specs.declared.line.Line.{Line}
 use Rattle.voucher_core.specs.Lines.{changes, difference, line_of, month_lines, placed, is_for, total, paid}
 use Rattle.voucher_core.specs.Certified.{certified_amount}
-use Rattle.voucher_core.proofs.Totals.{total_by, nothing_first, nothing_last}
+use Rattle.voucher_core.proofs.Totals.{total_by, nothing_first, nothing_last, regrouped}
 use Rattle.voucher_core.proofs.Differences.{changes_weigh}
-
-regrouped : (a b c d e : ℤ) → d ≡ b +ℤ c → e ≡ a +ℤ b → a +ℤ d ≡ e +ℤ c
-regrouped a b c d e p q = omega (arith, ints)
 
 total-append : (xs ys : List Line) → total (xs ++ ys) ≡ total xs +ℤ total ys
 total-append [] ys = nothing_first (total ys)
 total-append (l ∷ xs) ys = regrouped l.amount (total xs) (total ys) (total (xs ++ ys)) (l.amount +ℤ total xs) (total-append xs ys) refl
+
+-- one line more of all
+pub total-more : (lines : List Line) (i : ℕ) (l : Line) → i < length lines → l ≡ get_or lines i l → total (take (i + 1) lines) ≡ total (take i lines) +ℤ l.amount
+total-more lines i l within is =
+    ap total (take_more lines i l within) ∙ total-append (take i lines) (get_or lines i l ∷ [])
+    ∙ ap (λ (n : ℤ). total (take i lines) +ℤ n) (ap (λ (k : Line). total (k ∷ [])) (sym is) ∙ nothing_last l.amount)
 
 -- lines after others add what they pay
 pub paid-append : (household month : ℕ) (xs ys : List Line) → paid household month (xs ++ ys) ≡ paid household month xs +ℤ paid household month ys

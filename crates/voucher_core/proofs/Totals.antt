@@ -1,8 +1,8 @@
 -- Sums of signed numbers.
-use Rattle.std.proofs.Common.{◌≡◌, ℕ, zero, suc, ◌+◌, List, [], ◌∷◌, ◌++◌, reverse, ℤ, pos, ◌+ℤ◌, refl, ap, sym, ◌∙◌, arith}
+use Rattle.std.proofs.Common.{◌≡◌, ℕ, zero, suc, ◌+◌, ◌*◌, ◌≤◌, List, [], ◌∷◌, ◌++◌, reverse, ℤ, pos, negsuc, ◌+ℤ◌, neg_ℤ, ◌≤ℤ◌, to_z, of_z, w64, refl, ap, sym, ◌∙◌, arith}
 use Rattle.std.specs.Prelude.{sum_by, ◌-ℤ◌}
 use Rattle.std.specs.List.{range_with_len}
-use Rattle.std.proofs.lemmas.Int.{ints}
+use Rattle.std.proofs.lemmas.Int.{ints, to_z-of_z}
 use Rattle.std.proofs.lemmas.Grind.{reverse_onto}
 use Rattle.std.proofs.lemmas.List.Sums.{sum_by-cons}
 
@@ -13,7 +13,7 @@ nothing_first a = omega (arith, ints)
 pub nothing_last : (a : ℤ) → a +ℤ pos 0 ≡ a
 nothing_last a = omega (arith, ints)
 
-regrouped : (a b c d e : ℤ) → d ≡ b +ℤ c → e ≡ a +ℤ b → a +ℤ d ≡ e +ℤ c
+pub regrouped : (a b c d e : ℤ) → d ≡ b +ℤ c → e ≡ a +ℤ b → a +ℤ d ≡ e +ℤ c
 regrouped a b c d e p q = omega (arith, ints)
 
 turned_round : (a b c d : ℤ) → c ≡ b +ℤ d → d ≡ a +ℤ pos 0 → c ≡ a +ℤ b
@@ -21,6 +21,11 @@ turned_round a b c d p q = omega (arith, ints)
 
 apart : (a b c d : ℕ) (e s t : ℤ) → e ≡ (pos c -ℤ pos d) → s ≡ (pos a -ℤ pos b) +ℤ e → s ≡ pos (a + c) -ℤ pos (b + d)
 apart a b c d e s t p q = omega (arith, ints)
+
+-- a sum that stays within its bounds
+pub summed : (s r p a q : ℤ) (n : ℕ) → s ≡ p → r ≡ a → q ≡ p +ℤ a → n ≤ 4000000 → neg_ℤ (pos (2147483648 * n)) ≤ℤ s → s ≤ℤ pos (2147483648 * n) →
+    negsuc 2147483647 ≤ℤ r → r ≤ℤ pos 2147483647 → to_z w64 (of_z w64 (s +ℤ to_z w64 (of_z w64 r))) ≡ q
+summed s r p a q n e f g few low high least most = grind (arith, ints, to_z-of_z)
 
 module _ {X : Type 0} where
   -- the weights of the items together

@@ -1,4 +1,4 @@
-ghost use Rattle.std.specs.Prelude.{◌≡◌, ◌≤◌, length, IfOk};
+ghost use Rattle.std.specs.Prelude.{◌≡◌, ◌≤◌, ◌<◌, ◌^◌, length, IfOk};
 ghost use Rattle.record_history.specs.Held.{records_of};
 ghost use Rattle.voucher_core.specs.Lines.{closing_lines, placed};
 
@@ -25,7 +25,25 @@ pub fn close_lines(
     requires households { length history.now.households ≤ 100000 }
     requires first_month { 1440 ≤ first_month }
     requires month { month ≤ 2639 }
-    ensures { IfOk result (λ lines. lines.items ≡ placed 1 (closing_lines (records_of history.now.households) (length history.now.households) month first_month last_close act)) }
+    ensures lines { IfOk result (λ lines. lines.items ≡ placed 1 (closing_lines (records_of history.now.households) (length history.now.households) month first_month last_close act)) }
+    ensures few { IfOk result (λ lines. length lines.items < 2 ^ 32) }
+{
+    let mut lines = gathered(alloc, history, month, first_month, last_close, act)?;
+    number_lines(&mut lines);
+    Ok(lines)
+}
+
+/// The lines without their places.
+fn gathered(
+    alloc: Global,
+    history: &History,
+    month: Month,
+    first_month: Month,
+    last_close: u32,
+    act: u32,
+) -> Result<Vec<Line>, NoMemory>
+    requires { length history.now.households ≤ 100000 }
+    ensures { IfOk result (λ lines. lines.items ≡ closing_lines (records_of history.now.households) (length history.now.households) month first_month last_close act) }
 {
     let mut lines = Vec::new(alloc);
     add_adjustments(
@@ -38,6 +56,5 @@ pub fn close_lines(
         act,
     )?;
     add_month(alloc, &mut lines, history, month, month, None, act)?;
-    number_lines(&mut lines);
     Ok(lines)
 }

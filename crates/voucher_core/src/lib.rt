@@ -2,16 +2,20 @@
 #![tactic(auto)]
 
 mod book;
+mod certified;
 mod changes;
 mod closing;
 mod laws;
 mod line;
 mod lines;
+mod sums;
 
 pub use book::LineBook;
+pub use certified::certified_amount;
 pub use closing::close_lines;
 pub use laws::{certified_stays, lines_name_their_pairs, one_closing_settles};
 pub use line::Line;
+pub use sums::total;
 
 #[cfg(test)]
 mod tests;

@@ -102,7 +102,7 @@ fn line_of(act: u32, closed: Month, household: u32, month: Month, run: &Stretch<
 }
 
 /// The day with that place in a month.
-fn day_at(month: Month, place: u32) -> Day
+pub fn day_at(month: Month, place: u32) -> Day
     requires first { 1 ≤ place }
     requires last { place ≤ days_in month }
     ensures { result ≡ day_at month place }

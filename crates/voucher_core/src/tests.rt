@@ -17,14 +17,14 @@ fn month(rt: &impl Abort, text: &str) -> Month {
 // Household, number, act, kind, first day, what it corrects, assistance.
 type Held = (u32, u32, u32, Kind, &'static str, u32, u32);
 
-fn hold(rt: &impl Abort, alloc: Global, history: &mut History, held: Held) -> Result<(), NoMemory> {
+fn hold(rt: &impl Abort, history: &mut History, held: Held) -> Result<(), NoMemory> {
     let (household, number, act, kind, from, corrects, assistance) = held;
     let from = day(rt, from);
     assert!(rt; 1 <= household && household - 1 <= history.households());
     assert!(rt; 1 <= number && history.newest(household) == number - 1);
     assert!(rt; history.newest_act(household) < act);
     assert!(rt; from.number() <= 80_353 && assistance <= 109_998);
-    history.reserve(alloc, household)?;
+    history.reserve(household)?;
     history.push(Record {
         household,
         number,
@@ -96,12 +96,7 @@ fn pay_until_may(
     history: &mut History,
     book: &mut LineBook,
 ) -> Result<(), NoMemory> {
-    hold(
-        rt,
-        alloc,
-        history,
-        (1, 1, 4, Kind::IC, "2024-01-01", 0, 548),
-    )?;
+    hold(rt, history, (1, 1, 4, Kind::IC, "2024-01-01", 0, 548))?;
     for (closed, first, last, last_close, act) in [
         ("2024-01", "2024-01-01", "2024-01-31", 0, 5),
         ("2024-02", "2024-02-01", "2024-02-29", 5, 6),
@@ -131,7 +126,6 @@ fn an_interim_adjusts_and_its_withdrawal_restores(rt: HostRuntime) -> Result<(),
     pay_until_may(&rt, alloc, &mut history, &mut book)?;
     hold(
         &rt,
-        alloc,
         &mut history,
         (1, 2, 10, Kind::IR, "2024-03-01", 0, 500),
     )?;
@@ -146,12 +140,7 @@ fn an_interim_adjusts_and_its_withdrawal_restores(rt: HostRuntime) -> Result<(),
     assert_lines(&rt, &lines, 11, june, &wanted);
     keep(&rt, &mut book, &lines)?;
 
-    hold(
-        &rt,
-        alloc,
-        &mut history,
-        (1, 3, 12, Kind::WD, "2024-03-01", 2, 0),
-    )?;
+    hold(&rt, &mut history, (1, 3, 12, Kind::WD, "2024-03-01", 2, 0))?;
     let july = month(&rt, "2024-07");
     let lines = close(&rt, alloc, &history, ("2024-01", "2024-07"), 11, 13)?;
     let wanted = [
@@ -183,12 +172,7 @@ fn a_move_out_in_the_past_takes_back(rt: HostRuntime) -> Result<(), Fail> {
     let mut history = History::new(alloc)?;
     let mut book = LineBook::new(alloc)?;
     pay_until_may(&rt, alloc, &mut history, &mut book)?;
-    hold(
-        &rt,
-        alloc,
-        &mut history,
-        (1, 2, 10, Kind::MO, "2024-04-11", 0, 0),
-    )?;
+    hold(&rt, &mut history, (1, 2, 10, Kind::MO, "2024-04-11", 0, 0))?;
     let june = month(&rt, "2024-06");
     let lines = close(&rt, alloc, &history, ("2024-01", "2024-06"), 9, 11)?;
     let wanted = [
@@ -217,7 +201,7 @@ fn runs_of_a_month(rt: HostRuntime) -> Result<(), Fail> {
         (3, 1, 6, Kind::IC, "2024-02-29", 0, 548),
         (4, 1, 7, Kind::IC, "2024-03-01", 0, 548),
     ] {
-        hold(&rt, alloc, &mut history, held)?;
+        hold(&rt, &mut history, held)?;
     }
     let february = month(&rt, "2024-02");
     let lines = close(&rt, alloc, &history, ("2024-02", "2024-02"), 0, 8)?;
@@ -231,15 +215,9 @@ fn runs_of_a_month(rt: HostRuntime) -> Result<(), Fail> {
     assert_lines(&rt, &lines, 8, february, &wanted);
 
     // Another record for the same amount makes no line, and one for another amount does.
+    hold(&rt, &mut history, (3, 2, 9, Kind::IC, "2024-02-29", 1, 548))?;
     hold(
         &rt,
-        alloc,
-        &mut history,
-        (3, 2, 9, Kind::IC, "2024-02-29", 1, 548),
-    )?;
-    hold(
-        &rt,
-        alloc,
         &mut history,
         (1, 3, 10, Kind::IR, "2024-02-16", 2, 519),
     )?;

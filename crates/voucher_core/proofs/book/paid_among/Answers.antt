@@ -1,12 +1,8 @@
-use Rattle.std.proofs.Common.{◌≡◌, ◌*◌, ◌≤◌, ℕ, ℤ, pos, negsuc, ◌+ℤ◌, neg_ℤ, ◌≤ℤ◌, to_z, of_z, w64, arith}
-use Rattle.std.proofs.lemmas.Int.{ints, to_z-of_z}
+use Rattle.std.proofs.Common.{◌≤◌, to_z, w64, arith}
+use Rattle.std.proofs.lemmas.Int.{ints}
 use Rattle.voucher_core.proofs.Paid.{paid-more}
+use Rattle.voucher_core.proofs.Totals.{summed}
 use Rattle.voucher_core.proofs.book.paid_among.Goals as goal
-
--- a sum that stays within its bounds
-summed : (s r p a q : ℤ) (n : ℕ) → s ≡ p → r ≡ a → q ≡ p +ℤ a → n ≤ 4000000 → neg_ℤ (pos (2147483648 * n)) ≤ℤ s → s ≤ℤ pos (2147483648 * n) →
-    negsuc 2147483647 ≤ℤ r → r ≤ℤ pos 2147483647 → to_z w64 (of_z w64 (s +ℤ to_z w64 (of_z w64 r))) ≡ q
-summed s r p a q n e f g few low high least most = grind (arith, ints, to_z-of_z)
 
 pub loop-line-preserved : goal.loop-line-preserved
 loop-line-preserved c =
