@@ -1,0 +1,3 @@
+pub mod Stretch
+mod Found
+mod Requests

@@ -1,0 +1,17 @@
+use Rattle.std.proofs.Common.{◌∙◌, sym, ap}
+use Rattle.std.specs.Prelude.{slice_get}
+use Rattle.std.specs.Option.{option_and_then}
+use Rattle.row_index.specs.Index.{place_of}
+use Rattle.book_search.specs.Requests.{act_key}
+use Rattle.book_search.proofs.by_request.act_of_key.Goals as goal
+
+pub returns-in_default : goal.returns-in_default
+returns-in_default c =
+    ap (option_and_then (slice_get c.args.acts.now)) (sym c.in_default.is ∙ c.find.ensures.value ∙ ap (λ entries. place_of entries c.args.key) c.requires)
+    ∙ c.index_finds.ensures act_key c.args.acts.now c.args.key
+
+pub returns : goal.returns
+returns c =
+    c.act_at.ensures
+    ∙ ap (option_and_then (slice_get c.args.acts.now)) (sym c.in-Some.is ∙ c.find.ensures.value ∙ ap (λ entries. place_of entries c.args.key) c.requires)
+    ∙ c.index_finds.ensures act_key c.args.acts.now c.args.key
