@@ -1,3 +1,2 @@
 pub mod FirstOf
 pub mod Begins
-pub mod DayShares

@@ -1,15 +1,13 @@
 -- What the acts of a book say, read by their commands.
-use Rattle.std.specs.Prelude.{ℕ, ◌+◌, ◌-◌, ◌==◌, not, if◌then◌else◌, Bool, false, Option, Some, None, List, [], ◌∷◌, length, filter, find, fold, slice_get, unwrap_or, is_some}
-use Rattle.std.specs.List.{filter_map, list_any}
-use Rattle.std.specs.Option.{option_map}
-use Rattle.record_history.specs.declared.records.Record.{Record}
+use Rattle.std.specs.Prelude.{ℕ, ◌+◌, ◌-◌, ◌==◌, not, if◌then◌else◌, Bool, false, Option, Some, None, List, [], ◌∷◌, length, map, filter, find, fold, slice_get, unwrap_or, is_some}
+use Rattle.std.specs.List.{range_with_len, filter_map, list_any}
+use Rattle.std.specs.Option.{option_map, option_map_or}
 use Rattle.rent_table.specs.declared.plan.Plan.{Plan}
 use Rattle.rent_table.specs.declared.rows.Unit.{Unit as UnitRow}
 use Rattle.rent_table.specs.declared.rows.RentRow.{RentRow}
 use Rattle.rent_table.specs.declared.rows.LimitRow.{LimitRow}
 use Rattle.wait_list.specs.declared.applicant.Applicant.{Applicant}
 use Rattle.wait_list.specs.Rank.{best_rank}
-use Rattle.voucher_core.specs.declared.line.Line.{Line}
 use Rattle.book_rows.specs.declared.property.UnitAct.{UnitAct}
 use Rattle.book_rows.specs.declared.property.RentsAct.{RentsAct}
 use Rattle.book_rows.specs.declared.property.LimitsAct.{LimitsAct}
@@ -18,8 +16,10 @@ use Rattle.book_rows.specs.declared.moves.AskTransferAct.{AskTransferAct}
 use Rattle.book_rows.specs.declared.rows.ActRow.{ActRow}
 use Rattle.book_rows.specs.declared.command.Command.{Command}
 use Rattle.book_rows.specs.declared.command.Command.TheVariants as command
-use Rattle.book_rows.specs.Book.{Book}
 use Rattle.command_text.specs.Commands.{command_in}
+use Rattle.office_step.specs.declared.known.Application.{Application}
+use Rattle.office_step.specs.declared.known.Request.{Request}
+use Rattle.office_step.specs.declared.known.Closed.{Closed}
 
 -- an act that was accepted: its number and its command
 pub record Act : Type 0 where
@@ -33,16 +33,6 @@ act_of row = option_map (λ asked. record { n = row.n; command = asked }) (comma
 -- the acts of rows
 abbrev pub acts_of : List ActRow → List Act
 acts_of rows = filter_map act_of rows
-
--- what a book holds, its acts read: how many acts, the acts, the records and the lines
-pub record Known : Type 0 where
-  pub count : ℕ
-  pub acts : List Act
-  pub records : List Record
-  pub lines : List Line
-
-abbrev pub known_of : Book → Known
-known_of book = record { count = length book.acts; acts = acts_of book.acts; records = book.records; lines = book.lines }
 
 -- ---- lists
 
@@ -114,10 +104,8 @@ limits_of acts = filter_map (λ act. option_map (limit_row act.n) (limits_in act
 
 -- ---- applicants
 
--- an application and the act that made it
-pub record Application : Type 0 where
-  pub act : ℕ
-  pub apply : ApplyAct
+abbrev pub application_by : ℕ → ApplyAct → Application
+application_by act apply = record { act = act; apply = apply }
 
 abbrev pub apply_in : Command → Option ApplyAct
 apply_in (command.Apply apply) = Some apply
@@ -125,7 +113,7 @@ apply_in _ = None
 
 -- the applications, in the order of their acts
 abbrev pub applications_of : List Act → List Application
-applications_of acts = filter_map (λ act. option_map (λ apply. record { act = act.n; apply = apply }) (apply_in act.command)) acts
+applications_of acts = filter_map (λ act. option_map (application_by act.n) (apply_in act.command)) acts
 
 -- an applicant, ranked by the plan's ranks of preferences
 abbrev pub applicant_of : List ℕ → ℕ → Application → Applicant
@@ -138,6 +126,10 @@ applicant_of ranks number application = record {
   accessible = application.apply.accessible;
   annual = application.apply.annual;
 }
+
+-- the ranks of preferences: the plan's, and none where there is no plan
+abbrev pub ranks_of : Option Plan → List ℕ
+ranks_of plan = option_map_or (λ plan. plan.ranks) plan []
 
 -- all who ever applied, numbered from 1 in the order of their acts
 abbrev pub applicants_of : List ℕ → List Act → List Applicant
@@ -171,19 +163,16 @@ names_of acts = filter_map (λ act. name_given (applications_of acts) act.comman
 abbrev pub household_count : List Act → ℕ
 household_count acts = length (names_of acts)
 
--- what a household said of another unit, and the act by which it did
-pub record Request : Type 0 where
-  pub act : ℕ
-  pub wanted : Bool
-  pub accessible : Bool
-
 abbrev pub ask_in : Command → Option AskTransferAct
 ask_in (command.AskTransfer ask) = Some ask
 ask_in _ = None
 
+abbrev pub request_by : ℕ → AskTransferAct → Request
+request_by act ask = record { act = act; wanted = ask.wanted; accessible = ask.accessible }
+
 abbrev pub request_of : ℕ → Act → Option Request
 request_of household act =
-    option_map (λ ask. record { act = act.n; wanted = ask.wanted; accessible = ask.accessible })
+    option_map (request_by act.n)
     (filtered (λ ask. ask.household == household) (ask_in act.command))
   where
     filtered : (AskTransferAct → Bool) → Option AskTransferAct → Option AskTransferAct
@@ -194,20 +183,19 @@ request_of household act =
 abbrev pub last_request : List Act → ℕ → Option Request
 last_request acts household = last_in (filter_map (request_of household) acts)
 
+-- the last of each household
+abbrev pub requests_of : List Act → List (Option Request)
+requests_of acts = map (last_request acts) (range_with_len 1 (household_count acts))
+
 -- ---- closings
 
--- a month that was closed, and the act that closed it
-pub record Closing : Type 0 where
-  pub act : ℕ
-  pub month : ℕ
+abbrev pub month_in : Command → Option ℕ
+month_in (command.Close close) = Some close.month
+month_in _ = None
 
-abbrev pub closing_of : Act → Option Closing
+abbrev pub closing_of : Act → Option Closed
 closing_of act = option_map (λ month. record { act = act.n; month = month }) (month_in act.command)
-  where
-    month_in : Command → Option ℕ
-    month_in (command.Close close) = Some close.month
-    month_in _ = None
 
 -- the last closing
-abbrev pub last_closing : List Act → Option Closing
+abbrev pub last_closing : List Act → Option Closed
 last_closing acts = last_in (filter_map closing_of acts)

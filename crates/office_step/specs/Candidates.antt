@@ -1,5 +1,5 @@
 -- Who is next for a unit on a day, by the tables.
-use Rattle.std.specs.Prelude.{ℕ, ◌+◌, ◌-◌, ◌/◌, ◌==◌, ◌&&◌, not, nat_lt, if◌then◌else◌, Bool, true, false, Option, Some, None, option_and_then, List, length, filter, count_by}
+use Rattle.std.specs.Prelude.{ℕ, ◌+◌, ◌-◌, ◌/◌, ◌==◌, ◌&&◌, not, nat_lt, if◌then◌else◌, Bool, true, false, Option, Some, None, option_and_then, List, length, filter, count_by, slice_index_or}
 use Rattle.std.specs.List.{range_with_len, filter_map, flat_map}
 use Rattle.std.specs.Option.{option_map, option_map_or}
 use Rattle.row_choice.specs.Latest.{latest as latest_by}
@@ -16,7 +16,8 @@ use Rattle.rent_table.specs.Admission.{suits}
 use Rattle.wait_list.specs.declared.targets.Targets.{Targets}
 use Rattle.wait_list.specs.Target.{wants_extremely_low}
 use Rattle.wait_list.specs.Next.{Asked}
-use Rattle.office_step.specs.Acts.{Act, Request, last_request}
+use Rattle.office_step.specs.declared.known.Request.{Request}
+use Rattle.office_step.specs.declared.known.Mover.{Mover}
 
 -- ---- movers
 
@@ -32,23 +33,21 @@ counts own request = request.wanted && option_map_or (λ r. nat_lt r.act request
 abbrev pub would_move : Plan → UnitRow → Record → Bool
 would_move plan unit r = not (ends_assistance r.kind) && (not (r.unit == unit.number) && suits plan unit r.persons)
 
--- a household that would move: the act of its request, and whether it needs accessible features
-pub record Mover : Type 0 where
-  pub household : ℕ
-  pub act : ℕ
-  pub accessible : Bool
+-- the last that the household said of another unit
+abbrev pub request_in : List (Option Request) → ℕ → Option Request
+request_in requests household = if household == 0 then None else slice_index_or requests (household - 1) None
 
 -- the household as a mover, where it is one
-abbrev pub mover_of : Plan → UnitRow → ℕ → List Act → List (List Record) → ℕ → Option Mover
-mover_of plan unit day acts households household =
+abbrev pub mover_of : Plan → UnitRow → ℕ → List (Option Request) → List (List Record) → ℕ → Option Mover
+mover_of plan unit day requests households household =
     option_and_then (λ request.
     if counts (records_of households household) request && option_map_or (would_move plan unit) (in_force (records_of households household) day) false
     then Some (record { household = household; act = request.act; accessible = request.accessible }) else None)
-    (last_request acts household)
+    (request_in requests household)
 
 -- all movers
-abbrev pub movers_of : Plan → UnitRow → ℕ → List Act → List (List Record) → List Mover
-movers_of plan unit day acts households = filter_map (mover_of plan unit day acts households) (range_with_len 1 (length households))
+abbrev pub movers_of : Plan → UnitRow → ℕ → List (Option Request) → List (List Record) → List Mover
+movers_of plan unit day requests households = filter_map (mover_of plan unit day requests households) (range_with_len 1 (length households))
 
 -- the household whose request came first
 abbrev pub first_mover : List Mover → Option ℕ
@@ -80,12 +79,12 @@ targets_of plan day households = record {
 -- ---- the question
 
 -- what is asked about the unit on the day
-abbrev pub asked_of : Plan → UnitRow → ℕ → Option LimitRow → List Act → List (List Record) → Asked
-asked_of plan unit day limits acts households = record {
+abbrev pub asked_of : Plan → UnitRow → ℕ → Option LimitRow → List (Option Request) → List (List Record) → Asked
+asked_of plan unit day limits requests households = record {
   unit = unit;
   plan = plan;
   limits = limits;
   wanted = wants_extremely_low (targets_of plan day households);
-  needing = if unit.accessible then first_mover (filter (λ m. m.accessible) (movers_of plan unit day acts households)) else None;
-  other = first_mover (filter (λ m. not (unit.accessible && m.accessible)) (movers_of plan unit day acts households));
+  needing = if unit.accessible then first_mover (filter (λ m. m.accessible) (movers_of plan unit day requests households)) else None;
+  other = first_mover (filter (λ m. not (unit.accessible && m.accessible)) (movers_of plan unit day requests households));
 }

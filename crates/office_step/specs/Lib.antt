@@ -1,7 +1,10 @@
 pub mod Acts
 pub mod Households
+pub mod Known
+pub mod After
 pub mod Candidates
 pub mod Made
 pub mod Refusals
 pub mod Reply
 pub mod Step
+pub mod Valid

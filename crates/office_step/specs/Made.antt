@@ -1,5 +1,5 @@
 -- The record that an act makes, and the lines of a closing.
-use Rattle.std.specs.Prelude.{ℕ, ◌+◌, if◌then◌else◌, Bool, false, Option, Some, None, option_and_then, List, []}
+use Rattle.std.specs.Prelude.{ℕ, ◌+◌, if◌then◌else◌, Bool, false, Option, Some, None, option_and_then, List, [], length}
 use Rattle.std.specs.Option.{option_map, option_map_or}
 use Rattle.days_core.specs.declared.rents.Rents.{Rents}
 use Rattle.record_history.specs.declared.records.Dates.{Dates}
@@ -7,7 +7,6 @@ use Rattle.record_history.specs.declared.records.Kind.{Kind}
 use Rattle.record_history.specs.declared.records.Kind.TheVariants as kind
 use Rattle.record_history.specs.declared.records.Record.{Record}
 use Rattle.record_history.specs.Records.{newest_number}
-use Rattle.record_history.specs.Held.{records_of}
 use Rattle.facts_core.specs.declared.facts.Facts.{Facts}
 use Rattle.rent_table.specs.declared.rows.LimitRow.{LimitRow}
 use Rattle.rent_table.specs.Table.{limits_on}
@@ -22,26 +21,18 @@ use Rattle.book_rows.specs.declared.command.Command.{Command}
 use Rattle.book_rows.specs.declared.command.Command.TheVariants as command
 use Rattle.book_rows.specs.declared.closings.CloseAct.{CloseAct}
 use Rattle.office_step.specs.declared.made.Heading.{Heading}
-use Rattle.office_step.specs.Acts.{Known, plan_of, units_of, rents_of, limits_of, household_count, last_closing}
-use Rattle.office_step.specs.Households.{households_of, record_at, continued, unit_continued}
+use Rattle.office_step.specs.Known.{Known, own_in}
+use Rattle.office_step.specs.Households.{record_at, continued, unit_continued}
 
 -- ---- what an act reads
 
--- the households' records, each in a list of its own
-abbrev pub households_in : Known → List (List Record)
-households_in known = households_of known.records (household_count known.acts)
-
--- the records of one household
-abbrev pub own_in : Known → ℕ → List Record
-own_in known household = records_of (households_in known) household
-
 -- the number of the household that comes next
 abbrev pub next_household : Known → ℕ
-next_household known = household_count known.acts + 1
+next_household known = length known.households + 1
 
 -- the rents of a unit on a day
 abbrev pub rents_in_unit : Known → ℕ → ℕ → Option Rents
-rents_in_unit known unit day = unit_rents_on (units_of known.acts) (rents_of known.acts) unit day
+rents_in_unit known unit day = unit_rents_on known.units known.rents unit day
 
 -- ---- a record
 
@@ -83,10 +74,10 @@ told_extremely_low kind limits figures = if is_move_in kind then is_extremely_lo
 abbrev pub made_of_facts : Known → Heading → Facts → Option Record
 made_of_facts known heading facts =
     option_and_then (λ plan. option_map (λ rents. made_of (figures_of facts heading.from plan.passbook rents))
-    (rents_in_unit known heading.unit heading.from)) (plan_of known.acts)
+    (rents_in_unit known heading.unit heading.from)) known.plan
   where
     made_of : Figures → Record
-    made_of figures = made_with known heading (told_extremely_low heading.kind (limits_on (limits_of known.acts) heading.from) figures) figures
+    made_of figures = made_with known heading (told_extremely_low heading.kind (limits_on known.limits heading.from) figures) figures
 
 -- a record that carries over what was certified, with its unit's rents on its first day
 abbrev pub made_of_carried : Known → Heading → Option Record
@@ -165,13 +156,13 @@ record_of known (command.Close close) = None
 
 -- the act of the last closing, and 0 where there was none
 abbrev pub last_close : Known → ℕ
-last_close known = option_map_or (λ closing. closing.act) (last_closing known.acts) 0
+last_close known = option_map_or (λ closing. closing.act) known.closing 0
 
 -- the lines that closing the month makes
 abbrev pub lines_of_close : Known → CloseAct → List Line
 lines_of_close known close =
-    option_map_or (λ plan. placed 1 (closing_lines (own_in known) (household_count known.acts) close.month plan.first (last_close known) (known.count + 1)))
-    (plan_of known.acts) []
+    option_map_or (λ plan. placed 1 (closing_lines (own_in known) (length known.households) close.month plan.first (last_close known) (known.count + 1)))
+    known.plan []
 
 -- the lines that the next act makes
 abbrev pub lines_of : Known → Command → List Line

@@ -28,15 +28,15 @@ use Rattle.book_rows.specs.declared.command.Command.{Command}
 use Rattle.book_rows.specs.declared.command.Command.TheVariants as command
 use Rattle.book_rows.specs.Fit.{is_within, is_fit}
 use Rattle.book_rows.specs.Book.{Book, empty_book, appended}
-use Rattle.command_text.specs.Commands.{body_of}
+use Rattle.command_text.specs.Commands.{command_in, body_of}
 use Rattle.office_step.specs.declared.call.Call.{Call}
 use Rattle.office_step.specs.declared.call.Capacity.{Capacity}
 use Rattle.office_step.specs.declared.refusal.Refusal.{Refusal}
 use Rattle.office_step.specs.declared.reply.Done.{Done}
-use Rattle.office_step.specs.Acts.{Known, known_of, plan_of, plan_act, units_of, rents_of, limits_of, waiting_of, household_count, last_closing}
+use Rattle.office_step.specs.Known.{Known, known_of, own_in}
 use Rattle.office_step.specs.Households.{record_at, unit_continued, adding, dropping}
 use Rattle.office_step.specs.Candidates.{asked_of}
-use Rattle.office_step.specs.Made.{households_in, own_in, record_of, lines_of}
+use Rattle.office_step.specs.Made.{record_of, lines_of}
 use Rattle.office_step.specs.Refusals.{first_of, repeated, request_reused, no_plan, plan_given, book_full, no_household, no_applicant, no_unit, no_record, no_target, stale, unseen, facts_rule, day_range, no_rent, no_limits, not_live, wrong_day, others_of, annual_right, interim_right, resume_right, corrected_right, disorder, name_taken, size_misfit, unit_taken, not_next, ineligible, no_assistance, next_to_close, wrong_month, rent_due, overdue, lines_full}
 use Rattle.office_step.specs.Reply.{done_of}
 
@@ -68,7 +68,7 @@ act_day rows clock = day_after (last_act_day rows) clock
 
 -- the first day of the plan, and 0 where there is none
 abbrev pub plan_day : Known → ℕ
-plan_day known = option_map_or (λ plan. first_day_of plan.first) (plan_of known.acts) 0
+plan_day known = option_map_or (λ plan. first_day_of plan.first) known.plan 0
 
 -- the first day of a record lies between the plan's first day and 2099-12-31
 abbrev pub from_range : Known → ℕ → Option Refusal
@@ -77,7 +77,7 @@ from_range known from = day_range (plan_day known) last_day from
 -- ---- refusals that several acts have, by what the tables say
 
 abbrev pub no_household_in : Known → ℕ → Option Refusal
-no_household_in known household = no_household (household_count known.acts) household
+no_household_in known household = no_household (length known.households) household
 
 abbrev pub stale_in : Known → ℕ → ℕ → Option Refusal
 stale_in known household seen = stale (newest_number (own_in known household)) seen
@@ -87,14 +87,14 @@ unseen_in known household seen = unseen (newest_number (own_in known household))
 
 -- of the unit that a further record of the household is for
 abbrev pub no_rent_in : Known → ℕ → ℕ → Option Refusal
-no_rent_in known unit from = no_rent (units_of known.acts) (rents_of known.acts) unit from
+no_rent_in known unit from = no_rent known.units known.rents unit from
 
 abbrev pub no_rent_further : Known → ℕ → ℕ → Option Refusal
 no_rent_further known household from = no_rent_in known (unit_continued (own_in known household) from) from
 
 -- the unit, where it is there
 abbrev pub unit_in : Known → ℕ → Option UnitRow
-unit_in known unit = unit_at (units_of known.acts) unit
+unit_in known unit = unit_at known.units unit
 
 -- what is made of a record, where the act makes one
 abbrev pub of_made : Known → Command → (Record → Option Refusal) → Option Refusal
@@ -104,27 +104,27 @@ abbrev pub disorder_in : Known → Command → Option Refusal
 disorder_in known asked = of_made known asked (λ made. disorder (own_in known made.household) (adding made))
 
 abbrev pub unit_taken_in : Known → Command → Option Refusal
-unit_taken_in known asked = of_made known asked (λ made. unit_taken (households_in known) made.household (adding made))
+unit_taken_in known asked = of_made known asked (λ made. unit_taken known.households made.household (adding made))
 
 abbrev pub size_misfit_in : Known → Command → ℕ → Option Refusal
 size_misfit_in known asked unit =
     option_and_then (λ plan. option_and_then (λ row. of_made known asked (λ made. size_misfit plan row made.persons)) (unit_in known unit))
-    (plan_of known.acts)
+    known.plan
 
 -- who is next for the unit on the day is another
 abbrev pub not_next_in : Known → ℕ → ℕ → Candidate → Option Refusal
-not_next_in known unit day asked = option_and_then (λ plan. option_and_then (λ row. not_next (next_by plan row) asked) (unit_in known unit)) (plan_of known.acts)
+not_next_in known unit day asked = option_and_then (λ plan. option_and_then (λ row. not_next (next_by plan row) asked) (unit_in known unit)) known.plan
   where
     next_by : Plan → UnitRow → Option Candidate
     next_by plan row =
-        next_candidate (asked_of plan row day (limits_on (limits_of known.acts) day) known.acts (households_in known)) (waiting_of plan.ranks known.acts)
+        next_candidate (asked_of plan row day (limits_on known.limits day) known.requests known.households) known.waiting
 
 -- the income of the facts is above the limit of their size
 abbrev pub ineligible_in : Known → Command → Option Refusal
 ineligible_in known asked =
     option_and_then (λ plan. of_made known asked (λ made.
-    option_and_then (λ row. ineligible plan row made.size made.annual) (limits_on (limits_of known.acts) made.from)))
-    (plan_of known.acts)
+    option_and_then (λ row. ineligible plan row made.size made.annual) (limits_on known.limits made.from)))
+    known.plan
 
 abbrev pub no_assistance_in : Known → Command → Option Refusal
 no_assistance_in known asked = of_made known asked (λ made. no_assistance made.ttp (gross_rent_of made.rents))
@@ -137,7 +137,7 @@ target_in known household target = record_at (own_in known household) target
 
 abbrev pub of_start : Known → StartAct → List (Option Refusal)
 of_start known start =
-    no_unit (units_of known.acts) start.unit
+    no_unit known.units start.unit
     ∷ facts_rule start.facts start.from
     ∷ from_range known start.from
     ∷ no_rent_in known start.unit start.from
@@ -146,12 +146,12 @@ of_start known start =
 -- the first five, and then the others
 abbrev pub of_admit_first : Known → AdmitAct → List (Option Refusal)
 of_admit_first known admit =
-    option_and_then (λ plan. no_applicant (waiting_of plan.ranks known.acts) admit.applicant) (plan_of known.acts)
-    ∷ no_unit (units_of known.acts) admit.unit
+    no_applicant known.waiting admit.applicant
+    ∷ no_unit known.units admit.unit
     ∷ facts_rule admit.facts admit.from
     ∷ from_range known admit.from
     ∷ no_rent_in known admit.unit admit.from
-    ∷ no_limits (limits_of known.acts) admit.from ∷ []
+    ∷ no_limits known.limits admit.from ∷ []
 
 abbrev pub of_admit_then : Known → AdmitAct → List (Option Refusal)
 of_admit_then known admit =
@@ -188,7 +188,7 @@ abbrev pub wrong_interim : Known → InterimAct → Option Refusal
 wrong_interim known interim =
     option_and_then (λ plan. of_made known (command.Interim interim) (λ made.
     wrong_day (Some (interim_right (others_of (own_in known interim.household) 0) interim.dates made.ttp plan.report_days)) interim.from))
-    (plan_of known.acts)
+    known.plan
 
 abbrev pub of_interim_then : Known → InterimAct → List (Option Refusal)
 of_interim_then known interim =
@@ -220,7 +220,7 @@ of_gross known gross =
     ∷ unseen_in known gross.household gross.seen
     ∷ from_range known gross.from
     ∷ no_rent_further known gross.household gross.from
-    ∷ wrong_day (gross_day_of (own_in known gross.household) (units_of known.acts) (rents_of known.acts)) gross.from
+    ∷ wrong_day (gross_day_of (own_in known gross.household) known.units known.rents) gross.from
     ∷ disorder_in known (command.Gross gross) ∷ []
 
 abbrev pub of_correct_first : Known → CorrectAct → List (Option Refusal)
@@ -239,14 +239,14 @@ no_rent_of_target known correct =
 
 abbrev pub no_limits_of_target : Known → CorrectAct → Option Refusal
 no_limits_of_target known correct =
-    option_and_then (λ target. if is_move_in target.kind then no_limits (limits_of known.acts) correct.from else None)
+    option_and_then (λ target. if is_move_in target.kind then no_limits known.limits correct.from else None)
     (target_in known correct.household correct.target)
 
 abbrev pub wrong_correction : Known → CorrectAct → Option Refusal
 wrong_correction known correct =
     option_and_then (λ plan. option_and_then (λ target. of_made known (command.Correct correct) (λ made.
     wrong_day (corrected_right (own_in known correct.household) target made.ttp plan.report_days correct.from) correct.from))
-    (target_in known correct.household correct.target)) (plan_of known.acts)
+    (target_in known correct.household correct.target)) known.plan
 
 abbrev pub of_correct_then : Known → CorrectAct → List (Option Refusal)
 of_correct_then known correct =
@@ -260,7 +260,7 @@ of_correct_then known correct =
 abbrev pub of_transfer_first : Known → TransferAct → List (Option Refusal)
 of_transfer_first known transfer =
     no_household_in known transfer.household
-    ∷ no_unit (units_of known.acts) transfer.unit
+    ∷ no_unit known.units transfer.unit
     ∷ stale_in known transfer.household transfer.seen
     ∷ unseen_in known transfer.household transfer.seen
     ∷ from_range known transfer.from
@@ -276,22 +276,22 @@ of_transfer_then known transfer =
 -- the rents of all households through the month, from the plan's first day
 abbrev pub rent_due_in : Known → CloseAct → Option Refusal
 rent_due_in known close =
-    rent_due (households_in known) (units_of known.acts) (rents_of known.acts) (plan_day known) (last_day_of close.month)
+    rent_due known.households known.units known.rents (plan_day known) (last_day_of close.month)
 
 abbrev pub of_close : Known → CloseAct → List (Option Refusal)
 of_close known close =
-    wrong_month (option_and_then (λ plan. next_to_close plan.first (option_map (λ closing. closing.month) (last_closing known.acts))) (plan_of known.acts)) close.month
+    wrong_month (option_and_then (λ plan. next_to_close plan.first (option_map (λ closing. closing.month) known.closing)) known.plan) close.month
     ∷ rent_due_in known close
-    ∷ overdue (households_in known) close.month ∷ []
+    ∷ overdue known.households close.month ∷ []
 
 abbrev pub refusals_of : Known → ℕ → Command → List (Option Refusal)
 refusals_of known today (command.Plan plan) = []
-refusals_of known today (command.Unit unit) = name_taken (units_of known.acts) unit.name ∷ []
+refusals_of known today (command.Unit unit) = name_taken known.units unit.name ∷ []
 refusals_of known today (command.Rents rents) = day_range first_day last_day rents.from ∷ []
 refusals_of known today (command.Limits limits) = day_range first_day last_day limits.from ∷ []
 refusals_of known today (command.Apply apply) = []
 refusals_of known today (command.Remove remove) =
-    option_and_then (λ plan. no_applicant (waiting_of plan.ranks known.acts) remove.applicant) (plan_of known.acts) ∷ []
+    no_applicant known.waiting remove.applicant ∷ []
 refusals_of known today (command.Start start) = of_start known start
 refusals_of known today (command.Admit admit) = first_of (of_admit_first known admit) ∷ first_of (of_admit_then known admit) ∷ []
 refusals_of known today (command.Annual annual) = of_annual known annual
@@ -320,7 +320,7 @@ refusals_of known today (command.Withdraw withdraw) =
     ∷ unseen_in known withdraw.household withdraw.seen
     ∷ not_live known.count (own_in known withdraw.household) withdraw.target
     ∷ disorder (own_in known withdraw.household) (dropping withdraw.target)
-    ∷ unit_taken (households_in known) withdraw.household (dropping withdraw.target) ∷ []
+    ∷ unit_taken known.households withdraw.household (dropping withdraw.target) ∷ []
 refusals_of known today (command.Close close) = of_close known close
 
 -- ---- the refusal of a call
@@ -329,14 +329,19 @@ abbrev pub is_plan : Command → Bool
 is_plan (command.Plan plan) = true
 is_plan _ = false
 
--- those of every act, and then those of the act
+-- what is known stands against the command: what stands against every act, and then against this one
+abbrev pub refused_by : Known → ℕ → ℕ → Command → Option Refusal
+refused_by known most today asked = first_of (
+    no_plan known.plan_act (is_plan asked)
+    ∷ plan_given known.plan_act (is_plan asked)
+    ∷ book_full known.count most
+    ∷ first_of (refusals_of known today asked) ∷ [])
+
+-- that the request was made already goes before
 abbrev pub refused_early : Book → Capacity → ℕ → Call → Option Refusal
 refused_early book capacity today call = first_of (
     request_reused book.acts call.clerk call.request (body_of call.command)
-    ∷ no_plan (plan_act (known_of book).acts) (is_plan call.command)
-    ∷ plan_given (plan_act (known_of book).acts) (is_plan call.command)
-    ∷ book_full (length book.acts) capacity.acts
-    ∷ first_of (refusals_of (known_of book) today call.command) ∷ [])
+    ∷ refused_by (known_of book) capacity.acts today call.command ∷ [])
 
 -- and then that there is no room for the lines
 abbrev pub refusal_of : Book → Capacity → ℕ → Call → Option Refusal
@@ -384,6 +389,7 @@ is_fit_call call = is_within 1 9999 call.clerk && (nat_le 1 call.request && is_f
 pub record IsAppended (capacity : Capacity) (book : Book) (rows : Batch) : Type 0 where
   pub call : Call
   pub fit : is_fit_call call ≡ true
+  pub read : command_in rows.act.body ≡ Some call.command
   pub same : step book capacity rows.act.session rows.act.day call ≡ appends rows
 
 -- a book that an office of that capacity comes to, act by act from nothing

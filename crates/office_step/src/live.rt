@@ -1,16 +1,15 @@
 //! The live records of a household, with one left out.
 
 ghost use Rattle.std.specs.Prelude.{◌≡◌, ◌≤◌, ◌&&◌, ◌==◌, not, nat_le, filter, option_copied, All, IfSome};
-ghost use Rattle.std.specs.List.{list_any};
 ghost use Rattle.record_history.specs.Held.{IsWithin};
-ghost use Rattle.record_history.specs.Records.{is_live, comes_before, later};
-ghost use Rattle.tenancy_rules.specs.Changed.{is_before};
-ghost use Rattle.tenancy_rules.specs.Order.{sooner, earliest};
+ghost use Rattle.record_history.specs.Records.{is_live};
+ghost use Rattle.tenancy_rules.specs.Order.{earliest};
 ghost use Rattle.office_step.specs.Households.{begins_year, standing_on};
 ghost use Rattle.office_step.specs.Refusals.{others_of, is_base_before, base_before};
 
 use days_core::Day;
-use record_history::{Dates, Kind, Record};
+use record_history::{Dates, Kind, Record, is_live, later};
+use tenancy_rules::{is_before, sooner};
 
 /// The record that comes first.
 pub fn opening(records: &[Record], left_out: u32) -> Option<&Record>
@@ -73,18 +72,6 @@ fn is_other(records: &[Record], left_out: u32, held: &Record) -> bool
     is_live(records, held) && held.number != left_out
 }
 
-fn is_live(records: &[Record], held: &Record) -> bool
-    ensures { result ≡ is_live records.now held.now }
-{
-    held.kind != Kind::WD && !is_corrected(records, held.number)
-}
-
-fn is_corrected(records: &[Record], number: u32) -> bool
-    ensures { result ≡ list_any (λ other. other.corrects == number) records.now }
-{
-    records.iter().any(|other| other.corrects == number)
-}
-
 fn is_base_before(day: u32, number: u32, held: &Record) -> bool
     ensures { result ≡ is_base_before day number held.now }
 {
@@ -97,36 +84,5 @@ fn begins_year(kind: Kind) -> bool
     match kind {
         Kind::MI | Kind::IC | Kind::AR => true,
         Kind::IR | Kind::GR | Kind::UT | Kind::MO | Kind::TM | Kind::WD => false,
-    }
-}
-
-fn is_before(day: u32, number: u32, held: &Record) -> bool
-    ensures { result ≡ is_before day number held.now }
-{
-    let from = held.from.number();
-    from < day || from == day && held.number < number
-}
-
-fn comes_before(first: &Record, second: &Record) -> bool
-    ensures { result ≡ comes_before first.now second.now }
-{
-    is_before(second.from.number(), second.number, first)
-}
-
-fn later<'a>(latest: Option<&'a Record>, held: &'a Record) -> Option<&'a Record>
-    ensures { option_copied result ≡ later (option_copied latest.entry) held.now }
-{
-    match latest {
-        Some(best) if !comes_before(best, held) => Some(best),
-        _ => Some(held),
-    }
-}
-
-fn sooner<'a>(first: Option<&'a Record>, held: &'a Record) -> Option<&'a Record>
-    ensures { option_copied result ≡ sooner (option_copied first.entry) held.now }
-{
-    match first {
-        Some(best) if !comes_before(held, best) => Some(best),
-        _ => Some(held),
     }
 }

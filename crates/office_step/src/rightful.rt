@@ -51,8 +51,7 @@ pub fn interim_right(
     ttp: u32,
     report_days: u32,
 ) -> Day
-    requires dates { AreBy 80353 dates }
-    requires report_days { report_days ≤ 365 }
+    requires { AreBy 80353 dates }
     ensures { result ≡ interim_right (others_of records.now left_out) dates ttp report_days }
 {
     let higher = is_higher(records, left_out, ttp, dates.event);
@@ -90,8 +89,7 @@ pub fn corrected_right(
     report_days: u32,
     from: Day,
 ) -> Option<Day>
-    requires dates { IfSome target.now.dates (AreBy 80353) }
-    requires report_days { report_days ≤ 365 }
+    requires { IfSome target.now.dates (AreBy 80353) }
     ensures { result ≡ corrected_right (records_of history.now.households household) target.now ttp report_days from }
 {
     match (target.kind, target.dates) {

@@ -162,27 +162,16 @@ fn held(rt: &impl Abort, number: u32, kind: Kind, from: &str, dates: Option<Date
 /// A household certified on the first of 2024, and then as told.
 fn history_of(rt: &impl Abort, alloc: Global, further: &[(Kind, &str)]) -> Result<History, Fail> {
     let mut history = History::new(alloc)?;
-    history.reserve(alloc, 1)?;
-    hold(
-        rt,
-        alloc,
-        &mut history,
-        held(rt, 1, Kind::IC, "2024-01-01", None),
-    )?;
+    hold(rt, &mut history, held(rt, 1, Kind::IC, "2024-01-01", None))?;
     for (kind, from) in further {
         let newest = history.newest(1);
         assert!(rt; newest < 9);
-        hold(
-            rt,
-            alloc,
-            &mut history,
-            held(rt, newest + 1, *kind, from, None),
-        )?;
+        hold(rt, &mut history, held(rt, newest + 1, *kind, from, None))?;
     }
     Ok(history)
 }
 
-fn hold(rt: &impl Abort, alloc: Global, history: &mut History, held: Record) -> Result<(), Fail> {
+fn hold(rt: &impl Abort, history: &mut History, held: Record) -> Result<(), Fail> {
     assert!(rt; held.household == 1);
     assert!(rt; held.number > 0);
     assert!(rt; history.newest(1) == held.number - 1);
@@ -191,7 +180,7 @@ fn hold(rt: &impl Abort, alloc: Global, history: &mut History, held: Record) -> 
     assert!(rt; held.rents.contract_rent <= 99_999);
     assert!(rt; held.rents.utility <= 9_999);
     assert!(rt; held.assistance <= 109_998);
-    history.reserve(alloc, 1)?;
+    history.reserve(1)?;
     history.push(held);
     Ok(())
 }

@@ -1,9 +1,0 @@
-use Rattle.std.specs.Prelude.{◌≡◌, ◌≤◌, ◌*◌, sum_by}
-use Rattle.std.specs.List.{range_with_len}
-use Rattle.record_history.specs.Held.{records_of}
-use Rattle.office_step.proofs.DayShares.{share_at}
-use Rattle.office_step.proofs.lateness.certified_amount.Given as goal
-
-abbrev pub invariant-loop-place : goal.invariant-loop-place
-invariant-loop-place l =
-    (l.total ≡ sum_by (share_at (records_of l.history.households l.household) l.month) (range_with_len 1 l.place)) × (l.total ≤ 109998 * l.place)
