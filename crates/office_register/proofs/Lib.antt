@@ -1,0 +1,5 @@
+pub mod Lists
+pub mod Sound
+pub mod Standing
+pub mod After
+pub mod Next

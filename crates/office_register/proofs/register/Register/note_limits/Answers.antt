@@ -1,0 +1,23 @@
+use Rattle.std.proofs.Common.{◌∙◌, ◌+◌, refl, sym, ap, subst, None}
+use Rattle.office_step.specs.Acts.{limit_row}
+use Rattle.book_rows.specs.declared.command.Command.TheVariants as command
+use Rattle.office_step.specs.After.{known_after}
+use Rattle.office_register.specs.Registered.{Registered}
+use Rattle.office_register.specs.View.{known_in}
+use Rattle.office_register.specs.Accepted.{IsAccepted}
+use Rattle.office_register.proofs.After.{after_limits}
+use Rattle.office_register.proofs.Sound.{sound_limits}
+use Rattle.office_register.proofs.Standing.{is_free}
+use Rattle.office_register.proofs.register.Register.note_limits.Goals as goal
+
+pub invariant_of-self : goal.invariant_of-self
+invariant_of-self c =
+    let accepted : IsAccepted (known_in c.self.inside) (command.Limits c.args.limits) None =
+    subst (λ (held : Registered). IsAccepted held.known (command.Limits c.args.limits) None) (sym c.self.view_is) c.requires.accepted in
+    rw (c.push_limits.ensures.units, c.push_limits.ensures.rents, c.push_limits.ensures.limits)
+    (sound_limits (known_in c.self.inside) (limit_row (c.self.inside.count + 1) c.args.limits) c.self.invariant (is_free accepted).few refl)
+
+pub returns : goal.returns
+returns c =
+    rw (c.push_limits.ensures.units, c.push_limits.ensures.rents, c.push_limits.ensures.limits)
+    (sym (after_limits (known_in c.self.inside) c.args.limits) ∙ ap (λ (held : Registered). known_after held.known (command.Limits c.args.limits) None) c.self.view_is)

@@ -1,0 +1,24 @@
+use Rattle.std.proofs.Common.{◌∙◌, ◌+◌, refl, sym, ap, subst, None}
+use Rattle.office_step.specs.Acts.{rent_row}
+use Rattle.book_rows.specs.declared.command.Command.TheVariants as command
+use Rattle.office_step.specs.After.{known_after}
+use Rattle.office_register.specs.Registered.{Registered}
+use Rattle.office_register.specs.View.{known_in}
+use Rattle.office_register.specs.Accepted.{IsAccepted}
+use Rattle.office_register.proofs.After.{after_rents}
+use Rattle.office_register.proofs.Sound.{sound_rents}
+use Rattle.office_register.proofs.Standing.{is_free, rents_fit}
+use Rattle.office_register.proofs.register.Register.note_rents.Goals as goal
+
+pub invariant_of-self : goal.invariant_of-self
+invariant_of-self c =
+    let accepted : IsAccepted (known_in c.self.inside) (command.Rents c.args.rents) None =
+    subst (λ (held : Registered). IsAccepted held.known (command.Rents c.args.rents) None) (sym c.self.view_is) c.requires.accepted in
+    rw (c.push_rents.ensures.units, c.push_rents.ensures.rents, c.push_rents.ensures.limits)
+    (sound_rents (known_in c.self.inside) (rent_row (c.self.inside.count + 1) c.args.rents) c.self.invariant (is_free accepted).few refl
+    (rents_fit c.args.rents accepted.fit))
+
+pub returns : goal.returns
+returns c =
+    rw (c.push_rents.ensures.units, c.push_rents.ensures.rents, c.push_rents.ensures.limits)
+    (sym (after_rents (known_in c.self.inside) c.args.rents) ∙ ap (λ (held : Registered). known_after held.known (command.Rents c.args.rents) None) c.self.view_is)

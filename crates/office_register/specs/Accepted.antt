@@ -1,0 +1,61 @@
+-- Which acts may come next.
+use Rattle.std.specs.Prelude.{ℕ, ◌≡◌, ◌≤◌, ◌+◌, Bool, true, false, Option, None, List, [], ◌∷◌, ◌++◌, unwrap_or}
+use Rattle.std.specs.Option.{option_map}
+use Rattle.record_history.specs.declared.records.Record.{Record}
+use Rattle.record_history.specs.Records.{newest_number}
+use Rattle.record_history.specs.Held.{with_record}
+use Rattle.book_rows.specs.declared.command.Command.{Command}
+use Rattle.book_rows.specs.declared.command.Command.TheVariants as command
+use Rattle.book_rows.specs.Fit.{is_fit}
+use Rattle.office_step.specs.declared.known.Application.{Application}
+use Rattle.office_step.specs.Acts.{at_number}
+use Rattle.office_step.specs.Known.{Known, own_in}
+use Rattle.office_step.specs.After.{next_act}
+use Rattle.office_step.specs.Made.{record_of}
+use Rattle.office_step.specs.Step.{refused_by}
+
+-- The command is fit, nothing stands against it in an office of at most 100,000 acts on a day up to 2099-12-31, and this
+-- is the record that it makes, if it makes one.
+pub record IsAccepted (known : Known) (asked : Command) (made : Option Record) : Type 0 where
+  pub most : ℕ
+  pub today : ℕ
+  pub few : most ≤ 100000
+  pub lived : today ≤ 80353
+  pub fit : is_fit asked ≡ true
+  pub free : refused_by known most today asked ≡ None
+  pub is_made : made ≡ record_of known asked
+
+-- the name of the applicant of that number, and the empty one of one who isn't there
+abbrev pub applicant_name : List Application → ℕ → List ℕ
+applicant_name applications number = unwrap_or (option_map (λ application. application.apply.name) (at_number applications number)) []
+
+-- the record is the next of its household, made by the next act
+pub record IsNext (known : Known) (r : Record) : Type 0 where
+  pub number : r.number ≡ newest_number (own_in known r.household) + 1
+  pub act : r.act ≡ next_act known
+
+-- the act goes on with a household that there is, by a record or without one
+abbrev pub is_further : Command → Bool
+is_further (command.Annual annual) = true
+is_further (command.Interim interim) = true
+is_further (command.Resume resume) = true
+is_further (command.Gross gross) = true
+is_further (command.Correct correct) = true
+is_further (command.Transfer transfer) = true
+is_further (command.MoveOut move_out) = true
+is_further (command.Terminate terminate) = true
+is_further (command.Withdraw withdraw) = true
+is_further _ = false
+
+-- what is known with a household more, of that name and first record
+abbrev pub with_household : Known → List ℕ → Record → Known
+with_household known name r = record known {
+  count = next_act known;
+  names = known.names ++ name ∷ [];
+  households = with_record (known.households ++ [] ∷ []) r;
+  requests = known.requests ++ None ∷ [];
+}
+
+-- what is known with a record more of a household that there is
+abbrev pub with_further : Known → Record → Known
+with_further known r = record known { count = next_act known; households = with_record known.households r }

@@ -1,0 +1,73 @@
+-- What a register holds, the room that it has for more, and what holds of every register.
+use Rattle.std.specs.Prelude.{ℕ, ◌≡◌, ◌≤◌, true, Option, List, All, IfSome, length, sum_by, is_some}
+use Rattle.record_history.specs.declared.records.Record.{Record}
+use Rattle.rent_table.specs.declared.rows.Unit.{Unit as UnitRow}
+use Rattle.rent_table.specs.declared.rows.RentRow.{RentRow}
+use Rattle.rent_table.specs.declared.rows.LimitRow.{LimitRow}
+use Rattle.wait_list.specs.declared.applicant.Applicant.{Applicant}
+use Rattle.book_rows.specs.Fit.{is_plan, are_rents}
+use Rattle.office_step.specs.declared.known.Application.{Application}
+use Rattle.office_step.specs.declared.known.Request.{Request}
+use Rattle.office_step.specs.declared.known.Closed.{Closed}
+use Rattle.office_step.specs.Known.{Known}
+use Rattle.office_step.specs.Households.{AreBy}
+
+-- what is known, for how many more rows of every sort there is room, and for how many more records of each household and,
+-- last, of the one to come
+pub record Registered : Type 0 where
+  pub known : Known
+  pub room : ℕ
+  pub record_room : List ℕ
+
+-- the days that a record tells of a change come by 2099-12-31
+abbrev pub HasDates : Record → Type 0
+HasDates r = IfSome r.dates (AreBy 80353)
+
+-- Each part below holds after so many acts.
+
+-- no act adds more than one unit; units are numbered up to their count, and have bedrooms for which a plan has bounds
+pub record AreUnits (count : ℕ) (units : List UnitRow) : Type 0 where
+  pub few : length units ≤ count
+  pub numbers : All (λ unit. unit.number ≤ length units) units
+  pub bedrooms : All (λ unit. unit.bedrooms ≤ 5) units
+
+-- rents lie within their bounds, and were set by one of the acts
+pub record AreRents (count : ℕ) (rents : List RentRow) : Type 0 where
+  pub within : All (λ row. are_rents row.rents ≡ true) rents
+  pub acts : All (λ row. row.act ≤ count) rents
+
+-- limits were set by one of the acts
+abbrev pub AreLimits : ℕ → List LimitRow → Type 0
+AreLimits count limits = All (λ row. row.act ≤ count) limits
+
+-- who waits is numbered up to the count of the applications, and applied by one of the acts
+pub record AreApplicants (count : ℕ) (applications : List Application) (waiting : List Applicant) : Type 0 where
+  pub few : length applications ≤ count
+  pub numbers : All (λ applicant. applicant.number ≤ length applications) waiting
+  pub acts : All (λ applicant. applicant.act ≤ count) waiting
+
+-- no act makes more than one record; each household has a name, records by some of the acts, and at most one request
+pub record AreHouseholds (count : ℕ) (names : List (List ℕ)) (households : List (List Record)) (requests : List (Option Request)) : Type 0 where
+  pub few : length households ≤ count
+  pub records : sum_by length households ≤ count
+  pub one_name : length names ≡ length households
+  pub one_request : length requests ≡ length households
+  pub acts : All (All (λ r. r.act ≤ count)) households
+  pub dates : All (All HasDates) households
+
+-- a month up to 2099-12 was closed by one of the acts
+pub record IsClosing (count : ℕ) (closing : Closed) : Type 0 where
+  pub month : closing.month ≤ 2639
+  pub act : closing.act ≤ count
+
+-- what holds of everything that is known
+pub record IsSound (known : Known) : Type 0 where
+  pub count : known.count ≤ 100000
+  pub plan : IfSome known.plan (λ plan. is_plan plan ≡ true)
+  pub plan_act : is_some known.plan_act ≡ is_some known.plan
+  pub units : AreUnits known.count known.units
+  pub rents : AreRents known.count known.rents
+  pub limits : AreLimits known.count known.limits
+  pub applicants : AreApplicants known.count known.applications known.waiting
+  pub households : AreHouseholds known.count known.names known.households known.requests
+  pub closing : IfSome known.closing (IsClosing known.count)

@@ -1,0 +1,9 @@
+//! What an office knows by the acts and records of its book, kept so that it can be looked up.
+#![tactic(auto)]
+
+mod register;
+
+pub use register::Register;
+
+#[cfg(test)]
+mod tests;

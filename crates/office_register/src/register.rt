@@ -1,0 +1,498 @@
+ghost use Rattle.std.specs.Prelude.{◌≡◌, true, Some, IfOk, is_some};
+ghost use Rattle.wait_list.specs.Rank.{best_rank};
+ghost use Rattle.office_step.specs.Acts.{ranks_of};
+
+use book_rows::{
+    AdmitAct, ApplyAct, AskTransferAct, CloseAct, Command, LimitsAct, RemoveAct, RentsAct,
+    StartAct, UnitAct,
+};
+use days_core::Month;
+use office_step::{Application, Closed, Request};
+use plain_data::{Listed, NoMemory, Text};
+use record_history::{Dates, History, Record};
+use rent_table::{LimitRow, Plan, RentRow, RentTable, Unit};
+use std::alloc::Global;
+use std::marker::Model;
+use wait_list::{Applicant, WaitList, best_rank};
+
+/// What an office knows by its acts: its plan, units, rents and limits, who applied and who waits, and of each household
+/// its name, its records and what it said of another unit.
+#[derive(Drop)]
+pub struct Register {
+    count: u32,
+    plan: Option<Plan>,
+    plan_act: Option<u32>,
+    table: RentTable,
+    applications: Vec<Application>,
+    list: WaitList,
+    names: Vec<Text>,
+    history: History,
+    requests: Vec<Option<Request>>,
+    closing: Option<Closed>,
+}
+
+impl Model for Register {
+    ghost use Rattle.office_register.specs.Registered.{Registered, IsSound};
+
+    ghost Value = { Registered };
+
+    ghost use Rattle.office_register.specs.View.{known_in, room_in};
+
+    ghost view = { λ register. record { known = known_in register; room = room_in register; record_room = register.history.room } };
+
+    ghost invariant = { λ register. IsSound (known_in register) };
+}
+
+impl Register {
+    ghost use Rattle.std.specs.Prelude.{◌≡◌, ◌≤◌, ◌<◌, ◌+◌, [], ◌∷◌, ◌++◌, ℕ, None, Some, length, true, All, IfSome, IfOk, OnOk, IsOk, is_some, option_copied, sum_by};
+    ghost use Rattle.record_history.specs.Held.{room_of, with_record, IsWithin};
+    ghost use Rattle.wait_list.specs.Waiting.{without};
+    ghost use Rattle.book_rows.specs.Book.{empty_book};
+    ghost use Rattle.book_rows.specs.Fit.{is_plan, are_rents};
+    ghost use Rattle.book_rows.specs.declared.command.Command.TheVariants as command;
+    ghost use Rattle.office_step.specs.Acts.{at_number, name_given};
+    ghost use Rattle.office_register.specs.Accepted.{applicant_name};
+    ghost use Rattle.office_step.specs.Known.{known_of};
+    ghost use Rattle.office_step.specs.After.{next_act, known_after};
+    ghost use Rattle.office_register.specs.Registered.{HasDates};
+    ghost use Rattle.office_register.specs.Accepted.{IsAccepted, IsNext, is_further, with_household, with_further};
+
+    pub fn new(alloc: Global) -> Result<Register, NoMemory>
+        ensures { IfOk result (λ register. register.known ≡ known_of empty_book) }
+    {
+        Ok(Register {
+            count: 0,
+            plan: None,
+            plan_act: None,
+            table: RentTable::new(alloc)?,
+            applications: Vec::new(alloc),
+            list: WaitList::new(alloc)?,
+            names: Vec::new(alloc),
+            history: History::new(alloc)?,
+            requests: Vec::new(alloc),
+            closing: None,
+        })
+    }
+
+    /// The number of acts.
+    pub fn count(&self) -> u32
+        ensures count { result ≡ self.now.known.count }
+        ensures few { result ≤ 100000 }
+    {
+        self.count
+    }
+
+    /// The plan, if one was given.
+    pub fn plan(&self) -> Option<&Plan>
+        ensures plan { option_copied result ≡ self.now.known.plan }
+        ensures fit { IfSome (option_copied result) (λ plan. is_plan plan ≡ true) }
+        ensures given { is_some self.now.known.plan_act ≡ is_some self.now.known.plan }
+    {
+        self.plan.as_ref()
+    }
+
+    /// The act that gave the plan.
+    pub fn plan_act(&self) -> Option<u32>
+        ensures { result ≡ self.now.known.plan_act }
+    {
+        self.plan_act
+    }
+
+    /// The units, and the rents and limits that were ever set.
+    pub fn table(&self) -> &RentTable
+        ensures units { result.now.units ≡ self.now.known.units }
+        ensures rents { result.now.rents ≡ self.now.known.rents }
+        ensures limits { result.now.limits ≡ self.now.known.limits }
+        ensures bedrooms { All (λ unit. unit.bedrooms ≤ 5) result.now.units }
+        ensures within { All (λ row. are_rents row.rents ≡ true) result.now.rents }
+    {
+        &self.table
+    }
+
+    /// The number of units.
+    pub fn units(&self) -> u32
+        ensures units { result ≡ length self.now.known.units }
+        ensures few { result ≤ 100000 }
+    {
+        self.table.unit_rows().len() as u32
+    }
+
+    /// All who ever applied.
+    pub fn applications(&self) -> &[Application]
+        ensures applications { result.now ≡ self.now.known.applications }
+        ensures few { length result.now ≤ self.now.known.count }
+        ensures few_acts { self.now.known.count ≤ 100000 }
+    {
+        &self.applications
+    }
+
+    /// Those who wait.
+    pub fn list(&self) -> &WaitList
+        ensures waiting { result.now.applicants ≡ self.now.known.waiting }
+    {
+        &self.list
+    }
+
+    pub fn households(&self) -> u32
+        ensures households { result ≡ length self.now.known.households }
+        ensures few { result ≤ self.now.known.count }
+    {
+        self.history.households()
+    }
+
+    /// The name of the household of that number, if there is one.
+    pub fn household_name(&self, household: u32) -> Option<&Text>
+        ensures { option_copied result ≡ at_number self.now.known.names household }
+    {
+        if household == 0 {
+            return None;
+        }
+        self.names.get(household as usize - 1)
+    }
+
+    /// The households' records.
+    pub fn history(&self) -> &History
+        ensures households { result.now.households ≡ self.now.known.households }
+        ensures few { length result.now.households ≤ self.now.known.count }
+        ensures few_households { length result.now.households ≤ 100000 }
+        ensures few_records { sum_by length result.now.households ≤ 100000 }
+        ensures dates { All (All HasDates) result.now.households }
+    {
+        &self.history
+    }
+
+    /// What each household said last of another unit.
+    pub fn requests(&self) -> &[Option<Request>]
+        ensures requests { result.now ≡ self.now.known.requests }
+        ensures one_each { length result.now ≡ length self.now.known.households }
+    {
+        &self.requests
+    }
+
+    /// The last closing.
+    pub fn closing(&self) -> Option<Closed>
+        ensures closing { result ≡ self.now.known.closing }
+        ensures month { IfSome result (λ closing. closing.month ≤ 2639) }
+        ensures earlier { IfSome result (λ closing. closing.act ≤ self.now.known.count) }
+    {
+        self.closing
+    }
+
+    /// Knows of one more act, and takes no memory: the one of the command that was asked, the name of the household that it
+    /// makes and the record that it makes.
+    pub fn note(&mut self, asked: Command, name: Option<Text>, made: Option<Record>)
+        requires room { 1 ≤ self.old.room }
+        requires record_room { IfSome made (λ r. 1 ≤ room_of self.old.record_room r.household) }
+        requires accepted { IsAccepted self.old.known asked made }
+        requires within { IfSome made IsWithin }
+        requires dates { IfSome made HasDates }
+        requires name { name ≡ name_given self.old.known.applications asked }
+        ensures known { self.new.known ≡ known_after self.old.known asked made }
+    {
+        match asked {
+            Command::Plan(plan) => self.note_plan(plan),
+            Command::Unit(unit) => self.note_unit(unit),
+            Command::Rents(rents) => self.note_rents(rents),
+            Command::Limits(limits) => self.note_limits(limits),
+            Command::Apply(apply) => self.note_application(apply),
+            Command::Remove(remove) => self.note_removal(remove),
+            Command::Start(start) => self.note_start(start, made),
+            Command::Admit(admit) => self.note_admission(admit, name, made),
+            Command::AskTransfer(ask) => self.note_request(ask),
+            Command::Close(close) => self.note_closing(close),
+            further => self.note_further(&further, made),
+        }
+    }
+
+    /// The name of the household that the command makes, if it makes one: its own, or that of the applicant.
+    pub fn name_given(&self, alloc: Global, asked: &Command) -> Result<Option<Text>, NoMemory>
+        ensures { IfOk result (λ name. name ≡ name_given self.now.known.applications asked.now) }
+    {
+        match asked {
+            Command::Start(start) => Ok(Some(copy_of(alloc, &start.name)?)),
+            Command::Admit(admit) => Ok(Some(self.applicant_name(alloc, admit.applicant)?)),
+            _ => Ok(None),
+        }
+    }
+
+    /// The name of the applicant of that number, and the empty one of one who isn't there.
+    fn applicant_name(&self, alloc: Global, number: u32) -> Result<Text, NoMemory>
+        ensures { IfOk result (λ name. name ≡ applicant_name self.now.known.applications number) }
+    {
+        match self.application(number) {
+            Some(application) => copy_of(alloc, &application.apply.name),
+            None => Ok(Text::new(Vec::new(alloc))),
+        }
+    }
+
+    fn application(&self, number: u32) -> Option<&Application>
+        ensures { option_copied result ≡ at_number self.now.known.applications number }
+    {
+        if number == 0 {
+            return None;
+        }
+        self.applications.get(number as usize - 1)
+    }
+
+    /// Makes room for one more row of every sort, and for one more record of the household, which is one of those there
+    /// are or the next; 0 is none.
+    pub fn reserve(&mut self, household: u32) -> Result<(), NoMemory>
+        requires { household ≤ length self.old.known.households + 1 }
+        ensures known { self.new.known ≡ self.old.known }
+        ensures room { OnOk result (1 ≤ self.new.room) }
+        ensures record_room { OnOk result (1 ≤ household → 1 ≤ room_of self.new.record_room household) }
+        ensures kept { self.old.room ≤ self.new.room }
+        ensures records_kept { (other : ℕ) → room_of self.old.record_room other ≤ room_of self.new.record_room other }
+        ensures succeeds { 1 ≤ self.old.room → (1 ≤ household → 1 ≤ room_of self.old.record_room household) → IsOk result }
+    {
+        self.reserve_rows()?;
+        if household > 0 {
+            self.history.reserve(household)?;
+        }
+        Ok(())
+    }
+
+    fn reserve_rows(&mut self) -> Result<(), NoMemory>
+        ensures known { self.new.known ≡ self.old.known }
+        ensures room { OnOk result (1 ≤ self.new.room) }
+        ensures record_room { self.new.record_room ≡ self.old.record_room }
+        ensures kept { self.old.room ≤ self.new.room }
+        ensures succeeds { 1 ≤ self.old.room → IsOk result }
+    {
+        self.list.reserve()?;
+        self.table.reserve()?;
+        self.applications.reserve(1)?;
+        self.names.reserve(1)?;
+        self.requests.reserve(1)?;
+        Ok(())
+    }
+
+    /// Goes on to the next act, which nothing but its number is kept of.
+    fn pass(&mut self)
+        requires { self.old.known.count < 100000 }
+        ensures known { self.new.known ≡ record self.old.known { count = next_act self.old.known } }
+        ensures room { self.new.room ≡ self.old.room }
+        ensures record_room { self.new.record_room ≡ self.old.record_room }
+    {
+        self.count += 1;
+    }
+
+    fn note_plan(&mut self, plan: Plan)
+        requires { IsAccepted self.old.known (command.Plan plan) None }
+        ensures { self.new.known ≡ known_after self.old.known (command.Plan plan) None }
+    {
+        self.count += 1;
+        self.plan = Some(plan);
+        self.plan_act = Some(self.count);
+    }
+
+    fn note_unit(&mut self, unit: UnitAct)
+        requires room { 1 ≤ self.old.room }
+        requires accepted { IsAccepted self.old.known (command.Unit unit) None }
+        ensures { self.new.known ≡ known_after self.old.known (command.Unit unit) None }
+    {
+        let number = self.table.unit_rows().len() as u32 + 1;
+        self.count += 1;
+        self.table.push_unit(Unit {
+            number,
+            name: unit.name,
+            group: unit.group,
+            bedrooms: unit.bedrooms,
+            accessible: unit.accessible,
+        });
+    }
+
+    fn note_rents(&mut self, rents: RentsAct)
+        requires room { 1 ≤ self.old.room }
+        requires accepted { IsAccepted self.old.known (command.Rents rents) None }
+        ensures { self.new.known ≡ known_after self.old.known (command.Rents rents) None }
+    {
+        self.count += 1;
+        self.table.push_rents(RentRow {
+            group: rents.group,
+            from: rents.from,
+            act: self.count,
+            rents: rents.rents,
+        });
+    }
+
+    fn note_limits(&mut self, limits: LimitsAct)
+        requires room { 1 ≤ self.old.room }
+        requires accepted { IsAccepted self.old.known (command.Limits limits) None }
+        ensures { self.new.known ≡ known_after self.old.known (command.Limits limits) None }
+    {
+        let LimitsAct {
+            from,
+            low,
+            very_low,
+            extremely_low,
+        } = limits;
+        self.count += 1;
+        self.table.push_limits(LimitRow {
+            from,
+            act: self.count,
+            low,
+            very_low,
+            extremely_low,
+        });
+    }
+
+    fn note_application(&mut self, apply: ApplyAct)
+        requires room { 1 ≤ self.old.room }
+        requires accepted { IsAccepted self.old.known (command.Apply apply) None }
+        ensures { self.new.known ≡ known_after self.old.known (command.Apply apply) None }
+    {
+        self.count += 1;
+        self.list.push(Applicant {
+            number: self.applications.len() as u32 + 1,
+            act: self.count,
+            size: apply.size,
+            persons: apply.persons,
+            rank: rank_by(&self.plan, &apply.preferences),
+            accessible: apply.accessible,
+            annual: apply.annual,
+        });
+        self.applications.push_reserved(Application {
+            act: self.count,
+            apply,
+        });
+    }
+
+    fn note_removal(&mut self, remove: RemoveAct)
+        requires { IsAccepted self.old.known (command.Remove remove) None }
+        ensures { self.new.known ≡ known_after self.old.known (command.Remove remove) None }
+    {
+        self.take_off(remove.applicant);
+        self.pass();
+    }
+
+    fn take_off(&mut self, number: u32)
+        ensures known { self.new.known ≡ record self.old.known { waiting = without number self.old.known.waiting } }
+        ensures room { self.old.room ≤ self.new.room }
+        ensures record_room { self.new.record_room ≡ self.old.record_room }
+    {
+        self.list.remove(number);
+    }
+
+    fn note_request(&mut self, ask: AskTransferAct)
+        requires { IsAccepted self.old.known (command.AskTransfer ask) None }
+        ensures { self.new.known ≡ known_after self.old.known (command.AskTransfer ask) None }
+    {
+        self.count += 1;
+        self.requests[ask.household as usize - 1] = Some(Request {
+            act: self.count,
+            wanted: ask.wanted,
+            accessible: ask.accessible,
+        });
+    }
+
+    fn note_closing(&mut self, close: CloseAct)
+        requires { IsAccepted self.old.known (command.Close close) None }
+        ensures { self.new.known ≡ known_after self.old.known (command.Close close) None }
+    {
+        self.count += 1;
+        self.closing = Some(Closed {
+            month: close.month,
+            act: self.count,
+        });
+    }
+
+    fn note_start(&mut self, start: StartAct, made: Option<Record>)
+        requires room { 1 ≤ self.old.room }
+        requires record_room { IfSome made (λ r. 1 ≤ room_of self.old.record_room r.household) }
+        requires accepted { IsAccepted self.old.known (command.Start start) made }
+        requires within { IfSome made IsWithin }
+        requires dates { IfSome made HasDates }
+        ensures { self.new.known ≡ known_after self.old.known (command.Start start) made }
+    {
+        // The invariant is known where a field is read: what gave a plan left one.
+        let _given = &self.plan_act;
+        self.add_household(start.name, record_in(made));
+    }
+
+    fn note_admission(&mut self, admit: AdmitAct, name: Option<Text>, made: Option<Record>)
+        requires room { 1 ≤ self.old.room }
+        requires record_room { IfSome made (λ r. 1 ≤ room_of self.old.record_room r.household) }
+        requires accepted { IsAccepted self.old.known (command.Admit admit) made }
+        requires within { IfSome made IsWithin }
+        requires dates { IfSome made HasDates }
+        requires name { name ≡ Some (applicant_name self.old.known.applications admit.applicant) }
+        ensures { self.new.known ≡ known_after self.old.known (command.Admit admit) made }
+    {
+        // As above.
+        let _given = &self.plan_act;
+        self.take_off(admit.applicant);
+        self.add_household(name.unwrap(), record_in(made));
+    }
+
+    /// Adds the household that comes next, of which this is the first record.
+    fn add_household(&mut self, name: Text, held: Record)
+        requires few { self.old.known.count < 100000 }
+        requires room { 1 ≤ self.old.room }
+        requires record_room { 1 ≤ room_of self.old.record_room held.household }
+        requires household { held.household ≡ length self.old.known.households + 1 }
+        requires next { IsNext self.old.known held }
+        requires within { IsWithin held }
+        requires dates { HasDates held }
+        ensures { self.new.known ≡ with_household self.old.known name held }
+    {
+        self.count += 1;
+        self.names.push_reserved(name);
+        self.requests.push_reserved(None);
+        self.history.push(held);
+    }
+
+    fn note_further(&mut self, asked: &Command, made: Option<Record>)
+        requires record_room { IfSome made (λ r. 1 ≤ room_of self.old.record_room r.household) }
+        requires further { is_further asked.now ≡ true }
+        requires accepted { IsAccepted self.old.known asked.now made }
+        requires within { IfSome made IsWithin }
+        requires dates { IfSome made HasDates }
+        ensures { self.new.known ≡ known_after self.old.known asked.now made }
+    {
+        match made {
+            Some(held) => self.hold(held),
+            None => self.pass(),
+        }
+    }
+
+    /// Holds the next record of a household that there is.
+    fn hold(&mut self, held: Record)
+        requires few { self.old.known.count < 100000 }
+        requires record_room { 1 ≤ room_of self.old.record_room held.household }
+        requires household { held.household ≤ length self.old.known.households }
+        requires next { IsNext self.old.known held }
+        requires within { IsWithin held }
+        requires dates { HasDates held }
+        ensures { self.new.known ≡ with_further self.old.known held }
+    {
+        self.count += 1;
+        self.history.push(held);
+    }
+}
+
+fn copy_of(alloc: Global, text: &Text) -> Result<Text, NoMemory>
+    ensures { IfOk result (λ copy. copy ≡ text.now) }
+{
+    Ok(Text::new(text.as_bytes().to_vec(alloc)?))
+}
+
+fn record_in(made: Option<Record>) -> Record
+    requires { is_some made ≡ true }
+    ensures { made ≡ Some result }
+{
+    let held = made.unwrap();
+    // The check refuses a move of a record where Dates aren't named.
+    let _dates: Option<Dates> = held.dates;
+    held
+}
+
+/// The rank of an applicant with these preferences, by the plan if there is one.
+fn rank_by(plan: &Option<Plan>, preferences: &Listed<u32>) -> u32
+    ensures { result ≡ best_rank (ranks_of plan.now) preferences.now }
+{
+    match plan {
+        Some(plan) => best_rank(plan, preferences.as_slice()),
+        None => 100,
+    }
+}
