@@ -1,0 +1,4 @@
+pub mod Counted
+pub mod Turn
+pub mod Bounds
+pub mod Accepts

@@ -1,0 +1,42 @@
+-- What an office answers to a command, and what holds of a record that an act makes.
+use Rattle.std.specs.Prelude.{ℕ, ◌≡◌, ◌≤◌, ◌+◌, ⊤, Option, Some, None, Result, Ok, Err, length}
+use Rattle.days_core.specs.declared.rents.Rents.{Rents}
+use Rattle.record_history.specs.declared.records.Record.{Record}
+use Rattle.record_history.specs.Records.{newest_number}
+use Rattle.record_history.specs.Held.{IsWithin}
+use Rattle.book_rows.specs.declared.command.Command.{Command}
+use Rattle.book_rows.specs.declared.command.Command.TheVariants as command
+use Rattle.office_step.specs.declared.refusal.Refusal.{Refusal}
+use Rattle.office_step.specs.Known.{Known, own_in}
+use Rattle.office_register.specs.Registered.{HasDates}
+
+-- it is refused, or else makes that record or none
+abbrev pub judged_by : Option Refusal → Option Record → Result (Option Record) Refusal
+judged_by (Some refused) made = Err refused
+judged_by None made = Ok made
+
+-- the rents lie within their ranges
+pub record AreWithin (rents : Rents) : Type 0 where
+  pub contract_rent : rents.contract_rent ≤ 99999
+  pub utility : rents.utility ≤ 9999
+
+-- the record is the next of its household, and lies within the bounds of all records
+pub record IsMade (known : Known) (made : Record) : Type 0 where
+  pub next : made.number ≡ newest_number (own_in known made.household) + 1
+  pub within : IsWithin made
+  pub dates : HasDates made
+
+-- the record is of a household that there is, or of the next
+pub record IsPlaced (known : Known) (made : Record) : Type 0 where
+  pub first : 1 ≤ made.household
+  pub next : made.household ≤ length known.households + 1
+
+-- the size of the family is one for which there are income limits
+pub record HasSize (made : Record) : Type 0 where
+  pub least : 1 ≤ made.size
+  pub most : made.size ≤ 12
+
+-- a closing is of that month or an earlier one
+abbrev pub ClosesBy : ℕ → Command → Type 0
+ClosesBy month (command.Close close) = close.month ≤ month
+ClosesBy month _ = ⊤

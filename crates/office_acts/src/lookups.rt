@@ -1,0 +1,58 @@
+//! What an act names, by what the register knows.
+
+ghost use Rattle.std.specs.Prelude.{◌≡◌, ◌≤◌, option_copied, IfSome};
+ghost use Rattle.rent_table.specs.Table.{unit_at};
+ghost use Rattle.record_history.specs.Held.{IsWithin};
+ghost use Rattle.office_register.specs.Registered.{HasDates};
+ghost use Rattle.office_step.specs.Households.{record_at, unit_continued};
+ghost use Rattle.office_step.specs.Known.{own_in};
+ghost use Rattle.office_step.specs.Step.{plan_day};
+
+use days_core::{Day, first_of};
+use office_register::Register;
+use office_step::continued;
+use record_history::{Dates, Record};
+use rent_table::{Plan, RentTable, Unit};
+
+/// The first day of the plan, and 1880-01-01 where there is none.
+pub fn plan_day(register: &Register) -> Day
+    ensures { result ≡ plan_day register.now.known }
+{
+    match register.plan() {
+        Some(plan) => first_of(plan.first),
+        None => Day::from_number(0).unwrap(),
+    }
+}
+
+/// The unit of that number.
+pub fn unit_in(register: &Register, number: u32) -> Option<&Unit>
+    ensures value { option_copied result ≡ unit_at register.now.known.units number }
+    ensures bedrooms { IfSome (option_copied result) (λ unit. unit.bedrooms ≤ 5) }
+{
+    register.table().unit(number)
+}
+
+/// The household's record of that number.
+pub fn target_in(register: &Register, household: u32, number: u32) -> Option<&Record>
+    ensures value { option_copied result ≡ record_at (own_in register.now.known household) number }
+    ensures within { IfSome (option_copied result) IsWithin }
+    ensures dates { IfSome (option_copied result) HasDates }
+{
+    record_among(register.history().records(household), number)
+}
+
+fn record_among(records: &[Record], number: u32) -> Option<&Record>
+    ensures { option_copied result ≡ record_at records.now number }
+{
+    records.iter().find(|held| held.number == number)
+}
+
+/// The unit of a record that names none, and 0 where the household has no record that it could continue.
+pub fn unit_continued(register: &Register, household: u32, from: Day) -> u32
+    ensures { result ≡ unit_continued (own_in register.now.known household) from }
+{
+    match continued(register.history(), household, from) {
+        Some(held) => held.unit,
+        None => 0,
+    }
+}

@@ -1,0 +1,87 @@
+//! The record that an act makes, by what the register knows.
+
+ghost use Rattle.std.specs.Prelude.{◌≡◌, ◌≤◌, ◌+◌, None, false, sum_by, length, option_copied, IfSome};
+ghost use Rattle.facts_core.specs.Rules.{broken_rule};
+ghost use Rattle.record_history.specs.Records.{newest_number};
+ghost use Rattle.record_history.specs.Held.{records_of};
+ghost use Rattle.certified_figures.specs.Figures.{FitsRecord};
+ghost use Rattle.office_step.specs.Households.{continued, AreBy};
+ghost use Rattle.office_step.specs.Made.{rents_in_unit, made_with, made_of_facts, made_of_carried, made_of_nothing};
+ghost use Rattle.office_step.specs.Known.{own_in};
+ghost use Rattle.office_acts.specs.Judged.{AreWithin, IsMade, HasSize};
+
+use certified_figures::{Figures, figures_carried, figures_of_facts, no_figures};
+use days_core::{Day, Rents};
+use facts_core::Facts;
+use office_register::Register;
+use office_step::{Heading, continued, entry, rents_in_unit, told_extremely_low};
+use record_history::{Dates, History, Kind, Record};
+use rent_table::{LimitRow, Plan, RentTable};
+
+/// The record of a heading that is computed from the facts, where there are a plan and rents.
+pub fn made_of_facts(register: &Register, heading: &Heading, facts: &Facts) -> Option<Record>
+    requires kept { broken_rule facts.now heading.now.from ≡ None }
+    requires from { heading.now.from ≤ 80353 }
+    requires dates { IfSome heading.now.dates (AreBy 80353) }
+    ensures value { result ≡ made_of_facts register.now.known heading.now facts.now }
+    ensures made { IfSome result (IsMade register.now.known) }
+    ensures size { IfSome result HasSize }
+{
+    let plan = register.plan()?;
+    let rents = rents_on(register, heading.unit, heading.from)?;
+    let figures = figures_of_facts(facts, heading.from, plan.passbook, rents);
+    let limits = register.table().limits_on(heading.from);
+    let extremely = told_extremely_low(heading.kind, limits, &figures);
+    Some(made_with(register, heading, extremely, &figures))
+}
+
+/// The record of a heading that carries over what was certified, where that and rents are there.
+pub fn made_of_carried(register: &Register, heading: &Heading) -> Option<Record>
+    requires from { heading.now.from ≤ 80353 }
+    requires dates { IfSome heading.now.dates (AreBy 80353) }
+    ensures value { result ≡ made_of_carried register.now.known heading.now }
+    ensures made { IfSome result (IsMade register.now.known) }
+{
+    let held = continued(register.history(), heading.household, heading.from)?;
+    let rents = rents_on(register, heading.unit, heading.from)?;
+    let figures = figures_carried(held, rents);
+    Some(made_with(register, heading, false, &figures))
+}
+
+/// The record of a heading that certifies nothing.
+pub fn made_of_nothing(register: &Register, heading: &Heading) -> Record
+    requires from { heading.now.from ≤ 80353 }
+    requires dates { IfSome heading.now.dates (AreBy 80353) }
+    ensures value { result ≡ made_of_nothing register.now.known heading.now }
+    ensures made { IsMade register.now.known result }
+{
+    made_with(register, heading, false, &no_figures())
+}
+
+/// The next record of the household of a heading.
+fn made_with(register: &Register, heading: &Heading, extremely: bool, figures: &Figures) -> Record
+    requires from { heading.now.from ≤ 80353 }
+    requires dates { IfSome heading.now.dates (AreBy 80353) }
+    requires fits { FitsRecord figures.now }
+    ensures value { result ≡ made_with register.now.known heading.now extremely figures.now }
+    ensures made { IsMade register.now.known result }
+{
+    let number = next_number(register.history(), heading.household);
+    entry(number, register.count() + 1, heading, extremely, figures)
+}
+
+/// The number of the household's next record.
+fn next_number(history: &History, household: u32) -> u32
+    requires { sum_by length history.now.households ≤ 100000 }
+    ensures { result ≡ newest_number (records_of history.now.households household) + 1 }
+{
+    history.newest(household) + 1
+}
+
+/// The rents of the unit on the day.
+fn rents_on(register: &Register, unit: u32, day: Day) -> Option<Rents>
+    ensures value { result ≡ rents_in_unit register.now.known unit day }
+    ensures within { IfSome result AreWithin }
+{
+    rents_in_unit(register.table(), unit, day)
+}
