@@ -1,0 +1,183 @@
+-- The records of every household are in order.
+use Rattle.std.proofs.Common.{◌≡◌, ◌∙◌, sym, ap, refl, subst, ℕ, ◌+◌, ◌-◌, ◌<◌, ◌≤◌, ◌⊎◌, inl, inr, max, arith, Bool, true, false, not, List, [], ◌∷◌, ◌++◌, Option, Some, None, length, map, All, if◌then◌else◌, ◌==◌, get_or, slice_index_or}
+use Rattle.std.specs.Option.{option_map}
+use Rattle.std.proofs.lemmas.Bool.{cases_eq, cases_lt, eqb-true, ne_eqb}
+use Rattle.std.proofs.lemmas.Bool.Decides.{nat_tests}
+use Rattle.row_choice.specs.Latest.{comes_before as pair_comes_before}
+use Rattle.std.proofs.lemmas.List.{get_or_append_left, get_or_push, length_push, get_or_past}
+use Rattle.std.proofs.lemmas.List.Sums.{fold-append}
+use Rattle.std.proofs.lemmas.List.Elements.{All-push, All-append, All-nil, All-map, All-set}
+use Rattle.record_history.specs.declared.records.Record.{Record}
+use Rattle.record_history.specs.Records.{is_withdrawal, live_records, latest, newest_number}
+use Rattle.record_history.specs.Held.{AreNumbered, records_of}
+use Rattle.tenancy_rules.specs.declared.change.Change.{Change}
+use Rattle.tenancy_rules.specs.Changed.{changed_records}
+use Rattle.tenancy_rules.specs.Order.{may_begin, is_in_order, earliest, is_out_of_order, first_out_of_order}
+use Rattle.tenancy_rules.proofs.LiveLaws.{change_is_what_lives}
+use Rattle.book_rows.specs.declared.command.Command.{Command}
+use Rattle.office_step.specs.declared.refusal.Refusal.TheVariants as refusal
+use Rattle.office_step.specs.Known.{Known, known_of, own_in}
+use Rattle.office_step.specs.Households.{adding, dropping}
+use Rattle.office_step.specs.Made.{record_of}
+use Rattle.office_step.specs.After.{households_after, names_given}
+use Rattle.office_step.specs.Refusals.{first_of, disorder}
+use Rattle.office_step.specs.Step.{refusals_of, reached_empty, reached_more}
+use Rattle.office_laws.specs.Accepted.{Accepted}
+use Rattle.office_laws.specs.Tenancy.{IsInOrder, HouseholdsAreInOrder}
+use Rattle.office_laws.proofs.Inversion.{accepted}
+use Rattle.office_laws.proofs.Heading.{IsHeaded, made_is_headed, own_free}
+use Rattle.office_laws.proofs.Known.{known_after_each}
+use Rattle.office_laws.proofs.Own.{own-longer}
+use Rattle.office_laws.proofs.Tried.{Ordered, begins, added, dropped, Names, names_none, names_one, Tried, tried, find_holds}
+
+in_order_none : IsInOrder []
+in_order_none = record {
+  numbered = record { number = λ place d within. absurd (omega arith); newest = refl };
+  corrects = All-nil (λ r. r.corrects < r.number);
+  live = refl;
+}
+
+pub numbered_push : (own : List Record) (r : Record) → AreNumbered own → r.number ≡ newest_number own + 1 → AreNumbered (own ++ r ∷ [])
+numbered_push own r are next = record {
+  number = λ place d within. by_place place d within (cases_lt place (length own));
+  newest = newest;
+}
+  where
+    long : r.number ≡ length own + 1
+    long = next ∙ ap (λ (n : ℕ). n + 1) are.newest
+
+    by_place : (place : ℕ) (d : Record) → place < length (own ++ r ∷ []) → (place < length own) ⊎ (length own ≤ place) →
+        (slice_index_or (own ++ r ∷ []) place d).number ≡ place + 1
+    by_place place d within (inl before) = ap (λ (r : Record). r.number) (get_or_append_left own (r ∷ []) d place before) ∙ are.number place d before
+    by_place place d within (inr past) =
+        let last : length own ≡ place = omega (arith, within, length_push own r) in
+        ap (λ (r : Record). r.number) (get_or_push own r d place last) ∙ long ∙ ap (λ (n : ℕ). n + 1) last
+
+    newest : newest_number (own ++ r ∷ []) ≡ length (own ++ r ∷ [])
+    newest =
+        let number = long in
+        let had = are.newest in
+        let most : max (newest_number own) r.number ≡ length (own ++ r ∷ []) = omega (arith, length_push own r) in
+        fold-append (λ (most : ℕ) (r : Record). max most r.number) 0 own (r ∷ []) ∙ most
+
+pub below_next : (own : List Record) → AreNumbered own → All (λ r. r.number < newest_number own + 1) own
+below_next own are = λ k d within. (let number = are.number k d within in let had = are.newest in omega arith)
+
+-- a record that may begin is in order alone
+alone_in_order : (r : Record) → may_begin r.kind ≡ true → first_out_of_order (r ∷ []) ≡ None
+unfolding is_out_of_order
+alone_in_order r may =
+    ap (λ (out : Bool). earliest (if out then r ∷ [] else []))
+    (ap (λ (before : Bool). not (is_in_order (latest (if before then r ∷ [] else [])) r)) (not_itself r.from r.number)
+    ∙ ap (λ (b : Bool). not b) may)
+  where
+    not_itself : (from number : ℕ) → pair_comes_before from number from number ≡ false
+    not_itself from number = grind (arith, nat_tests)
+
+-- no fault is found where no disorder stands
+no_fault : (own : List Record) (change : Change) → disorder own change ≡ None → first_out_of_order (changed_records own change) ≡ None
+no_fault own change none = by_fault (first_out_of_order (changed_records own change)) none
+  where
+    by_fault : (found : Option Record) → option_map (λ target. refusal.Disorder target) (option_map (λ (r : Record). r.number) found) ≡ None → found ≡ None
+    by_fault None none = refl
+    by_fault (Some r) none = absurd (cc)
+
+-- ---- one record more of a household
+
+module _ (known : Known) (today : ℕ) (asked : Command) (r : Record) (free : first_of (refusals_of known today asked) ≡ None)
+    (is : record_of known asked ≡ Some r) (own : IsInOrder (own_in known r.household)) where
+  tries : Tried known r
+  tries = tried known today asked r free is
+
+  pub number_next : r.number ≡ newest_number (own_in known r.household) + 1
+  number_next =
+      let headed : IsHeaded known asked r = made_is_headed known asked r is in
+      ap (λ (r : Record). r.number) headed.under.is
+      ∙ ap (λ (household : ℕ). newest_number (own_in known household) + 1) (sym (ap (λ (r : Record). r.household) headed.under.is))
+
+  pub smaller : r.corrects < r.number
+  smaller = by_names tries.names
+    where
+      by_names : Names known r → r.corrects < r.number
+      by_names (names_none zero) = (let next = number_next in omega arith)
+      by_names (names_one target found) =
+          let both = find_holds (λ (held : Record). held.number == r.corrects) (λ (held : Record). held.number < newest_number (own_in known r.household) + 1)
+          (own_in known r.household) target found (below_next (own_in known r.household) own.numbered) in
+          let below : target.number < newest_number (own_in known r.household) + 1 = both.0 in
+          let same : target.number ≡ r.corrects = eqb-true target.number r.corrects both.1 in
+          let next = number_next in
+          omega arith
+
+  pub all_smaller : All (λ (held : Record). held.corrects < r.number) (own_in known r.household)
+  all_smaller = λ k d within.
+      (let below = below_next (own_in known r.household) own.numbered k d within in
+      let corrects = own.corrects k d within in
+      let next = number_next in
+      omega arith)
+
+  -- what lives then was judged
+  pub live_added : is_withdrawal r.kind ≡ false → live_records (own_in known r.household ++ r ∷ []) ≡ changed_records (own_in known r.household) (adding r)
+  live_added kind =
+      change_is_what_lives (own_in known r.household) r all_smaller smaller
+      ∙ ap (λ (withdraws : Bool). changed_records (own_in known r.household) (record { «drop» = r.corrects; add = if withdraws then None else Some r })) kind
+
+  pub live_dropped : is_withdrawal r.kind ≡ true → live_records (own_in known r.household ++ r ∷ []) ≡ changed_records (own_in known r.household) (dropping r.corrects)
+  live_dropped kind =
+      change_is_what_lives (own_in known r.household) r all_smaller smaller
+      ∙ ap (λ (withdraws : Bool). changed_records (own_in known r.household) (record { «drop» = r.corrects; add = if withdraws then None else Some r })) kind
+
+  live_in_order : first_out_of_order (live_records (own_in known r.household ++ r ∷ [])) ≡ None
+  live_in_order = by_ordered tries.ordered
+    where
+      by_ordered : Ordered known r → first_out_of_order (live_records (own_in known r.household ++ r ∷ [])) ≡ None
+      by_ordered (begins none may zero kind) =
+          ap first_out_of_order (live_added kind)
+          ∙ ap (λ (own : List Record). first_out_of_order (changed_records own (adding r))) none
+          ∙ alone_in_order r may
+      by_ordered (added kind none) = ap first_out_of_order (live_added kind) ∙ no_fault (own_in known r.household) (adding r) none
+      by_ordered (dropped kind none) = ap first_out_of_order (live_dropped kind) ∙ no_fault (own_in known r.household) (dropping r.corrects) none
+
+  pub in_order_more : IsInOrder (own_in known r.household ++ r ∷ [])
+  in_order_more = record {
+    numbered = numbered_push (own_in known r.household) r own.numbered number_next;
+    corrects = All-push (λ r. r.corrects < r.number) (own_in known r.household) r own.corrects smaller;
+    live = live_in_order;
+  }
+
+-- ---- every household
+
+pub own_in_order : (households : List (List Record)) → All IsInOrder households → (household : ℕ) → IsInOrder (records_of households household)
+own_in_order households all household = by_zero (cases_eq household 0)
+  where
+    by_place : (household - 1 < length households) ⊎ (length households ≤ household - 1) → IsInOrder (get_or households (household - 1) [])
+    by_place (inl within) = all (household - 1) [] within
+    by_place (inr past) = subst IsInOrder (sym (get_or_past households (household - 1) [] past)) in_order_none
+
+    by_zero : (household ≡ 0) ⊎ (household ≡ 0 → ⊥) → IsInOrder (records_of households household)
+    by_zero (inl is_zero) = subst (λ (household : ℕ). IsInOrder (records_of households household)) (sym is_zero) in_order_none
+    by_zero (inr other) =
+        subst (λ (none : Bool). IsInOrder (if none then [] else get_or households (household - 1) [])) (sym (ne_eqb household 0 other))
+        (by_place (cases_lt (household - 1) (length households)))
+
+all_longer : (known : Known) (asked : Command) → All IsInOrder known.households → All IsInOrder (known.households ++ map (λ name. []) (names_given known asked))
+all_longer known asked all =
+    All-append IsInOrder known.households (map (λ name. []) (names_given known asked)) all
+    (All-map IsInOrder (λ (name : List ℕ). []) (names_given known asked) (λ k d within. in_order_none))
+
+all_in_order_more : (known : Known) (today : ℕ) (asked : Command) → first_of (refusals_of known today asked) ≡ None → All IsInOrder known.households →
+    (made : Option Record) → record_of known asked ≡ made → All IsInOrder (households_after known asked made)
+all_in_order_more known today asked free all None is = all_longer known asked all
+all_in_order_more known today asked free all (Some r) is =
+    All-set IsInOrder (known.households ++ map (λ name. []) (names_given known asked)) (r.household - 1) _
+    (subst IsInOrder (ap (λ (own : List Record). own ++ r ∷ []) (sym (own-longer known.households (names_given known asked) r.household)))
+    (in_order_more known today asked r free is (own_in_order known.households all r.household)))
+    (all_longer known asked all)
+
+pub households_are_in_order : HouseholdsAreInOrder
+households_are_in_order capacity _ reached_empty = All-nil IsInOrder
+households_are_in_order capacity _ (reached_more {book} {rows} reached appends) =
+    let is : Accepted capacity book appends.call rows = accepted capacity book rows appends in
+    subst (λ (known : Known). All IsInOrder known.households) (sym (known_after_each capacity book rows reached appends))
+    (all_in_order_more (known_of book) rows.act.day appends.call.command
+    (own_free (known_of book) capacity.acts rows.act.day appends.call.command is.is_allowed)
+    (households_are_in_order capacity book reached) rows.made (sym is.made))

@@ -1,0 +1,103 @@
+-- What it comes to that rows are appended.
+use Rattle.std.proofs.Common.{◌≡◌, ◌∙◌, sym, ap, ap₂, refl, subst, ℕ, arith, true, ◌&&◌, nat_le, List, [], ◌∷◌, Option, Some, None, length, slice_index_or, zero, suc}
+use Rattle.voucher_core.specs.declared.line.Line.{Line}
+use Rattle.book_rows.specs.declared.rows.ActRow.{ActRow}
+use Rattle.book_rows.specs.declared.rows.Batch.{Batch}
+use Rattle.book_rows.specs.Book.{Book}
+use Rattle.book_rows.specs.Fit.{is_within, is_fit}
+use Rattle.command_text.specs.Commands.{body_of, command_in}
+use Rattle.command_text.proofs.CommandAgain.{body_again}
+use Rattle.office_step.specs.declared.call.Call.{Call}
+use Rattle.office_step.specs.declared.call.Capacity.{Capacity}
+use Rattle.std.proofs.lemmas.Bool.{and_parts}
+use Rattle.office_step.specs.declared.refusal.Refusal.{Refusal}
+use Rattle.office_step.specs.Known.{known_of}
+use Rattle.office_step.specs.Made.{lines_of}
+use Rattle.office_step.specs.Refusals.{first_of, repeated, request_reused, lines_full}
+use Rattle.office_step.specs.Step.{last_act_day, day_after, act_day, refused_by, refusal_of, rows_for, step, appends, unless_refused, unless_repeated, is_fit_call, IsAppended}
+use Rattle.office_laws.specs.Accepted.{Accepted, AppendedIsAccepted, NewIsAppended}
+
+-- where none of the refusals stands, the one at that place doesn't
+pub none_at : (refusals : List (Option Refusal)) (place : ℕ) → first_of refusals ≡ None → slice_index_or refusals place None ≡ None
+none_at [] place none = refl
+none_at (Some r ∷ rest) place none = absurd (cc)
+none_at (None ∷ rest) zero none = refl
+none_at (None ∷ rest) (suc place) none = none_at rest place none
+
+-- what is appended is neither a repeat nor refused
+not_refused : (book : Book) (found : Option ActRow) (refused : Option Refusal) (own rows : Batch) →
+    unless_repeated book found (unless_refused refused own) ≡ appends rows → (found ≡ None) × (refused ≡ None) × (own ≡ rows)
+not_refused book None None own rows same = (refl, refl, cc)
+not_refused book None (Some refusal) own rows same = absurd (cc)
+not_refused book (Some row) refused own rows same = absurd (cc)
+
+pub accepted : AppendedIsAccepted
+accepted capacity book rows is =
+    by_parts (not_refused book _ _ (rows_for book rows.act.session (act_day book.acts rows.act.day) is.call) rows is.same)
+  where
+    by_parts : (repeated book.acts is.call.clerk is.call.request (body_of is.call.command) ≡ None)
+        × (refusal_of book capacity (act_day book.acts rows.act.day) is.call ≡ None)
+        × (rows_for book rows.act.session (act_day book.acts rows.act.day) is.call ≡ rows) →
+        Accepted capacity book is.call rows
+    by_parts (found, free, same) =
+        let early_ones : List (Option Refusal) =
+        request_reused book.acts is.call.clerk is.call.request (body_of is.call.command)
+        ∷ refused_by (known_of book) capacity.acts (act_day book.acts rows.act.day) is.call.command ∷ [] in
+        let all : List (Option Refusal) =
+        first_of early_ones
+        ∷ lines_full (length book.lines) (length (lines_of (known_of book) is.call.command)) capacity.lines ∷ [] in
+        let early : first_of early_ones ≡ None = none_at all 0 free in
+        let allowed : refused_by (known_of book) capacity.acts (act_day book.acts rows.act.day) is.call.command ≡ None = none_at early_ones 1 early in
+        let room : lines_full (length book.lines) (length (lines_of (known_of book) is.call.command)) capacity.lines ≡ None = none_at all 1 free in
+        let today : act_day book.acts rows.act.day ≡ rows.act.day = ap (λ (r : Batch). r.act.day) same in
+        let lines : lines_of (known_of book) is.call.command ≡ rows.lines = ap (λ (r : Batch). r.lines) same in
+        record {
+          is_new = found;
+          is_unused = none_at early_ones 0 early;
+          is_allowed = subst (λ (day : ℕ). refused_by (known_of book) capacity.acts day is.call.command ≡ None) today allowed;
+          has_room = subst (λ (made : List Line). lines_full (length book.lines) (length made) capacity.lines ≡ None) lines room;
+          n = sym (ap (λ (r : Batch). r.act.n) same);
+          clerk = sym (ap (λ (r : Batch). r.act.clerk) same);
+          request = sym (ap (λ (r : Batch). r.act.request) same);
+          day = sym today;
+          body = sym (ap (λ (r : Batch). r.act.body) same);
+          made = sym (ap (λ (r : Batch). r.made) same);
+          lines = sym lines;
+        }
+
+-- the day of an act is that of the next act on it
+same_day : (last clock : ℕ) → day_after last (day_after last clock) ≡ day_after last clock
+same_day last clock = omega arith
+
+fit_command : (call : Call) → is_fit_call call ≡ true → is_fit call.command ≡ true
+fit_command call fit =
+    (and_parts (nat_le 1 call.request) (is_fit call.command)
+    (and_parts (is_within 1 9999 call.clerk) (nat_le 1 call.request && is_fit call.command) fit).1).1
+
+-- what is appended on a day is appended on the day of its own act, where its body reads as its command
+pub appended_again : (capacity : Capacity) (book : Book) (session clock : ℕ) (call : Call) (rows : Batch) → is_fit_call call ≡ true →
+    command_in (body_of call.command) ≡ Some call.command → step book capacity session clock call ≡ appends rows → IsAppended capacity book rows
+appended_again capacity book session clock call rows fit reads same =
+    by_parts (not_refused book _ _ (rows_for book session (act_day book.acts clock) call) rows same)
+  where
+    by_parts : (repeated book.acts call.clerk call.request (body_of call.command) ≡ None)
+        × (refusal_of book capacity (act_day book.acts clock) call ≡ None)
+        × (rows_for book session (act_day book.acts clock) call ≡ rows) →
+        IsAppended capacity book rows
+    by_parts (found, free, own) =
+        let day : act_day book.acts rows.act.day ≡ act_day book.acts clock =
+        ap (act_day book.acts) (sym (ap (λ (r : Batch). r.act.day) own)) ∙ same_day (last_act_day book.acts) clock in
+        record {
+          call = call;
+          fit = fit;
+          read = ap command_in (sym (ap (λ (r : Batch). r.act.body) own)) ∙ reads;
+          same =
+              ap₂ (λ (of_session today : ℕ). unless_repeated book (repeated book.acts call.clerk call.request (body_of call.command))
+              (unless_refused (refusal_of book capacity today call) (rows_for book of_session today call)))
+              (sym (ap (λ (r : Batch). r.act.session) own)) day
+              ∙ same;
+        }
+
+pub new_is_appended : NewIsAppended
+new_is_appended capacity book session clock call rows fit holdable same =
+    appended_again capacity book session clock call rows fit (body_again call.command (fit_command call fit) holdable) same

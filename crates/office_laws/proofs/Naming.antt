@@ -1,0 +1,173 @@
+-- Every act and record of a book that an office comes to names applicants and households that are there.
+use Rattle.std.proofs.Common.{◌≡◌, ◌∙◌, sym, ap, refl, subst, ℕ, suc, ◌+◌, ◌<◌, ◌≤◌, arith, Bool, true, false, not, List, [], ◌∷◌, ◌++◌, Option, Some, None, length, option_to_list, All, IfSome, ◌==◌, if◌then◌else◌, slice_index_or}
+use Rattle.std.specs.List.{list_any}
+use Rattle.std.specs.Option.{option_map, option_or}
+use Rattle.std.proofs.lemmas.Bool.{eqb-true}
+use Rattle.std.proofs.lemmas.List.{length-append}
+use Rattle.std.proofs.lemmas.List.Elements.{All-append, All-push, All-weaker, All-nil, All-cons, All-filter}
+use Rattle.std.proofs.lemmas.List.Folds.{Any-from_list_any}
+use Rattle.std.proofs.lemmas.List.FromFn.{length-map-range_with_len}
+use Rattle.std.proofs.lemmas.Option.{IfSome_then}
+use Rattle.record_history.specs.declared.records.Record.{Record}
+use Rattle.rent_table.specs.declared.plan.Plan.{Plan}
+use Rattle.wait_list.specs.declared.applicant.Applicant.{Applicant}
+use Rattle.wait_list.specs.Waiting.{is_listed}
+use Rattle.book_rows.specs.declared.command.Command.{Command}
+use Rattle.book_rows.specs.declared.command.Command.TheVariants as command
+use Rattle.office_step.specs.declared.known.Application.{Application}
+use Rattle.office_step.specs.declared.refusal.Refusal.TheVariants as refusal
+use Rattle.office_step.specs.declared.refusal.Named.TheVariants as named
+use Rattle.office_step.specs.Acts.{Act, plan_in, plan_of, plan_act, apply_in, application_by, applications_of, applicant_of, applicants_of, numbered, takes_off_list, name_given, household_count, ask_in, waiting_of, ranks_of}
+use Rattle.office_step.specs.Households.{own_of}
+use Rattle.office_step.specs.Known.{Known, known_by}
+use Rattle.office_step.specs.Made.{record_of}
+use Rattle.office_step.specs.Refusals.{first_of, no_plan, no_applicant}
+use Rattle.office_step.specs.Step.{is_plan, refused_by, refusals_of, of_admit_first}
+use Rattle.office_laws.specs.Kept.{IsOneOf, NamesOnlyThose}
+use Rattle.office_laws.proofs.Inversion.{none_at}
+use Rattle.office_laws.proofs.Grown.{plan-more, applications-more}
+use Rattle.office_laws.proofs.Heading.{own_free, plan_free, made_within, household_there}
+use Rattle.office_laws.proofs.Names.{count-more}
+
+-- ---- applicants
+
+numbered-within : (ranks : List ℕ) (first : ℕ) (applications : List Application) →
+    All (λ applicant. (first ≤ applicant.number) × (applicant.number < first + length applications)) (numbered (applicant_of ranks) first applications)
+numbered-within ranks first [] = All-nil (λ applicant. (first ≤ applicant.number) × (applicant.number < first + 0))
+numbered-within ranks first (application ∷ applications) =
+    All-cons (λ applicant. (first ≤ applicant.number) × (applicant.number < first + suc (length applications)))
+    (applicant_of ranks first application) (numbered (applicant_of ranks) (first + 1) applications)
+    (omega arith, omega arith)
+    (All-weaker (λ applicant. (first + 1 ≤ applicant.number) × (applicant.number < (first + 1) + length applications))
+    (λ applicant. (first ≤ applicant.number) × (applicant.number < first + suc (length applications)))
+    (λ applicant is. (omega (arith, is.0), omega (arith, is.1)))
+    (numbered (applicant_of ranks) (first + 1) applications)
+    (numbered-within ranks (first + 1) applications))
+
+applicants-within : (ranks : List ℕ) (acts : List Act) → All (λ applicant. IsOneOf (length (applications_of acts)) applicant.number) (applicants_of ranks acts)
+applicants-within ranks acts =
+    All-weaker (λ applicant. (1 ≤ applicant.number) × (applicant.number < 1 + length (applications_of acts)))
+    (λ applicant. IsOneOf (length (applications_of acts)) applicant.number)
+    (λ applicant is. record { least = is.0; most = omega (arith, is.1) })
+    (applicants_of ranks acts)
+    (numbered-within ranks 1 (applications_of acts))
+
+-- who waits has applied
+listed_there : (ranks : List ℕ) (acts : List Act) (applicant : ℕ) → no_applicant (waiting_of ranks acts) applicant ≡ None → IsOneOf (length (applications_of acts)) applicant
+listed_there ranks acts applicant none =
+    let waits : All (λ a. IsOneOf (length (applications_of acts)) a.number) (waiting_of ranks acts) =
+    All-filter (λ (a : Applicant). not (list_any (λ act. takes_off_list a.number act.command) acts))
+    (λ a. IsOneOf (length (applications_of acts)) a.number) (applicants_of ranks acts) (applicants-within ranks acts) in
+    by_place waits (Any-from_list_any (λ a. a.number == applicant) (waiting_of ranks acts) (passes (is_listed (waiting_of ranks acts) applicant) none))
+  where
+    passes : (b : Bool) → (if b then None else Some (refusal.NoSuch named.Applicant applicant)) ≡ None → b ≡ true
+    passes true none = refl
+    passes false none = absurd (cc)
+
+    by_place : All (λ a. IsOneOf (length (applications_of acts)) a.number) (waiting_of ranks acts) →
+        (k : ℕ) × (a : Applicant) × (k < length (waiting_of ranks acts)) × (slice_index_or (waiting_of ranks acts) k a ≡ a) × ((a.number == applicant) ≡ true) →
+        IsOneOf (length (applications_of acts)) applicant
+    by_place waits (k, a, within, same, is) =
+        subst (λ (number : ℕ). IsOneOf (length (applications_of acts)) number)
+        (ap (λ (a : Applicant). a.number) same ∙ eqb-true a.number applicant is) (waits k a within)
+
+-- ---- one act more
+
+module _ (count : ℕ) (acts : List Act) (records : List Record) (only : NamesOnlyThose acts records) (n most today : ℕ) (asked : Command)
+    (allowed : refused_by (known_by count acts records) most today asked ≡ None) where
+  abbrev known : Known
+  known = known_by count acts records
+
+  abbrev act : Act
+  act = record { n = n; command = asked }
+
+  -- without a plan there are no acts, and then the act is a plan
+  planned_more : plan_of (acts ++ act ∷ []) ≡ None → acts ++ act ∷ [] ≡ []
+  planned_more none = by_plans (plan_of acts) (plan_in asked) refl refl (sym (plan-more acts act) ∙ none)
+    where
+      not_plan : (asked : Command) → no_plan None (is_plan asked) ≡ None → plan_in asked ≡ None → acts ++ act ∷ [] ≡ []
+      not_plan (command.Plan plan) free none = absurd (cc)
+      not_plan _ free none = absurd (cc)
+
+      by_plans : (plan given : Option Plan) → plan_of acts ≡ plan → plan_in asked ≡ given → option_or plan given ≡ None → acts ++ act ∷ [] ≡ []
+      by_plans None None unplanned ungiven none =
+          let empty : plan_act acts ≡ None = ap plan_act (only.planned unplanned) in
+          not_plan asked (subst (λ (given : Option ℕ). no_plan given (is_plan asked) ≡ None) empty (plan_free known most today asked allowed).0) ungiven
+      by_plans None (Some plan) unplanned given none = absurd (cc)
+      by_plans (Some plan) given planned is none = absurd (cc)
+
+  off_there : (number : ℕ) → takes_off_list number asked ≡ true → IsOneOf (length (applications_of acts)) number
+  off_there number takes = by_command asked (own_free known most today asked allowed) takes
+    where
+      by_command : (asked : Command) → first_of (refusals_of known today asked) ≡ None → takes_off_list number asked ≡ true →
+          IsOneOf (length (applications_of acts)) number
+      by_command (command.Remove remove) free takes =
+          subst (λ (number : ℕ). IsOneOf (length (applications_of acts)) number) (eqb-true remove.applicant number takes)
+          (listed_there (ranks_of known.plan) acts remove.applicant (none_at (refusals_of known today (command.Remove remove)) 0 free))
+      by_command (command.Admit admit) free takes =
+          subst (λ (number : ℕ). IsOneOf (length (applications_of acts)) number) (eqb-true admit.applicant number takes)
+          (listed_there (ranks_of known.plan) acts admit.applicant
+          (none_at (of_admit_first known admit) 0 (none_at (refusals_of known today (command.Admit admit)) 0 free)))
+      by_command _ free takes = absurd (cc)
+
+  households_counted : length known.households ≡ household_count acts
+  households_counted = length-map-range_with_len (own_of records) 1 (household_count acts)
+
+  pub asked_there : IfSome (ask_in asked) (λ ask. IsOneOf (household_count acts) ask.household)
+  asked_there = by_command asked (own_free known most today asked allowed)
+    where
+      by_command : (asked : Command) → first_of (refusals_of known today asked) ≡ None →
+          IfSome (ask_in asked) (λ ask. IsOneOf (household_count acts) ask.household)
+      by_command (command.AskTransfer ask) free =
+          subst (λ (count : ℕ). IsOneOf count ask.household) households_counted
+          (household_there (length known.households) ask.household (none_at (refusals_of known today (command.AskTransfer ask)) 0 free))
+      by_command _ free = tt
+
+  pub held_there : (r : Record) → record_of known asked ≡ Some r → IsOneOf (household_count (acts ++ act ∷ [])) r.household
+  held_there r is =
+      subst (λ (count : ℕ). IsOneOf count r.household)
+      (ap (λ (count : ℕ). count + length (option_to_list (name_given (applications_of acts) asked))) households_counted
+      ∙ sym (count-more acts records act only))
+      (made_within known today asked r (own_free known most today asked allowed) is)
+
+  longer : (earlier now more number : ℕ) → now ≡ earlier + more → IsOneOf earlier number → IsOneOf now number
+  longer earlier now more number is there = record { least = there.least; most = omega (arith, there.most) }
+
+  applications_longer : length (applications_of (acts ++ act ∷ [])) ≡
+      length (applications_of acts) + length (option_to_list (option_map (application_by n) (apply_in asked)))
+  applications_longer =
+      ap (length {A = Application}) (applications-more acts act)
+      ∙ length-append (applications_of acts) (option_to_list (option_map (application_by n) (apply_in asked)))
+
+  offs : All (λ a. (number : ℕ) → takes_off_list number a.command ≡ true → IsOneOf (length (applications_of (acts ++ act ∷ []))) number) (acts ++ act ∷ [])
+  offs =
+      All-push (λ a. (number : ℕ) → takes_off_list number a.command ≡ true → IsOneOf (length (applications_of (acts ++ act ∷ []))) number) acts act
+      (All-weaker (λ a. (number : ℕ) → takes_off_list number a.command ≡ true → IsOneOf (length (applications_of acts)) number)
+      (λ a. (number : ℕ) → takes_off_list number a.command ≡ true → IsOneOf (length (applications_of (acts ++ act ∷ []))) number)
+      (λ a there number takes. longer (length (applications_of acts)) _ _ number applications_longer (there number takes)) acts only.off)
+      (λ number takes. longer (length (applications_of acts)) _ _ number applications_longer (off_there number takes))
+
+  asks : All (λ a. IfSome (ask_in a.command) (λ ask. IsOneOf (household_count (acts ++ act ∷ [])) ask.household)) (acts ++ act ∷ [])
+  asks =
+      All-push (λ a. IfSome (ask_in a.command) (λ ask. IsOneOf (household_count (acts ++ act ∷ [])) ask.household)) acts act
+      (All-weaker (λ a. IfSome (ask_in a.command) (λ ask. IsOneOf (household_count acts) ask.household))
+      (λ a. IfSome (ask_in a.command) (λ ask. IsOneOf (household_count (acts ++ act ∷ [])) ask.household))
+      (λ a there. IfSome_then (ask_in a.command) there (λ ask is. longer (household_count acts) _ _ ask.household (count-more acts records act only) is)) acts only.asked)
+      (IfSome_then (ask_in asked) asked_there (λ ask is. longer (household_count acts) _ _ ask.household (count-more acts records act only) is))
+
+  one_held : (made : Option Record) → ((r : Record) → made ≡ Some r → IsOneOf (household_count (acts ++ act ∷ [])) r.household) →
+      All (λ r. IsOneOf (household_count (acts ++ act ∷ [])) r.household) (option_to_list made)
+  one_held None there = All-nil (λ r. IsOneOf (household_count (acts ++ act ∷ [])) r.household)
+  one_held (Some r) there =
+      All-cons (λ r. IsOneOf (household_count (acts ++ act ∷ [])) r.household) r [] (there r refl)
+      (All-nil (λ r. IsOneOf (household_count (acts ++ act ∷ [])) r.household))
+
+  helds : All (λ r. IsOneOf (household_count (acts ++ act ∷ [])) r.household) (records ++ option_to_list (record_of known asked))
+  helds =
+      All-append (λ r. IsOneOf (household_count (acts ++ act ∷ [])) r.household) records (option_to_list (record_of known asked))
+      (All-weaker (λ r. IsOneOf (household_count acts) r.household) (λ r. IsOneOf (household_count (acts ++ act ∷ [])) r.household)
+      (λ r is. longer (household_count acts) _ _ r.household (count-more acts records act only) is) records only.held)
+      (one_held (record_of known asked) held_there)
+
+  pub names_only_more : NamesOnlyThose (acts ++ act ∷ []) (records ++ option_to_list (record_of known asked))
+  names_only_more = record { planned = planned_more; off = offs; asked = asks; held = helds }

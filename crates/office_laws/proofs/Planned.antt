@@ -1,0 +1,29 @@
+-- There is a plan wherever another act is accepted.
+use Rattle.std.proofs.Common.{◌≡◌, refl, subst, Bool, false, List, [], Option, Some, None}
+use Rattle.rent_table.specs.declared.plan.Plan.{Plan}
+use Rattle.book_rows.specs.declared.rows.Batch.{Batch}
+use Rattle.book_rows.specs.Book.{Book}
+use Rattle.office_step.specs.declared.call.Capacity.{Capacity}
+use Rattle.office_step.specs.Acts.{Act, acts_of, plan_of, plan_act}
+use Rattle.office_step.specs.Known.{known_of}
+use Rattle.office_step.specs.Refusals.{no_plan}
+use Rattle.office_step.specs.Step.{is_plan, IsAppended, IsReached}
+use Rattle.office_laws.proofs.Inversion.{accepted}
+use Rattle.office_laws.proofs.Heading.{plan_free}
+use Rattle.office_laws.proofs.Reached.{books_are_kept}
+
+planned : (acts : List Act) → (plan_of acts ≡ None → acts ≡ []) → no_plan (plan_act acts) false ≡ None → (plan : Plan) × (plan_of acts ≡ Some plan)
+planned acts first free = by_plan (plan_of acts) refl
+  where
+    by_plan : (found : Option Plan) → plan_of acts ≡ found → (plan : Plan) × (plan_of acts ≡ Some plan)
+    by_plan (Some plan) is = (plan, is)
+    by_plan None is =
+        let none : no_plan (plan_act []) false ≡ None = subst (λ (acts : List Act). no_plan (plan_act acts) false ≡ None) (first is) free in
+        absurd (cc)
+
+pub plan_there : (capacity : Capacity) (book : Book) (rows : Batch) → IsReached capacity book → (appends : IsAppended capacity book rows) →
+    is_plan appends.call.command ≡ false → (plan : Plan) × ((known_of book).plan ≡ Some plan)
+plan_there capacity book rows reached appends other =
+    planned (acts_of book.acts) (books_are_kept capacity book reached).names.planned
+    (subst (λ (plan : Bool). no_plan (plan_act (acts_of book.acts)) plan ≡ None) other
+    (plan_free (known_of book) capacity.acts rows.act.day appends.call.command (accepted capacity book rows appends).is_allowed).0)

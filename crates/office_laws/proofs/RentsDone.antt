@@ -1,0 +1,170 @@
+-- At each closing every record in force has its unit's rents.
+use Rattle.std.proofs.Common.{◌≡◌, ◌∙◌, sym, ap, refl, subst, ℕ, ◌+◌, ◌-◌, ◌<◌, ◌≤◌, ◌⊎◌, inl, inr, arith, Bool, true, false, not, ◌&&◌, List, [], ◌∷◌, Option, Some, None, length, map, All, IfSome, if◌then◌else◌, ◌==◌, get_or, filter, is_some, nat_le}
+use Rattle.std.specs.Option.{option_map, option_map_or, option_and_then}
+use Rattle.std.specs.List.{range_with_len, list_any}
+use Rattle.std.proofs.lemmas.Bool.{false≢true, cases_lt, cases_eq, eqb-true, ne_eqb, not-false, not-true, leb-true, and_from, and_parts}
+use Rattle.std.proofs.lemmas.List.{get_or_past}
+use Rattle.std.proofs.lemmas.List.Elements.{All-nil, All-cons, All-filter, All-weaker, filter_passes}
+use Rattle.std.proofs.lemmas.List.FromFn.{length-range_with_len, get_or-range_with_len}
+use Rattle.days_core.specs.declared.rents.Rents.{Rents}
+use Rattle.days_core.specs.Calendar.{first_of as first_day_of, last_of as last_day_of}
+use Rattle.record_history.specs.declared.records.Record.{Record}
+use Rattle.record_history.specs.Records.{is_withdrawal, is_live, live_records, comes_before, in_force}
+use Rattle.record_history.specs.Held.{records_of}
+use Rattle.rent_table.specs.declared.plan.Plan.{Plan}
+use Rattle.due_dates.specs.Least.{IsLeast}
+use Rattle.due_dates.specs.Stale.{ends_assistance, unit_rents_on, are_other_rents, has_stale_rents, is_rent_stale_on, rent_due_day_of}
+use Rattle.due_dates.proofs.LeastLemmas.{least_that-says}
+use Rattle.book_rows.specs.declared.command.Command.{Command}
+use Rattle.book_rows.specs.declared.command.Command.TheVariants as command
+use Rattle.book_rows.specs.declared.closings.CloseAct.{CloseAct}
+use Rattle.office_step.specs.declared.refusal.Refusal.{Refusal}
+use Rattle.office_step.specs.declared.refusal.Refusal.TheVariants as refusal
+use Rattle.office_step.specs.Known.{Known, known_of, own_in}
+use Rattle.office_step.specs.Refusals.{first_of, household_rent_due, first_household}
+use Rattle.office_step.specs.Step.{is_plan, plan_day, rent_due_in, of_close, refusals_of}
+use Rattle.office_laws.specs.Accepted.{Accepted}
+use Rattle.office_laws.specs.Closing.{HasItsRents, RentsAreDoneAtClosings}
+use Rattle.office_laws.proofs.Inversion.{none_at, accepted}
+use Rattle.office_laws.proofs.Heading.{own_free}
+use Rattle.office_laws.proofs.Planned.{plan_there}
+use Rattle.office_laws.proofs.RentsStand.{BeganWithRents, all_of, rents-later, began_with_rents}
+use Rattle.row_choice.proofs.LatestLemmas.{latest-among}
+
+-- where nothing stands against the households, nothing does against one of them
+none_of : (refused : ℕ → Option Refusal) (numbers : List ℕ) → first_of (map refused numbers) ≡ None → All (λ number. refused number ≡ None) numbers
+none_of refused [] none = All-nil (λ number. refused number ≡ None)
+none_of refused (number ∷ numbers) none = by_first (none_of refused numbers) (refused number) refl none
+  where
+    by_first : (first_of (map refused numbers) ≡ None → All (λ number. refused number ≡ None) numbers) → (found : Option Refusal) → refused number ≡ found →
+        first_of (found ∷ map refused numbers) ≡ None → All (λ number. refused number ≡ None) (number ∷ numbers)
+    by_first rest None is none = All-cons (λ number. refused number ≡ None) number numbers is (rest none)
+    by_first rest (Some r) is none = absurd (cc)
+
+pub none_of_household : (refused : ℕ → Option Refusal) (count household : ℕ) → first_household refused count ≡ None → 1 ≤ household → household ≤ count → refused household ≡ None
+none_of_household refused count household none least most =
+    subst (λ (number : ℕ). refused number ≡ None)
+    (get_or-range_with_len 1 count (household - 1) 0 (omega (arith, least, most)) ∙ (let same : 1 + (household - 1) ≡ household = omega arith in same))
+    (none_of refused (range_with_len 1 count) none (household - 1) 0 (omega (arith, least, most, length-range_with_len 1 count)))
+
+module _ (known : Known) (first last household : ℕ) where
+  -- a day on which rents are due is one on which a record is in force
+  none_due : household_rent_due (own_in known household) known.units known.rents first last household ≡ None →
+      (day : ℕ) → first ≤ day → day ≤ last → is_rent_stale_on (own_in known household) known.units known.rents day ≡ false
+  none_due none = by_day (rent_due_day_of (own_in known household) known.units known.rents first last)
+      (least_that-says (is_rent_stale_on (own_in known household) known.units known.rents) first last) none
+    where
+      by_day : (found : Option ℕ) → IsLeast (is_rent_stale_on (own_in known household) known.units known.rents) first last found →
+          option_and_then (λ (day : ℕ). option_map (λ (r : Record). refusal.RentDue household r.number day) (in_force (own_in known household) day)) found ≡ None →
+          (day : ℕ) → first ≤ day → day ≤ last → is_rent_stale_on (own_in known household) known.units known.rents day ≡ false
+      by_day None least none = least
+      by_day (Some day) least none = absurd (by_force (in_force (own_in known household) day) least.this none)
+        where
+          by_force : (held : Option Record) →
+              option_map_or (λ (r : Record). not (ends_assistance r.kind) && has_stale_rents known.units known.rents day r) held false ≡ true →
+              option_map (λ (r : Record). refusal.RentDue household r.number day) held ≡ None → ⊥
+          by_force None stale none = false≢true stale
+          by_force (Some r) stale none = absurd (cc)
+
+  -- rents that aren't stale are those of the unit
+  not_stale : (day : ℕ) → is_rent_stale_on (own_in known household) known.units known.rents day ≡ false →
+      IfSome (in_force (own_in known household) day) (λ r. ends_assistance r.kind ≡ false →
+      IfSome (unit_rents_on known.units known.rents r.unit day) (λ rents. r.rents ≡ rents))
+  not_stale day fresh = by_force (in_force (own_in known household) day) fresh
+    where
+      by_rents : (own : Rents) (rents : Option Rents) → option_map_or (are_other_rents own) rents false ≡ false → IfSome rents (λ rents. own ≡ rents)
+      by_rents own None fresh = tt
+      by_rents own (Some rents) fresh =
+          let both = and_parts (own.contract_rent == rents.contract_rent) (own.utility == rents.utility)
+          (not-false (own.contract_rent == rents.contract_rent && own.utility == rents.utility) fresh) in
+          same_rents own rents (eqb-true own.contract_rent rents.contract_rent both.0) (eqb-true own.utility rents.utility both.1)
+        where
+          same_rents : (own rents : Rents) → own.contract_rent ≡ rents.contract_rent → own.utility ≡ rents.utility → own ≡ rents
+          same_rents own rents contract utility = λ i. record { contract_rent = contract i; utility = utility i }
+
+      of_kind : (r : Record) (ends : Bool) → ends ≡ false → (not ends && has_stale_rents known.units known.rents day r) ≡ false →
+          has_stale_rents known.units known.rents day r ≡ false
+      of_kind r true ends fresh = absurd (cc)
+      of_kind r false ends fresh = fresh
+
+      by_force : (held : Option Record) →
+          option_map_or (λ (r : Record). not (ends_assistance r.kind) && has_stale_rents known.units known.rents day r) held false ≡ false →
+          IfSome held (λ r. ends_assistance r.kind ≡ false → IfSome (unit_rents_on known.units known.rents r.unit day) (λ rents. r.rents ≡ rents))
+      by_force None fresh = tt
+      by_force (Some r) fresh = λ ends. by_rents r.rents (unit_rents_on known.units known.rents r.unit day) (of_kind r (ends_assistance r.kind) ends fresh)
+
+-- the record in force on the day has no other rents than its unit
+abbrev HasNoOther : Known → List Record → ℕ → Type 0
+HasNoOther known own day =
+    IfSome (in_force own day) (λ r. ends_assistance r.kind ≡ false → IfSome (unit_rents_on known.units known.rents r.unit day) (λ rents. r.rents ≡ rents))
+
+no_other : (known : Known) (close : CloseAct) (plan : Plan) → known.plan ≡ Some plan → rent_due_in known close ≡ None →
+    (household day : ℕ) → first_day_of plan.first ≤ day → day ≤ last_day_of close.month → HasNoOther known (own_in known household) day
+no_other known close plan has none household day from to = by_place (cases_eq household 0) (cases_lt (length known.households) household)
+  where
+    of_none : own_in known household ≡ [] → HasNoOther known (own_in known household) day
+    of_none empty = subst (λ (own : List Record). HasNoOther known own day) (sym empty) tt
+
+    by_place : (household ≡ 0) ⊎ (household ≡ 0 → ⊥) → (length known.households < household) ⊎ (household ≤ length known.households) →
+        HasNoOther known (own_in known household) day
+    by_place (inl is_zero) within = of_none (ap (own_in known) is_zero)
+    by_place (inr other) (inl past) =
+        of_none (ap (λ (none : Bool). if none then [] else get_or known.households (household - 1) []) (ne_eqb household 0 other)
+        ∙ get_or_past known.households (household - 1) [] (omega (arith, past)))
+    by_place (inr other) (inr within) =
+        let begins : plan_day known ≡ first_day_of plan.first = ap (λ (found : Option Plan). option_map_or (λ (plan : Plan). first_day_of plan.first) found 0) has in
+        let least : 1 ≤ household = omega (arith, other) in
+        not_stale known 0 0 household day
+        (none_due known (plan_day known) (last_day_of close.month) household
+        (none_of_household (λ household. household_rent_due (records_of known.households household) known.units known.rents (plan_day known) (last_day_of close.month) household)
+        (length known.households) household none least within)
+        day (omega arith) to)
+
+-- the record in force has begun, certifies unless it ends assistance, and its unit had rents when it began
+abbrev Begun : Known → ℕ → Record → Type 0
+Begun known day r = BeganWithRents known r × (r.from ≤ day) × (is_withdrawal r.kind ≡ false)
+
+in_force_begun : (known : Known) (own : List Record) (day : ℕ) → All (BeganWithRents known) own → IfSome (in_force own day) (Begun known day)
+in_force_begun known own day began =
+    latest-among comes_before (Begun known day) None (filter (λ (r : Record). nat_le r.from day) (live_records own)) tt
+    (λ k d within. (
+      All-filter (λ (r : Record). nat_le r.from day) (BeganWithRents known) (live_records own) (All-filter (is_live own) (BeganWithRents known) own began) k d within,
+      leb-true _ day (filter_passes (λ (r : Record). nat_le r.from day) (live_records own) k d within),
+      All-filter (λ (r : Record). nat_le r.from day) (λ r. is_withdrawal r.kind ≡ false) (live_records own)
+          (All-weaker (λ r. is_live own r ≡ true) (λ r. is_withdrawal r.kind ≡ false)
+          (λ r lives. not-true (is_withdrawal r.kind) (and_parts (not (is_withdrawal r.kind)) (not (list_any (λ (other : Record). other.corrects == r.number) own)) lives).0)
+          (live_records own) (filter_passes (is_live own) own)) k d within,
+    ))
+
+its_rents : (known : Known) (day : ℕ) (held : Option Record) → IfSome held (Begun known day) →
+    IfSome held (λ r. ends_assistance r.kind ≡ false → IfSome (unit_rents_on known.units known.rents r.unit day) (λ rents. r.rents ≡ rents)) →
+    IfSome held (λ r. ends_assistance r.kind ≡ false → unit_rents_on known.units known.rents r.unit day ≡ Some r.rents)
+its_rents known day None begun same = tt
+its_rents known day (Some r) (began, from, certifying) same = λ ends.
+    by_rents (unit_rents_on known.units known.rents r.unit day)
+    (rents-later known.units known.rents r.unit r.from day from
+    (began (and_from (not (ends_assistance r.kind)) (not (is_withdrawal r.kind)) (ap (λ (b : Bool). not b) ends) (ap (λ (b : Bool). not b) certifying))))
+    (same ends)
+  where
+    by_rents : (found : Option Rents) → is_some found ≡ true → IfSome found (λ rents. r.rents ≡ rents) → found ≡ Some r.rents
+    by_rents None some same = absurd (cc)
+    by_rents (Some rents) some same = ap (λ (rents : Rents). Some rents) (sym same)
+
+rents_done : (known : Known) (close : CloseAct) (plan : Plan) → All (All (BeganWithRents known)) known.households → known.plan ≡ Some plan →
+    rent_due_in known close ≡ None → HasItsRents known close.month plan
+rents_done known close plan began has none household day from to =
+    its_rents known day (in_force (own_in known household) day)
+    (in_force_begun known (own_in known household) day (all_of known known.households began household))
+    (no_other known close plan has none household day from to)
+
+pub rents_are_done_at_closings : RentsAreDoneAtClosings
+rents_are_done_at_closings capacity book rows reached appends close closes = by_plan (plan_there capacity book rows reached appends (ap is_plan closes))
+  where
+    by_plan : (plan : Plan) × ((known_of book).plan ≡ Some plan) → IfSome (known_of book).plan (HasItsRents (known_of book) close.month)
+    by_plan (plan, has) =
+        let is : Accepted capacity book appends.call rows = accepted capacity book rows appends in
+        let free : first_of (refusals_of (known_of book) rows.act.day (command.Close close)) ≡ None =
+        subst (λ (asked : Command). first_of (refusals_of (known_of book) rows.act.day asked) ≡ None) closes
+        (own_free (known_of book) capacity.acts rows.act.day appends.call.command is.is_allowed) in
+        subst (λ (found : Option Plan). IfSome found (HasItsRents (known_of book) close.month)) (sym has)
+        (rents_done (known_of book) close plan (began_with_rents capacity book reached) has (none_at (of_close (known_of book) close) 1 free))

@@ -1,0 +1,11 @@
+pub mod Accepted
+pub mod Kept
+pub mod After
+pub mod History
+pub mod Replies
+pub mod AtHand
+pub mod Tenancy
+pub mod Taken
+pub mod Conserved
+pub mod Closing
+pub mod Replay

@@ -1,0 +1,82 @@
+ghost use Rattle.office_laws.specs.Accepted.{AppendedIsAccepted, NewIsAppended};
+ghost use Rattle.office_laws.specs.Kept.{BooksAreKept, BatchesFollow};
+ghost use Rattle.office_laws.specs.History.{RowsCameByActs};
+ghost use Rattle.office_laws.specs.Replay.{ActsGiveTheBook, RedoneIsAppended};
+ghost use Rattle.office_laws.specs.Replies.{RepliesStay, RepeatsAreAnswered, FirstRepliesAreGivenAgain};
+ghost use Rattle.office_laws.specs.Tenancy.{HouseholdsAreInOrder, NoUnitIsShared};
+ghost use Rattle.office_laws.specs.Taken.{NextIsTaken};
+ghost use Rattle.office_laws.specs.Conserved.{LinesAreSettled, LinesTotalWhatIsDue};
+ghost use Rattle.office_laws.specs.Closing.{KnownAsOfStays, ClosingsNameTheirPairs, RentsAreDoneAtClosings};
+ghost use Rattle.office_laws.specs.After.{KnownAfter};
+
+/// What is appended to a book is what its call asks for, and nothing refuses it; and what the office appends for a call is
+/// so appended. It does nothing.
+pub fn appended_is_accepted()
+    ensures accepted { AppendedIsAccepted }
+    ensures new { NewIsAppended }
+{}
+
+/// What holds of every book: of its acts, of its records and lines, and of what they name. It does nothing.
+pub fn books_are_kept()
+    ensures { BooksAreKept }
+{}
+
+/// What is known by a book with one act more is what is known after that act. It does nothing.
+pub fn known_after_each_act()
+    ensures { KnownAfter }
+{}
+
+/// The rows that are appended are those of one act, and come after those of every earlier act. It does nothing.
+pub fn batches_follow()
+    ensures { BatchesFollow }
+{}
+
+/// Later acts leave the reply to an act, and its call is given that reply again, on the book and on every later one. It
+/// does nothing.
+pub fn repeats_are_answered()
+    ensures stay { RepliesStay }
+    ensures answered { RepeatsAreAnswered }
+    ensures first { FirstRepliesAreGivenAgain }
+{}
+
+/// The records of every household are numbered, and those that live are in order. It does nothing.
+pub fn households_are_in_order()
+    ensures { HouseholdsAreInOrder }
+{}
+
+/// On no day through 2099-12-31 do two households have one unit. It does nothing.
+pub fn no_unit_is_shared()
+    ensures { NoUnitIsShared }
+{}
+
+/// Each admission and each transfer takes the candidate who is next for its unit on its first day. It does nothing.
+pub fn next_is_taken()
+    ensures { NextIsTaken }
+{}
+
+/// After any acts the lines of every household and month total what was certified for it at the last closing. It does
+/// nothing.
+pub fn lines_total_what_is_due()
+    ensures settled { LinesAreSettled }
+    ensures total { LinesTotalWhatIsDue }
+{}
+
+/// What was known as of an act stays known, so that the lines of each closing name their records ever after; and at each
+/// closing every record in force has its unit's rents. It does nothing.
+pub fn closings_are_in_order()
+    ensures stays { KnownAsOfStays }
+    ensures lines { ClosingsNameTheirPairs }
+    ensures rents { RentsAreDoneAtClosings }
+{}
+
+/// Every act, every record and every line of a book was appended by one act on the way to it. It does nothing.
+pub fn rows_came_by_acts()
+    ensures { RowsCameByActs }
+{}
+
+/// A book is what its acts give when they are done again from nothing, and what doing an act again appends is appended. It
+/// does nothing.
+pub fn acts_give_the_book()
+    ensures whole { ActsGiveTheBook }
+    ensures each { RedoneIsAppended }
+{}

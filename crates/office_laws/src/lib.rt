@@ -1,0 +1,15 @@
+//! What holds of every book that an office can come to.
+#![tactic(auto)]
+
+mod at_hand;
+mod laws;
+
+pub use at_hand::{
+    applicant_replies, days_are_lived, new_replies, next_records, requests_are_once, unit_replies,
+    within_room,
+};
+pub use laws::{
+    acts_give_the_book, appended_is_accepted, batches_follow, books_are_kept,
+    closings_are_in_order, households_are_in_order, known_after_each_act, lines_total_what_is_due,
+    next_is_taken, no_unit_is_shared, repeats_are_answered, rows_came_by_acts,
+};
