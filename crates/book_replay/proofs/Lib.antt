@@ -1,0 +1,5 @@
+pub mod InPlace
+pub mod Gathered
+pub mod Again
+pub mod Reached
+pub mod Compared

@@ -1,0 +1,204 @@
+-- An office's own tables: each act that is done again appends the rows that are there.
+use Rattle.std.proofs.Common.{◌≡◌, ◌∙◌, sym, ap, ap₂, refl, subst, ℕ, ◌+◌, ◌≤◌, ◌<◌, ◌==◌, ◌&&◌, arith, Bool, true, false, not, List, [], ◌∷◌, ◌++◌, Option, Some, None, length, filter, option_and_then, option_to_list, if◌then◌else◌, append_assoc, All, IfSome}
+use Rattle.std.specs.Option.{option_or, option_map, option_eq}
+use Rattle.std.specs.Cmp.{booleans_Decides}
+use Rattle.std.specs.Cmp.Lexicographic.{pointwise, pointwise_decides}
+use Rattle.std.proofs.lemmas.Bool.{and_from, eq-eqb}
+use Rattle.std.proofs.lemmas.Bool.Decides.{Decides-int_eq}
+use Rattle.std.proofs.lemmas.Slice.Eq.{bytes_eq-Decides}
+use Rattle.std.proofs.lemmas.List.{append-nil, length_push}
+use Rattle.std.proofs.lemmas.List.Elements.{All-nil, All-cons, All-append, All-weaker, filter-append}
+use Rattle.record_history.specs.declared.records.Dates.{Dates}
+use Rattle.record_history.specs.declared.records.Record.{Record}
+use Rattle.voucher_core.specs.declared.line.Line.{Line}
+use Rattle.book_rows.specs.declared.command.Command.{Command}
+use Rattle.book_rows.specs.declared.rows.ActRow.{ActRow}
+use Rattle.book_rows.specs.declared.rows.Batch.{Batch}
+use Rattle.book_rows.specs.declared.rows.Table.TheVariants as table
+use Rattle.book_rows.specs.Book.{Book, IsBatch, IsBefore, empty_book, appended}
+use Rattle.book_rows.specs.Same.{kind_number, same_dates, same_heading, same_figures, same_act, same_record, same_line}
+use Rattle.book_rows.proofs.SameRows.{record_equal, line_equal}
+use Rattle.office_step.specs.declared.call.Call.{Call}
+use Rattle.office_step.specs.declared.call.Capacity.{Capacity}
+use Rattle.office_step.specs.declared.fault.Fault.{Fault}
+use Rattle.office_step.specs.Step.{step, IsAppended, IsReached, reached_empty, reached_more}
+use Rattle.office_step.specs.Valid.{fault_in, fit_call, call_of, rows_in, replayed, difference, records_by, lines_by, with_rows, fault_from}
+use Rattle.office_laws.specs.Accepted.{Accepted, AppendedIsAccepted}
+use Rattle.office_laws.specs.Kept.{Kept, BooksAreKept, BatchesFollow}
+use Rattle.book_replay.specs.Replay.{ReachedIsValid}
+use Rattle.book_replay.proofs.InPlace.{in_place}
+use Rattle.book_replay.proofs.Gathered.{all_kept, none_kept, not_eq}
+
+-- ---- a row is the same as itself
+
+number : (n : ℕ) (rest : Bool) → rest ≡ true → (n == n && rest) ≡ true
+number n rest is = and_from (n == n) rest (eq-eqb n n refl) is
+
+act_itself : (a : ActRow) → same_act a a ≡ true
+act_itself a = number a.n _ (number a.session _ (number a.clerk _ (number a.request _ (number a.day _ ((bytes_eq-Decides a.body a.body).1 refl)))))
+
+dates_themselves : (dates : Option Dates) → option_eq same_dates dates dates ≡ true
+dates_themselves None = refl
+dates_themselves (Some dates) = number dates.event _ (number dates.notice _ (eq-eqb dates.done dates.done refl))
+
+record_itself : (r : Record) → same_record r r ≡ true
+record_itself r =
+    and_from (same_heading r r) (same_figures r r)
+    (number r.household _ (number r.number _ (number r.act _ (number (kind_number r.kind) _ (number r.from _ (number r.corrects _ (eq-eqb r.unit r.unit refl)))))))
+    (number r.persons _ (number r.size _ (and_from _ _ ((booleans_Decides r.extremely r.extremely).1 refl)
+    (number r.annual _ (number r.adjusted _ (number r.ttp _ (number r.rents.contract_rent _ (number r.rents.utility _ (number r.assistance _ (dates_themselves r.dates))))))))))
+
+line_itself : (line : Line) → same_line line line ≡ true
+line_itself line =
+    number line.act _ (number line.place _ (number line.month _ (number line.household _ (number line.for_month _ (number line.first _ (number line.last _
+    (number line.old _ (number line.new _ ((Decides-int_eq line.amount line.amount).1 refl)))))))))
+
+records_decide : (a b : Record) → (same_record a b ≡ true → a ≡ b) × (a ≡ b → same_record a b ≡ true)
+records_decide a b = (record_equal a b, λ is. subst (λ (r : Record). same_record a r ≡ true) is (record_itself a))
+
+lines_decide : (a b : Line) → (same_line a b ≡ true → a ≡ b) × (a ≡ b → same_line a b ≡ true)
+lines_decide a b = (line_equal a b, λ is. subst (λ (line : Line). same_line a line ≡ true) is (line_itself a))
+
+-- ---- rows by their act
+
+module _ {X : Type 0} (n : X → ℕ) where
+  abbrev only : ℕ → List X → List X
+  only k xs = filter (λ x. n x == k) xs
+
+  -- of rows up to some act and then rows of another, those of the earlier acts
+  only_earlier : (k act : ℕ) (xs ys : List X) → k < act → All (λ y. n y ≡ act) ys → only k (xs ++ ys) ≡ only k xs
+  only_earlier k act xs ys before own =
+      filter-append (λ x. n x == k) xs ys
+      ∙ ap (λ (later : List X). only k xs ++ later)
+      (none_kept (λ x. n x == k) ys
+      (All-weaker (λ y. n y ≡ act) (λ y. (n y == k) ≡ false) (λ y is. not_eq (n y) k (λ same. absurd (omega (arith, before, is, same)))) ys own))
+      ∙ append-nil (only k xs)
+
+  -- and those of the last
+  only_last : (act : ℕ) (xs ys : List X) → All (λ x. n x < act) xs → All (λ y. n y ≡ act) ys → only act (xs ++ ys) ≡ ys
+  only_last act xs ys before own =
+      filter-append (λ x. n x == act) xs ys
+      ∙ ap₂ (λ (earlier later : List X). earlier ++ later)
+      (none_kept (λ x. n x == act) xs
+      (All-weaker (λ x. n x < act) (λ x. (n x == act) ≡ false) (λ x less. not_eq (n x) act (λ same. absurd (omega (arith, less, same)))) xs before))
+      (all_kept (λ x. n x == act) ys (All-weaker (λ y. n y ≡ act) (λ y. (n y == act) ≡ true) (λ y is. eq-eqb (n y) act is) ys own))
+
+all_of_option : {X : Type 0} (P : X → Type 0) (made : Option X) → IfSome made P → All P (option_to_list made)
+all_of_option P None each = All-nil P
+all_of_option P (Some x) each = All-cons P x [] each (All-nil P)
+
+-- ---- one act
+
+-- the tables have the book's own rows of each of its acts
+record HasRows (tables book : Book) : Type 0 where
+  records : (k : ℕ) → k ≤ length book.acts → records_by k tables.records ≡ records_by k book.records
+  lines : (k : ℕ) → k ≤ length book.acts → lines_by k tables.lines ≡ lines_by k book.lines
+
+module _ (accepted : AppendedIsAccepted) (follow : BatchesFollow) (capacity : Capacity) (tables book : Book) (rows : Batch)
+    (reached : IsReached capacity book) (more : IsAppended capacity book rows) where
+  is : Accepted capacity book more.call rows
+  is = accepted capacity book rows more
+
+  own : IsBatch rows
+  own = (follow capacity book rows reached more).0
+
+  earlier : IsBefore book rows.act.n
+  earlier = (follow capacity book rows reached more).1
+
+  own_records : All (λ r. r.act ≡ rows.act.n) (option_to_list rows.made)
+  own_records = all_of_option (λ r. r.act ≡ rows.act.n) rows.made own.made
+
+  has_before : HasRows tables (appended book rows) → HasRows tables book
+  has_before has = record {
+    records = λ k within. has.records k (omega (arith, within, length_push book.acts rows.act))
+        ∙ only_earlier (λ (r : Record). r.act) k rows.act.n book.records (option_to_list rows.made) (omega (arith, within, is.n)) own_records;
+    lines = λ k within. has.lines k (omega (arith, within, length_push book.acts rows.act))
+        ∙ only_earlier (λ (line : Line). line.act) k rows.act.n book.lines rows.lines (omega (arith, within, is.n)) own.lines;
+  }
+
+  same_rows : HasRows tables (appended book rows) → difference tables rows.act (Some rows) ≡ None
+  same_rows has = by_tests _ (act_itself rows.act) _ same_made _ same_lines
+    where
+      last : rows.act.n ≤ length (appended book rows).acts
+      last = omega (arith, length_push book.acts rows.act, is.n)
+
+      same_made : pointwise same_record (option_to_list rows.made) (records_by rows.act.n tables.records) ≡ true
+      same_made =
+          (pointwise_decides records_decide (option_to_list rows.made) (records_by rows.act.n tables.records)).1
+          (sym (has.records rows.act.n last ∙ only_last (λ (r : Record). r.act) rows.act.n book.records (option_to_list rows.made) earlier.records own_records))
+
+      same_lines : pointwise same_line rows.lines (lines_by rows.act.n tables.lines) ≡ true
+      same_lines =
+          (pointwise_decides lines_decide rows.lines (lines_by rows.act.n tables.lines)).1
+          (sym (has.lines rows.act.n last ∙ only_last (λ (line : Line). line.act) rows.act.n book.lines rows.lines earlier.lines own.lines))
+
+      by_tests : (act : Bool) → act ≡ true → (made : Bool) → made ≡ true → (lines : Bool) → lines ≡ true →
+          (if not act then Some (fault_in table.Acts rows.act.n)
+          else if not made then Some (fault_in table.Records rows.act.n)
+          else if not lines then Some (fault_in table.Lines rows.act.n)
+          else None) ≡ None
+      by_tests false is_act made is_made lines are_lines = absurd (cc)
+      by_tests true is_act false is_made lines are_lines = absurd (cc)
+      by_tests true is_act true is_made false are_lines = absurd (cc)
+      by_tests true is_act true is_made true are_lines = refl
+
+  call_is : call_of rows.act ≡ Some more.call
+  call_is =
+      ap (option_and_then (λ (asked : Command). fit_call (record { clerk = rows.act.clerk; request = rows.act.request; command = asked }))) more.read
+      ∙ ap₂ (λ (clerk request : ℕ). fit_call (record { clerk = clerk; request = request; command = more.call.command })) is.clerk is.request
+      ∙ ap (λ (fit : Bool). if fit then Some more.call else None) more.fit
+
+  done_again : replayed capacity book rows.act ≡ Some rows
+  done_again =
+      ap (option_and_then (λ (call : Call). rows_in (step book capacity rows.act.session rows.act.day call))) call_is
+      ∙ ap rows_in more.same
+
+-- ---- all acts
+
+module _ (accepted : AppendedIsAccepted) (follow : BatchesFollow) (capacity : Capacity) (tables : Book) where
+  fault_through : (book : Book) → IsReached capacity book → (rest : List ActRow) → HasRows tables book →
+      fault_from capacity tables empty_book (book.acts ++ rest) ≡ fault_from capacity tables book rest
+  fault_through _ reached_empty rest has = refl
+  fault_through _ (reached_more {book} {rows} reached more) rest has =
+      ap (fault_from capacity tables empty_book) (append_assoc book.acts (rows.act ∷ []) rest)
+      ∙ fault_through book reached (rows.act ∷ rest) (has_before accepted follow capacity tables book rows reached more has)
+      ∙ ap (λ (found : Option Batch). option_or (difference tables rows.act found) (fault_from capacity tables (with_rows book found) rest))
+      (done_again accepted follow capacity tables book rows reached more)
+      ∙ ap (λ (first : Option Fault). option_or first (fault_from capacity tables (appended book rows) rest))
+      (same_rows accepted follow capacity tables book rows reached more has)
+
+-- every record and line is of an act from 1
+record FromOne (book : Book) : Type 0 where
+  records : All (λ r. 1 ≤ r.act) book.records
+  lines : All (λ line. 1 ≤ line.act) book.lines
+
+from_one : AppendedIsAccepted → BatchesFollow → (capacity : Capacity) (book : Book) → IsReached capacity book → FromOne book
+from_one accepted follow capacity _ reached_empty = record { records = All-nil (λ r. 1 ≤ r.act); lines = All-nil (λ line. 1 ≤ line.act) }
+from_one accepted follow capacity _ (reached_more {book} {rows} reached more) =
+    let so_far : FromOne book = from_one accepted follow capacity book reached in
+    let n : rows.act.n ≡ length book.acts + 1 = (accepted capacity book rows more).n in
+    let own : IsBatch rows = (follow capacity book rows reached more).0 in
+    record {
+      records = All-append (λ r. 1 ≤ r.act) book.records (option_to_list rows.made) so_far.records
+          (All-weaker (λ r. r.act ≡ rows.act.n) (λ r. 1 ≤ r.act) (λ r is. omega (arith, is, n)) (option_to_list rows.made)
+          (all_of_option (λ r. r.act ≡ rows.act.n) rows.made own.made));
+      lines = All-append (λ line. 1 ≤ line.act) book.lines rows.lines so_far.lines
+          (All-weaker (λ line. line.act ≡ rows.act.n) (λ line. 1 ≤ line.act) (λ line is. omega (arith, is, n)) rows.lines own.lines);
+    }
+
+no_stray : (count : ℕ) (records lines : Option ℕ) → records ≡ None → lines ≡ None →
+    option_or (option_map (fault_in table.Records) records) (option_map (fault_in table.Lines) lines) ≡ None
+no_stray count (Some act) lines none also = absurd (cc)
+no_stray count None (Some act) none also = absurd (cc)
+no_stray count None None none also = refl
+
+pub reached_is_valid : AppendedIsAccepted → BatchesFollow → BooksAreKept → ReachedIsValid
+reached_is_valid accepted follow are_kept capacity book reached =
+    let kept : Kept capacity book = are_kept capacity book reached in
+    let ones : FromOne book = from_one accepted follow capacity book reached in
+    ap (fault_from capacity book empty_book) (sym (append-nil book.acts))
+    ∙ fault_through accepted follow capacity book book reached [] (record { records = λ k within. refl; lines = λ k within. refl })
+    ∙ no_stray (length book.acts) _ _
+    (in_place (λ (r : Record). r.act) (length book.acts) 0 book.records (λ k d within. omega arith) ones.records kept.made.of_records
+    (λ i j d before within. (let less = kept.made.records_rise i j d before within in omega (arith, less))))
+    (in_place (λ (line : Line). line.act) (length book.acts) 0 book.lines (λ k d within. omega arith) ones.lines kept.made.of_lines kept.made.lines_rise)

@@ -1,0 +1,10 @@
+use Rattle.std.proofs.Common.{◌≡◌, ◌≤◌, drop, length}
+use Rattle.std.specs.Cmp.Lexicographic.{pointwise}
+use Rattle.book_rows.specs.Same.{same_record}
+use Rattle.office_step.specs.Valid.{records_by}
+use Rattle.book_replay.proofs.compare.are_records_by.Given as goal
+
+abbrev pub invariant-loop-made : goal.invariant-loop-made
+invariant-loop-made l =
+    (l.seen ≤ length l.own)
+    × (pointwise same_record (drop l.seen l.own) (records_by l.n (drop l.made-index l.records)) ≡ pointwise same_record l.own (records_by l.n l.records))

@@ -1,0 +1,9 @@
+use Rattle.std.proofs.Common.{◌∙◌, ◌==◌, ap}
+use Rattle.voucher_core.specs.declared.line.Line.{Line}
+use Rattle.office_step.specs.Valid.{lines_by}
+use Rattle.book_replay.proofs.Gathered.{kept_again}
+use Rattle.book_replay.proofs.near.lines_near.Goals as goal
+
+pub returns-then-in_order : goal.returns-then-in_order
+returns-then-in_order c =
+    ap (lines_by c.args.n) c.lines_of_act.ensures ∙ kept_again (λ (line : Line). line.act == c.args.n) c.args.lines.now

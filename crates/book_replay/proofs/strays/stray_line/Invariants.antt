@@ -1,0 +1,7 @@
+use Rattle.std.proofs.Common.{◌≡◌, map, drop}
+use Rattle.office_step.specs.Valid.{stray}
+use Rattle.book_replay.proofs.strays.stray_line.Given as goal
+
+abbrev pub invariant-loop-line : goal.invariant-loop-line
+invariant-loop-line l =
+    stray l.count l.last (map (λ line. line.act) (drop l.line-index l.lines)) ≡ stray l.count 0 (map (λ line. line.act) l.lines)

@@ -1,0 +1,9 @@
+use Rattle.std.proofs.Common.{rules, nat_lt}
+use Rattle.std.proofs.lemmas.List.Sorted.{IsPartitionPoint-from_clause, IsPartitionedBy-ltb}
+use Rattle.book_search.proofs.Stretch.{never_falls_either}
+use Rattle.book_replay.proofs.stretch.first_record.Goals as goal
+
+pub returns-clause-point : goal.returns-clause-point
+returns-clause-point c =
+    IsPartitionPoint-from_clause (λ x. nat_lt x.act c.args.n) _ _ c.partition_point.ensures.partitioned
+    (IsPartitionedBy-ltb (λ x. x.act) _ _ (never_falls_either (λ x. x.act) _ c.requires)) (λ a r f called. search rules)

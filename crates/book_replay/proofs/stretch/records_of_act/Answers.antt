@@ -1,0 +1,13 @@
+use Rattle.std.proofs.Common.{◌≡◌, ◌∙◌, ◌-◌, length, take, drop, ap, arith, length-drop}
+use Rattle.std.proofs.lemmas.List.{take_all}
+use Rattle.book_search.proofs.Stretch.{filter_stretch}
+use Rattle.book_replay.proofs.stretch.records_of_act.Goals as goal
+
+pub returns : goal.returns
+returns c =
+    let records = c.args.records.now in
+    let i = c.first_record.result in
+    let rest : take (length records - i) (drop i records) ≡ drop i records = take_all (length records - i) (drop i records) (omega (arith, length-drop i records)) in
+    ap (take c.records_up_to.result) rest
+    ∙ filter_stretch (λ r. r.act) records c.args.n i c.records_up_to.result c.first_record.ensures.bound
+    (rw rest at c.records_up_to.ensures.bound) c.first_record.ensures.point (rw rest at c.records_up_to.ensures.point)

@@ -1,0 +1,17 @@
+//! What it takes to do each act of a book's tables again, and that this tells which tables are an office's own.
+#![tactic(auto)]
+
+mod calls;
+mod compare;
+mod given;
+mod laws;
+mod near;
+mod strays;
+mod stretch;
+
+pub use calls::call_of;
+pub use given::Given;
+pub use laws::{reached_is_valid, replay_is_kept, valid_is_reached};
+
+#[cfg(test)]
+mod tests;
