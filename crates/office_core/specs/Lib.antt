@@ -1,0 +1,4 @@
+pub mod Planned
+pub mod Judged
+pub mod Office
+pub mod Opening

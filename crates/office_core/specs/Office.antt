@@ -1,0 +1,39 @@
+-- An office of one clerk: its book, how much that may hold, and for how much more there is room.
+use Rattle.std.specs.Prelude.{ℕ, ◌≡◌, ◌≤◌, List, All, IfSome}
+use Rattle.record_history.specs.Held.{IsWithin, room_of as record_room_of}
+use Rattle.book_rows.specs.Book.{Book, Room as TableRoom, HasRoom, book_of}
+use Rattle.row_index.specs.Index.{index_of}
+use Rattle.book_search.specs.Requests.{act_key}
+use Rattle.office_step.specs.declared.call.Capacity.{Capacity}
+use Rattle.office_step.specs.Known.{known_of}
+use Rattle.office_step.specs.Step.{IsReached}
+use Rattle.office_core.specs.declared.office.Office.TheInside.{Inside}
+use Rattle.office_core.specs.Planned.{Planned}
+
+-- for how many more rows there is room: in the tables, and beside them of acts, of records of each household, of requests
+pub record Room : Type 0 where
+  pub tables : TableRoom
+  pub acts : ℕ
+  pub records : List ℕ
+  pub requests : ℕ
+
+pub record Holding : Type 0 where
+  pub capacity : Capacity
+  pub book : Book
+  pub room : Room
+
+-- there is room for the step
+pub record HasRoomFor (room : Room) (step : Planned) : Type 0 where
+  pub tables : HasRoom room.tables step.rows
+  pub acts : 1 ≤ room.acts
+  pub records : IfSome step.rows.made (λ r. 1 ≤ record_room_of room.records r.household)
+  pub requests : 1 ≤ room.requests
+
+-- The book is one that an office of that capacity comes to, and what is kept beside its tables is what they give.
+pub record IsOffice (office : Inside) : Type 0 where
+  pub acts : office.capacity.acts ≤ 100000
+  pub lines : office.capacity.lines ≤ 4000000
+  pub reached : IsReached office.capacity (book_of office.tables)
+  pub known : office.register.known ≡ known_of (book_of office.tables)
+  pub requests : office.requests.entries ≡ index_of act_key office.tables.acts.items
+  pub records : All IsWithin office.tables.records.items

@@ -1,0 +1,28 @@
+-- What is planned for an act, and when it is planned for an office.
+use Rattle.std.specs.Prelude.{ℕ, ◌≡◌, Option, List, IfSome}
+use Rattle.record_history.specs.Held.{IsWithin}
+use Rattle.book_rows.specs.declared.rows.Batch.{Batch}
+use Rattle.book_rows.specs.declared.command.Command.{Command}
+use Rattle.book_rows.specs.Book.{Book}
+use Rattle.office_step.specs.declared.call.Capacity.{Capacity}
+use Rattle.office_step.specs.Acts.{name_given}
+use Rattle.office_step.specs.Known.{known_of}
+use Rattle.office_step.specs.Step.{IsAppended}
+use Rattle.office_register.specs.Registered.{HasDates}
+
+-- the rows that an act appends, its command, and the name of the household that it makes, if it makes one
+pub record Planned : Type 0 where
+  pub rows : Batch
+  pub asked : Command
+  pub name : Option (List ℕ)
+
+-- the record lies within the bounds of every record
+pub record HoldsRecord (step : Planned) : Type 0 where
+  pub within : IfSome step.rows.made IsWithin
+  pub dates : IfSome step.rows.made HasDates
+
+-- an office of that capacity and book appends just these rows, for that command
+pub record IsPlannedFor (capacity : Capacity) (book : Book) (step : Planned) : Type 0 where
+  pub appends : IsAppended capacity book step.rows
+  pub asked : appends.call.command ≡ step.asked
+  pub name : step.name ≡ name_given (known_of book).applications step.asked

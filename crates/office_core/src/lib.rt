@@ -1,0 +1,15 @@
+//! The office of one clerk: what it does with a call, what it keeps, and which books it opens.
+#![tactic(auto)]
+
+mod append;
+mod judged;
+mod office;
+mod opening;
+mod plan;
+mod reply;
+mod reserve;
+
+pub use judged::{Judged, Judgment, Step};
+pub use office::Office;
+pub use office_step::{Application, Call, Capacity, Closed, Done, Fault, Made, Named, Refusal};
+pub use opening::OpenFault;
