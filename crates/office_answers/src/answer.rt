@@ -1,6 +1,6 @@
 use days_core::{Day, Month};
 use office_step::Refusal;
-use plain_data::{Listed, Text};
+use plain_data::{Listed, NoMemory, Text};
 use record_history::{Dates, Record};
 use voucher_core::Line;
 use wait_list::Candidate;
@@ -71,4 +71,15 @@ pub enum Answer {
 pub enum Asked {
     Refused(Refusal),
     NoMemory,
+}
+
+impl From<NoMemory> for Asked {
+    ghost use Rattle.std.specs.Prelude.{◌≡◌};
+    ghost use Rattle.office_answers.specs.declared.answer.Asked.TheVariants as asked;
+
+    ghost from_gives = { λ _ why. why ≡ asked.NoMemory };
+
+    fn from(_error: NoMemory) -> Asked {
+        Asked::NoMemory
+    }
 }

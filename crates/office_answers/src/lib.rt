@@ -2,9 +2,16 @@
 #![tactic(auto)]
 
 mod answer;
+mod answering;
+mod due;
+mod fiscal_year;
+mod households;
+mod next;
 mod question;
 mod reply;
+mod vouchers;
 
 pub use answer::{Admissions, Answer, Asked, DueDay, HouseholdSummary, Voucher};
+pub use answering::answer_to;
 pub use question::Question;
 pub use reply::Reply;

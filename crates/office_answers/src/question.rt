@@ -4,34 +4,17 @@ use days_core::{Day, Month};
 #[derive(Clone, Copy, Debug, PartialEq, Eq)]
 pub enum Question {
     /// The household's name, and its records that count.
-    Household {
-        household: u32,
-    },
+    Household { household: u32 },
     /// The household's record of that number.
-    Record {
-        household: u32,
-        target: u32,
-    },
+    Record { household: u32, target: u32 },
     /// Who is next for the unit on the day.
-    Next {
-        unit: u32,
-        day: Day,
-    },
+    Next { unit: u32, day: Day },
     /// What the closing of the month requested.
-    Voucher {
-        month: Month,
-    },
+    Voucher { month: Month },
     /// What all lines pay for the household and the month.
-    Paid {
-        household: u32,
-        month: Month,
-    },
+    Paid { household: u32, month: Month },
     /// Which annual certifications are due, seen from the day.
-    Due {
-        day: Day,
-    },
+    Due { day: Day },
     /// How far the office is with the admissions of the fiscal year of the day.
-    Targets {
-        day: Day,
-    },
+    Targets { day: Day },
 }

@@ -1,0 +1,2 @@
+pub mod ByDay
+pub mod Dues

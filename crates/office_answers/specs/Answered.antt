@@ -1,0 +1,22 @@
+-- When an answer is the right one.
+use Rattle.std.specs.Prelude.{◌≡◌, ⊤, Option, Some, None, Result, Ok, Err}
+use Rattle.std.specs.Option.{option_map_or}
+use Rattle.office_step.specs.declared.refusal.Refusal.{Refusal}
+use Rattle.office_answers.specs.declared.answer.Answer.{Answer}
+use Rattle.office_answers.specs.declared.answer.Asked.{Asked}
+use Rattle.office_answers.specs.declared.answer.Asked.TheVariants as asked
+
+-- the answer, unless it is refused
+abbrev pub unless : Option Refusal → Result Answer Refusal → Result Answer Refusal
+unless (Some refused) given = Err refused
+unless None given = given
+
+-- the answer that is made of what is there, and else the refusal
+abbrev pub answered : {A : Type 0} → (A → Answer) → Option A → Refusal → Result Answer Refusal
+answered make found refused = option_map_or (λ there. Ok (make there)) found (Err refused)
+
+-- the answer is the right one; want of memory says nothing
+abbrev pub Answers : Result Answer Refusal → Result Answer Asked → Type 0
+Answers right (Ok given) = right ≡ Ok given
+Answers right (Err (asked.Refused refused)) = right ≡ Err refused
+Answers right (Err asked.NoMemory) = ⊤

@@ -1,0 +1,42 @@
+-- How far the office is with the admissions of a fiscal year (24 CFR 5.653; the counts are own rules).
+use Rattle.std.specs.Prelude.{ℕ, ◌+◌, ◌-◌, ◌*◌, ◌/◌, nat_le, if◌then◌else◌, Result}
+use Rattle.days_core.specs.Calendar.{month_of, first_of}
+use Rattle.rent_table.specs.declared.plan.Plan.{Plan}
+use Rattle.wait_list.specs.declared.targets.Targets.{Targets}
+use Rattle.wait_list.specs.Target.{is_target_open}
+use Rattle.office_step.specs.declared.refusal.Refusal.{Refusal}
+use Rattle.office_step.specs.declared.refusal.Refusal.TheVariants as refusal
+use Rattle.office_step.specs.Known.{Known}
+use Rattle.office_step.specs.Candidates.{targets_of}
+use Rattle.office_answers.specs.declared.answer.Answer.{Answer}
+use Rattle.office_answers.specs.declared.answer.Answer.TheVariants as answer
+use Rattle.office_answers.specs.declared.answer.Admissions.{Admissions}
+use Rattle.office_answers.specs.Answered.{answered}
+
+-- the plan's fiscal month in the year of a month
+abbrev pub fiscal_month_in_year : Plan → ℕ → ℕ
+fiscal_month_in_year plan month = 12 * (month / 12) + (plan.fiscal_month - 1)
+
+-- the month with which the fiscal year of a month begins: the fiscal month of its own year or of the year before, and
+-- 1880-01 where that is earlier
+abbrev pub first_fiscal_month : Plan → ℕ → ℕ
+first_fiscal_month plan month =
+    if nat_le (fiscal_month_in_year plan month) month then fiscal_month_in_year plan month else fiscal_month_in_year plan month - 12
+
+-- the first day of the fiscal year of the day
+abbrev pub first_fiscal_day : Plan → ℕ → ℕ
+first_fiscal_day plan day = first_of (first_fiscal_month plan (month_of day))
+
+-- the admissions of the year, as they count for its target
+abbrev pub admissions_by : Plan → ℕ → Targets → Admissions
+admissions_by plan day targets = record {
+  first_day = first_fiscal_day plan day;
+  expected = targets.expected;
+  admitted = targets.admitted;
+  extremely_low = targets.extremely;
+  opened = is_target_open targets;
+}
+
+abbrev pub targets_answer : Known → ℕ → Result Answer Refusal
+targets_answer known day =
+    answered (λ plan. answer.Targets (admissions_by plan day (targets_of plan day known.households))) known.plan refusal.NoPlan

@@ -1,0 +1,6 @@
+pub mod Answered
+pub mod Households
+pub mod Vouchers
+pub mod DueList
+pub mod FiscalYear
+pub mod Answering

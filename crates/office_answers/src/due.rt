@@ -1,0 +1,87 @@
+//! Which annual certifications are due, seen from a day.
+
+ghost use Rattle.std.specs.Prelude.{◌≡◌, ◌≤◌, All, IfOk, IfSome};
+ghost use Rattle.record_history.specs.Held.{records_of};
+ghost use Rattle.due_dates.specs.Stale.{ends_assistance};
+ghost use Rattle.office_answers.specs.Answered.{Answers};
+ghost use Rattle.office_answers.specs.DueList.{is_assisted_on, horizon, due_of, due_days, due_list, due_answer};
+
+use crate::{Answer, Asked, DueDay};
+use days_core::Day;
+use office_register::Register;
+use office_step::{Refusal, annual_right};
+use plain_data::{Listed, NoMemory};
+use record_history::{Dates, History, Kind, Record};
+use rent_table::Plan;
+use std::alloc::Global;
+
+const DAYS_AHEAD: u32 = 120;
+
+pub fn due_answer(alloc: Global, register: &Register, day: Day) -> Result<Answer, Asked>
+    ensures { Answers (due_answer register.now.known day) result }
+{
+    if register.plan().is_none() {
+        return Err(Asked::Refused(Refusal::NoPlan));
+    }
+    let dues = due_list(alloc, register.history(), day)?;
+    Ok(Answer::Due(Listed::new(dues)))
+}
+
+/// What is due, in the order of its days, and of one day in that of the households.
+fn due_list(alloc: Global, history: &History, day: Day) -> Result<Vec<DueDay>, NoMemory>
+    ensures { IfOk result (λ dues. dues.items ≡ due_list history.now.households day) }
+{
+    let mut dues = due_days(alloc, history, day)?;
+    dues.sort_by_key(|due| due.day.number())?;
+    Ok(dues)
+}
+
+fn due_days(alloc: Global, history: &History, day: Day) -> Result<Vec<DueDay>, NoMemory>
+    ensures all { IfOk result (λ dues. dues.items ≡ due_days history.now.households day) }
+    ensures soon { IfOk result (λ dues. All (λ due. due.day ≤ horizon day) dues.items) }
+{
+    let mut dues = Vec::new(alloc);
+    for place in 0..history.households() {
+        if let Some(due) = due_of(history, day, place + 1) {
+            dues.push(due)?;
+        }
+    }
+    Ok(dues)
+}
+
+/// When the household is due, where it is assisted on the day.
+fn due_of(history: &History, day: Day, household: u32) -> Option<DueDay>
+    ensures value { result ≡ due_of history.now.households day household }
+    ensures soon { IfSome result (λ due. due.day ≤ horizon day) }
+{
+    if !is_assisted_on(history, household, day) {
+        return None;
+    }
+    let due = annual_right(history, household)?;
+    if due.number() <= day.number() + DAYS_AHEAD {
+        Some(DueDay {
+            day: due,
+            household,
+        })
+    } else {
+        None
+    }
+}
+
+fn is_assisted_on(history: &History, household: u32, day: Day) -> bool
+    ensures { result ≡ is_assisted_on (records_of history.now.households household) day }
+{
+    match history.in_force(household, day) {
+        Some(held) => !ends_assistance(held.kind),
+        None => false,
+    }
+}
+
+fn ends_assistance(kind: Kind) -> bool
+    ensures { result ≡ ends_assistance kind }
+{
+    match kind {
+        Kind::MO | Kind::TM => true,
+        Kind::MI | Kind::IC | Kind::AR | Kind::IR | Kind::GR | Kind::UT | Kind::WD => false,
+    }
+}

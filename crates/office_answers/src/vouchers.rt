@@ -1,0 +1,131 @@
+//! What was requested for a month, and what was paid.
+
+ghost use Rattle.std.specs.Prelude.{◌≡◌, ◌≤◌, ◌==◌, not, length, filter, option_copied, IfOk};
+ghost use Rattle.voucher_core.specs.Lines.{is_for};
+ghost use Rattle.office_answers.specs.Answered.{Answers};
+ghost use Rattle.office_answers.specs.Vouchers.{is_closed, closing_lines, own_lines, adjusting_lines, voucher_of, voucher_answer, paid_answer};
+
+use crate::{Answer, Asked, Voucher};
+use days_core::Month;
+use office_register::Register;
+use office_step::{Closed, no_household};
+use plain_data::{Listed, NoMemory};
+use rent_table::Plan;
+use std::alloc::Global;
+use voucher_core::{Line, total};
+
+pub fn voucher_answer(
+    alloc: Global,
+    register: &Register,
+    lines: &[Line],
+    month: Month,
+) -> Result<Answer, Asked>
+    requires { length lines.now ≤ 4000000 }
+    ensures { Answers (voucher_answer register.now.known lines.now month) result }
+{
+    if !is_closed(register.plan(), register.closing(), month) {
+        return Ok(Answer::Voucher(None));
+    }
+    let voucher = voucher_of(alloc, lines, month)?;
+    Ok(Answer::Voucher(Some(voucher)))
+}
+
+fn is_closed(plan: Option<&Plan>, closing: Option<Closed>, month: Month) -> bool
+    ensures { result ≡ is_closed (option_copied plan.entry) closing month }
+{
+    match (plan, closing) {
+        (Some(plan), Some(closing)) => plan.first <= month && month <= closing.month,
+        _ => false,
+    }
+}
+
+fn voucher_of(alloc: Global, lines: &[Line], month: Month) -> Result<Voucher, NoMemory>
+    requires { length lines.now ≤ 4000000 }
+    ensures { IfOk result (λ voucher. voucher ≡ voucher_of month lines.now) }
+{
+    let lines = closing_lines(alloc, lines, month)?;
+    let requested = total(&own_lines(alloc, &lines, month)?);
+    let adjustments = total(&adjusting_lines(alloc, &lines, month)?);
+    let total = total(&lines);
+    Ok(Voucher {
+        month,
+        lines: Listed::new(lines),
+        requested,
+        adjustments,
+        total,
+    })
+}
+
+/// The lines of the closing of the month.
+fn closing_lines(alloc: Global, lines: &[Line], month: Month) -> Result<Vec<Line>, NoMemory>
+    ensures lines { IfOk result (λ closing. closing.items ≡ closing_lines month lines.now) }
+    ensures few { IfOk result (λ closing. length closing.items ≤ length lines.now) }
+{
+    let closing = lines
+        .iter()
+        .filter(|line| line.month == month)
+        .copied()
+        .collect(alloc)?;
+    Ok(closing)
+}
+
+/// Those of a closing's lines that are for its own month.
+fn own_lines(alloc: Global, lines: &[Line], month: Month) -> Result<Vec<Line>, NoMemory>
+    ensures lines { IfOk result (λ own. own.items ≡ filter (λ line. line.for_month == month) lines.now) }
+    ensures few { IfOk result (λ own. length own.items ≤ length lines.now) }
+{
+    let own = lines
+        .iter()
+        .filter(|line| line.for_month == month)
+        .copied()
+        .collect(alloc)?;
+    Ok(own)
+}
+
+/// Those that change earlier months.
+fn adjusting_lines(alloc: Global, lines: &[Line], month: Month) -> Result<Vec<Line>, NoMemory>
+    ensures lines { IfOk result (λ adjusting. adjusting.items ≡ filter (λ line. not (line.for_month == month)) lines.now) }
+    ensures few { IfOk result (λ adjusting. length adjusting.items ≤ length lines.now) }
+{
+    let adjusting = lines
+        .iter()
+        .filter(|line| line.for_month != month)
+        .copied()
+        .collect(alloc)?;
+    Ok(adjusting)
+}
+
+pub fn paid_answer(
+    alloc: Global,
+    register: &Register,
+    lines: &[Line],
+    household: u32,
+    month: Month,
+) -> Result<Answer, Asked>
+    requires { length lines.now ≤ 4000000 }
+    ensures { Answers (paid_answer register.now.known lines.now household month) result }
+{
+    if let Some(refusal) = no_household(register.households(), household) {
+        return Err(Asked::Refused(refusal));
+    }
+    let paying = paying_lines(alloc, lines, household, month)?;
+    Ok(Answer::Paid(total(&paying)))
+}
+
+/// The lines that pay the household for the month.
+fn paying_lines(
+    alloc: Global,
+    lines: &[Line],
+    household: u32,
+    month: Month,
+) -> Result<Vec<Line>, NoMemory>
+    ensures lines { IfOk result (λ paying. paying.items ≡ filter (is_for household month) lines.now) }
+    ensures few { IfOk result (λ paying. length paying.items ≤ length lines.now) }
+{
+    let paying = lines
+        .iter()
+        .filter(|line| line.household == household && line.for_month == month)
+        .copied()
+        .collect(alloc)?;
+    Ok(paying)
+}
