@@ -2,6 +2,7 @@
 #![tactic(auto)]
 
 mod append;
+mod asking;
 mod judged;
 mod office;
 mod opening;
@@ -11,5 +12,8 @@ mod reserve;
 
 pub use judged::{Judged, Judgment, Step};
 pub use office::Office;
+pub use office_answers::{
+    Admissions, Answer, Asked, DueDay, HouseholdSummary, Question, Reply, Voucher,
+};
 pub use office_step::{Application, Call, Capacity, Closed, Done, Fault, Made, Named, Refusal};
 pub use opening::OpenFault;

@@ -1,0 +1,17 @@
+use crate::{Answer, Asked, Office, Question};
+use office_answers::answer_to;
+use office_laws::within_room;
+use std::alloc::Global;
+
+impl Office {
+    ghost use Rattle.office_answers.specs.Answered.{Answers};
+    ghost use Rattle.office_answers.specs.Answering.{answer_to};
+
+    /// The answer to a question. It changes nothing.
+    pub fn ask(&self, alloc: Global, question: &Question) -> Result<Answer, Asked>
+        ensures { Answers (answer_to self.now.book question.now) result }
+    {
+        within_room();
+        answer_to(alloc, &self.register, &self.tables.lines, question)
+    }
+}
