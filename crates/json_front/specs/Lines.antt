@@ -1,0 +1,41 @@
+-- The lines of a batch: each asks a question, or calls for an act.
+use Rattle.std.specs.Prelude.{ℕ, if◌then◌else◌, Bool, true, List, [], ◌∷◌, is_some, Result, Ok, codes}
+use Rattle.serde_json.specs.Data.{Data}
+use Rattle.serde_json.specs.Find.{get}
+use Rattle.json_form.specs.Form.{◌>>=◌, fit, data_from, is_object_at, day_at, field, optional_field, only}
+use Rattle.office_step.specs.Step.{is_fit_call}
+use Rattle.json_front.specs.declared.line.BatchLine.{BatchLine}
+use Rattle.json_front.specs.declared.line.BatchLine.TheVariants as line
+use Rattle.json_front.specs.Calls.{call_names, call_fields}
+use Rattle.json_front.specs.Questions.{question_at}
+
+-- a question, and nothing beside it
+unfoldable pub ask_at : Data → Result BatchLine (List ℕ)
+ask_at d = do
+  asked ← field (codes "ask") question_at d
+  _ ← only (codes "ask" ∷ []) d
+  Ok (line.Ask asked)
+
+-- a call, with the day on which it is made if the line tells it
+unfoldable pub act_at : Data → Result BatchLine (List ℕ)
+act_at d = do
+  today ← optional_field (codes "today") day_at d
+  call ← call_fields d
+  _ ← only (codes "today" ∷ call_names) d
+  Ok (line.Act today call)
+
+-- an object with a member `ask` is a question
+abbrev pub has_ask : Data → Bool
+has_ask d = is_some (get (codes "ask") d)
+
+abbrev pub line_at : Data → Result BatchLine (List ℕ)
+line_at d = is_object_at d >>= λ _. if has_ask d then ask_at d else act_at d
+
+-- the line that the bytes are, or the first bad path: the empty one where they are no JSON
+abbrev pub line_from : List ℕ → Result BatchLine (List ℕ)
+line_from bytes = fit (data_from bytes) >>= line_at
+
+-- the call of a line is one that an office can be asked
+abbrev pub is_fit_line : BatchLine → Bool
+is_fit_line (line.Act today call) = is_fit_call call
+is_fit_line (line.Ask asked) = true
