@@ -1,3 +1,6 @@
 pub mod Calls
 pub mod Questions
 pub mod Lines
+pub mod Values
+pub mod Refusals
+pub mod Replies

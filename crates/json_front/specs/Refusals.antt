@@ -1,0 +1,122 @@
+-- How refusals are written in JSON: the kind, the number in the one order, and the members that the kind has.
+use Rattle.std.specs.Prelude.{ℕ, List, codes}
+use Rattle.serde_json.specs.Data.{Data, string, object, Members, member, no_members, put}
+use Rattle.json_form.specs.Written.{number_data, day_data}
+use Rattle.command_text.specs.Fields.{month_data}
+use Rattle.office_step.specs.declared.refusal.Named.{Named}
+use Rattle.office_step.specs.declared.refusal.Named.TheVariants as named
+use Rattle.office_step.specs.declared.refusal.Refusal.{Refusal}
+use Rattle.office_step.specs.declared.refusal.Refusal.TheVariants as refusal
+use Rattle.json_front.specs.Values.{or_null, candidate_data}
+
+abbrev pub refusal_kind : Refusal → List ℕ
+refusal_kind (refusal.RequestReused act) = codes "RequestReused"
+refusal_kind refusal.NoPlan = codes "NoPlan"
+refusal_kind (refusal.PlanGiven act) = codes "PlanGiven"
+refusal_kind (refusal.BookFull acts) = codes "BookFull"
+refusal_kind (refusal.NoSuch what id) = codes "NoSuch"
+refusal_kind (refusal.Stale newest) = codes "Stale"
+refusal_kind (refusal.Unseen newest) = codes "Unseen"
+refusal_kind (refusal.FactsRule rule) = codes "FactsRule"
+refusal_kind (refusal.DayRange first last) = codes "DayRange"
+refusal_kind (refusal.NoRent group day) = codes "NoRent"
+refusal_kind (refusal.NoLimits day) = codes "NoLimits"
+refusal_kind (refusal.NotLive target) = codes "NotLive"
+refusal_kind (refusal.WrongDay right) = codes "WrongDay"
+refusal_kind (refusal.Disorder target) = codes "Disorder"
+refusal_kind (refusal.NameTaken unit) = codes "NameTaken"
+refusal_kind (refusal.SizeMisfit unit size) = codes "SizeMisfit"
+refusal_kind (refusal.UnitTaken household day) = codes "UnitTaken"
+refusal_kind (refusal.NotNext next) = codes "NotNext"
+refusal_kind (refusal.Ineligible limit annual) = codes "Ineligible"
+refusal_kind (refusal.NoAssistance ttp gross) = codes "NoAssistance"
+refusal_kind (refusal.WrongMonth next) = codes "WrongMonth"
+refusal_kind (refusal.RentDue household target day) = codes "RentDue"
+refusal_kind (refusal.Overdue household anniversary) = codes "Overdue"
+refusal_kind (refusal.LinesFull lines more) = codes "LinesFull"
+
+-- its place in the one order
+abbrev pub refusal_number : Refusal → ℕ
+refusal_number (refusal.RequestReused act) = 1
+refusal_number refusal.NoPlan = 2
+refusal_number (refusal.PlanGiven act) = 3
+refusal_number (refusal.BookFull acts) = 4
+refusal_number (refusal.NoSuch what id) = 5
+refusal_number (refusal.Stale newest) = 6
+refusal_number (refusal.Unseen newest) = 7
+refusal_number (refusal.FactsRule rule) = 8
+refusal_number (refusal.DayRange first last) = 9
+refusal_number (refusal.NoRent group day) = 10
+refusal_number (refusal.NoLimits day) = 11
+refusal_number (refusal.NotLive target) = 12
+refusal_number (refusal.WrongDay right) = 13
+refusal_number (refusal.Disorder target) = 14
+refusal_number (refusal.NameTaken unit) = 15
+refusal_number (refusal.SizeMisfit unit size) = 16
+refusal_number (refusal.UnitTaken household day) = 17
+refusal_number (refusal.NotNext next) = 18
+refusal_number (refusal.Ineligible limit annual) = 19
+refusal_number (refusal.NoAssistance ttp gross) = 20
+refusal_number (refusal.WrongMonth next) = 21
+refusal_number (refusal.RentDue household target day) = 22
+refusal_number (refusal.Overdue household anniversary) = 23
+refusal_number (refusal.LinesFull lines more) = 24
+
+-- what a number should have named
+abbrev pub named_word : Named → List ℕ
+named_word named.Household = codes "household"
+named_word named.Applicant = codes "applicant"
+named_word named.Unit = codes "unit"
+named_word named.Record = codes "record"
+
+abbrev pub one_member : List ℕ → Data → Members
+one_member name d = member name d no_members
+
+-- the members beside the kind and the number
+abbrev pub refusal_members : Refusal → Members
+refusal_members (refusal.RequestReused act) = one_member (codes "act") (number_data act)
+refusal_members refusal.NoPlan = no_members
+refusal_members (refusal.PlanGiven act) = one_member (codes "act") (number_data act)
+refusal_members (refusal.BookFull acts) = one_member (codes "acts") (number_data acts)
+refusal_members (refusal.NoSuch what id) = put (codes "what") (string (named_word what)) (one_member (codes "id") (number_data id))
+refusal_members (refusal.Stale newest) = one_member (codes "newest") (number_data newest)
+refusal_members (refusal.Unseen newest) = one_member (codes "newest") (number_data newest)
+refusal_members (refusal.FactsRule rule) = one_member (codes "rule") (number_data rule)
+refusal_members (refusal.DayRange first last) = put (codes "last") (day_data last) (one_member (codes "first") (day_data first))
+refusal_members (refusal.NoRent group day) = put (codes "day") (day_data day) (one_member (codes "group") (number_data group))
+refusal_members (refusal.NoLimits day) = one_member (codes "day") (day_data day)
+refusal_members (refusal.NotLive target) = one_member (codes "record") (number_data target)
+refusal_members (refusal.WrongDay right) = one_member (codes "right") (or_null day_data right)
+refusal_members (refusal.Disorder target) = one_member (codes "record") (number_data target)
+refusal_members (refusal.NameTaken unit) = one_member (codes "unit") (number_data unit)
+refusal_members (refusal.SizeMisfit unit size) = put (codes "size") (number_data size) (one_member (codes "unit") (number_data unit))
+refusal_members (refusal.UnitTaken household day) = put (codes "day") (day_data day) (one_member (codes "household") (number_data household))
+refusal_members (refusal.NotNext next) = one_member (codes "next") (or_null candidate_data next)
+refusal_members (refusal.Ineligible limit annual) = put (codes "annual") (number_data annual) (one_member (codes "limit") (number_data limit))
+refusal_members (refusal.NoAssistance ttp gross) = put (codes "gross") (number_data gross) (one_member (codes "ttp") (number_data ttp))
+refusal_members (refusal.WrongMonth next) = one_member (codes "next") (or_null month_data next)
+refusal_members (refusal.RentDue household target day) =
+    put (codes "day") (day_data day) (put (codes "record") (number_data target) (one_member (codes "household") (number_data household)))
+refusal_members (refusal.Overdue household anniversary) =
+    put (codes "anniversary") (day_data anniversary) (one_member (codes "household") (number_data household))
+refusal_members (refusal.LinesFull lines more) = put (codes "more") (number_data more) (one_member (codes "lines") (number_data lines))
+
+-- the kind, the number and the members, in the byte order of their names
+abbrev pub cause_data : Refusal → Data
+cause_data why = object (put (codes "number") (number_data (refusal_number why)) (put (codes "kind") (string (refusal_kind why)) (refusal_members why)))
+
+abbrev pub refused : Data → Data
+refused cause = object (member (codes "refused") cause no_members)
+
+abbrev pub refusal_data : Refusal → Data
+refusal_data why = refused (cause_data why)
+
+-- a refusal that has a kind alone
+abbrev pub failure_data : List ℕ → Data
+failure_data word = refused (object (member (codes "kind") (string word) no_members))
+
+-- the first place that isn't of the form
+abbrev pub bad_form_data : List ℕ → Data
+bad_form_data path = refused (object (
+    member (codes "kind") (string (codes "Form")) (
+    member (codes "path") (string path) no_members)))
