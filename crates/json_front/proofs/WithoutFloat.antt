@@ -1,20 +1,31 @@
--- The values that are written of replies have no float, so that their texts are exact.
-use Rattle.std.proofs.Common.{◌≡◌, ℤ, pos, negsuc, false, Option, Some, None, refl}
+-- The values that are written of replies and answers have no float, so that their texts are exact.
+use Rattle.std.proofs.Common.{◌≡◌, ℕ, ℤ, pos, negsuc, false, List, Option, Some, None, inl, inr, refl}
+use Rattle.std.specs.Str.{is_utf8}
+use Rattle.std.proofs.lemmas.Bool.{cases_Bool}
 use Rattle.serde_json.specs.Data.{Data}
 use Rattle.serde_json.specs.Written.{has_float}
-use Rattle.json_form.specs.Written.{day_data}
-use Rattle.command_text.specs.Fields.{month_data}
+use Rattle.json_form.specs.Written.{number_data, day_data}
+use Rattle.json_form.proofs.Again.{array_without_float}
+use Rattle.command_text.specs.Fields.{name_data, month_data}
 use Rattle.wait_list.specs.declared.ask.Candidate.{Candidate}
 use Rattle.wait_list.specs.declared.ask.Candidate.TheVariants as candidate
+use Rattle.record_history.specs.declared.records.Record.{Record}
+use Rattle.voucher_core.specs.declared.line.Line.{Line}
 use Rattle.office_step.specs.declared.refusal.Refusal.{Refusal}
 use Rattle.office_step.specs.declared.refusal.Refusal.TheVariants as refusal
 use Rattle.office_step.specs.declared.reply.Made.{Made}
 use Rattle.office_step.specs.declared.reply.Made.TheVariants as made
 use Rattle.office_answers.specs.declared.reply.Reply.{Reply}
 use Rattle.office_answers.specs.declared.reply.Reply.TheVariants as reply
+use Rattle.office_answers.specs.declared.answer.Voucher.{Voucher}
+use Rattle.office_answers.specs.declared.answer.Answer.{Answer}
+use Rattle.office_answers.specs.declared.answer.Answer.TheVariants as answer
+use Rattle.office_answers.specs.declared.answer.Asked.{Asked}
+use Rattle.office_answers.specs.declared.answer.Asked.TheVariants as asked
 use Rattle.json_front.specs.Values.{amount_data, or_null, candidate_data}
 use Rattle.json_front.specs.Refusals.{refusal_data}
 use Rattle.json_front.specs.Replies.{made_data, reply_data}
+use Rattle.json_front.specs.Answers.{dates_data, line_data, voucher_data, due_day_data, answer_data, asked_data}
 
 -- ---- plain values
 
@@ -29,6 +40,13 @@ or_null_without_float write none None = refl
 candidate_without_float : (next : Candidate) → has_float (candidate_data next) ≡ false
 candidate_without_float (candidate.Applicant applicant) = refl
 candidate_without_float (candidate.Household household) = refl
+
+name_without_float : (name : List ℕ) → has_float (name_data name) ≡ false
+name_without_float name =
+    elim (cases_Bool (is_utf8 name)) [
+      | inl text ↦ rw text refl
+      | inr other ↦ rw other refl
+    ]
 
 -- ---- replies
 
@@ -71,3 +89,25 @@ reply_without_float (reply.Refused why) = refusal_without_float why
 reply_without_float reply.StoreFault = refl
 reply_without_float reply.NoMemory = refl
 
+-- ---- answers
+
+line_without_float : (line : Line) → has_float (line_data line) ≡ false
+line_without_float line = simp (amount_without_float line.amount) refl
+
+voucher_without_float : (voucher : Option Voucher) → has_float (voucher_data voucher) ≡ false
+voucher_without_float (Some voucher) =
+    simp (amount_without_float voucher.adjustments, amount_without_float voucher.requested, amount_without_float voucher.total, array_without_float line_data line_without_float voucher.lines) refl
+voucher_without_float None = refl
+
+pub answer_without_float : (told : Answer) → has_float (answer_data told) ≡ false
+answer_without_float (answer.Household summary) = simp (array_without_float number_data (λ number. refl) summary.live, name_without_float summary.name) refl
+answer_without_float (answer.Record held) = simp (or_null_without_float dates_data (λ dates. refl) held.dates) refl
+answer_without_float (answer.Next next) = simp (or_null_without_float candidate_data candidate_without_float next) refl
+answer_without_float (answer.Voucher voucher) = voucher_without_float voucher
+answer_without_float (answer.Paid paid) = simp (amount_without_float paid) refl
+answer_without_float (answer.Due due) = simp (array_without_float due_day_data (λ day. refl) due) refl
+answer_without_float (answer.Targets targets) = refl
+
+pub asked_without_float : (told : Asked) → has_float (asked_data told) ≡ false
+asked_without_float (asked.Refused why) = refusal_without_float why
+asked_without_float asked.NoMemory = refl

@@ -4,3 +4,4 @@ pub mod Lines
 pub mod Values
 pub mod Refusals
 pub mod Replies
+pub mod Answers

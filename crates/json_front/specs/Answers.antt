@@ -1,0 +1,165 @@
+-- How answers are written in JSON.
+use Rattle.std.specs.Prelude.{ℕ, ℤ, List, Option, Some, None, codes}
+use Rattle.serde_json.specs.Data.{Data, null, boolean, string, object, Members, member, no_members}
+use Rattle.serde_json.specs.Written.{compact_text}
+use Rattle.json_form.specs.Written.{number_data, day_data, array_data}
+use Rattle.command_text.specs.Fields.{month_data, name_data}
+use Rattle.record_history.specs.declared.records.Kind.{Kind}
+use Rattle.record_history.specs.declared.records.Kind.TheVariants as kind
+use Rattle.record_history.specs.declared.records.Dates.{Dates}
+use Rattle.record_history.specs.declared.records.Record.{Record}
+use Rattle.voucher_core.specs.declared.line.Line.{Line}
+use Rattle.wait_list.specs.declared.ask.Candidate.{Candidate}
+use Rattle.office_answers.specs.declared.answer.HouseholdSummary.{HouseholdSummary}
+use Rattle.office_answers.specs.declared.answer.Voucher.{Voucher}
+use Rattle.office_answers.specs.declared.answer.DueDay.{DueDay}
+use Rattle.office_answers.specs.declared.answer.Admissions.{Admissions}
+use Rattle.office_answers.specs.declared.answer.Answer.{Answer}
+use Rattle.office_answers.specs.declared.answer.Answer.TheVariants as answer
+use Rattle.office_answers.specs.declared.answer.Asked.{Asked}
+use Rattle.office_answers.specs.declared.answer.Asked.TheVariants as asked
+use Rattle.json_front.specs.Values.{amount_data, or_null, candidate_data}
+use Rattle.json_front.specs.Refusals.{refusal_data, failure_data}
+
+-- ---- households and records
+
+abbrev pub household_data : HouseholdSummary → Data
+household_data summary = object (
+    member (codes "household") (number_data summary.household) (
+    member (codes "live") (array_data number_data summary.live) (
+    member (codes "name") (name_data summary.name) (
+    member (codes "newest") (number_data summary.newest) no_members))))
+
+abbrev pub kind_word : Kind → List ℕ
+kind_word kind.MI = codes "MI"
+kind_word kind.IC = codes "IC"
+kind_word kind.AR = codes "AR"
+kind_word kind.IR = codes "IR"
+kind_word kind.GR = codes "GR"
+kind_word kind.UT = codes "UT"
+kind_word kind.MO = codes "MO"
+kind_word kind.TM = codes "TM"
+kind_word kind.WD = codes "WD"
+
+abbrev pub dates_data : Dates → Data
+dates_data dates = object (
+    member (codes "done") (day_data dates.done) (
+    member (codes "event") (day_data dates.event) (
+    member (codes "notice") (day_data dates.notice) no_members)))
+
+-- the amounts of a record
+abbrev pub amount_members : Record → Members
+amount_members r =
+    member (codes "adjusted") (number_data r.adjusted) (
+    member (codes "annual") (number_data r.annual) (
+    member (codes "assistance") (number_data r.assistance) (
+    member (codes "contract_rent") (number_data r.rents.contract_rent) (
+    member (codes "ttp") (number_data r.ttp) (
+    member (codes "utility") (number_data r.rents.utility) no_members)))))
+
+-- all its numbers
+abbrev pub number_members : Record → Members
+number_members r =
+    member (codes "act") (number_data r.act) (
+    member (codes "adjusted") (number_data r.adjusted) (
+    member (codes "annual") (number_data r.annual) (
+    member (codes "assistance") (number_data r.assistance) (
+    member (codes "contract_rent") (number_data r.rents.contract_rent) (
+    member (codes "corrects") (number_data r.corrects) (
+    member (codes "household") (number_data r.household) (
+    member (codes "number") (number_data r.number) (
+    member (codes "persons") (number_data r.persons) (
+    member (codes "size") (number_data r.size) (
+    member (codes "ttp") (number_data r.ttp) (
+    member (codes "unit") (number_data r.unit) (
+    member (codes "utility") (number_data r.rents.utility) no_members))))))))))))
+
+-- all its fields
+abbrev pub record_data : Record → Data
+record_data r = object (
+    member (codes "act") (number_data r.act) (
+    member (codes "adjusted") (number_data r.adjusted) (
+    member (codes "annual") (number_data r.annual) (
+    member (codes "assistance") (number_data r.assistance) (
+    member (codes "contract_rent") (number_data r.rents.contract_rent) (
+    member (codes "corrects") (number_data r.corrects) (
+    member (codes "dates") (or_null dates_data r.dates) (
+    member (codes "extremely") (boolean r.extremely) (
+    member (codes "from") (day_data r.from) (
+    member (codes "household") (number_data r.household) (
+    member (codes "kind") (string (kind_word r.kind)) (
+    member (codes "number") (number_data r.number) (
+    member (codes "persons") (number_data r.persons) (
+    member (codes "size") (number_data r.size) (
+    member (codes "ttp") (number_data r.ttp) (
+    member (codes "unit") (number_data r.unit) (
+    member (codes "utility") (number_data r.rents.utility) no_members)))))))))))))))))
+
+-- ---- vouchers
+
+abbrev pub line_data : Line → Data
+line_data line = object (
+    member (codes "amount") (amount_data line.amount) (
+    member (codes "first") (day_data line.first) (
+    member (codes "for_month") (month_data line.for_month) (
+    member (codes "household") (number_data line.household) (
+    member (codes "last") (day_data line.last) (
+    member (codes "new") (number_data line.new) (
+    member (codes "old") (number_data line.old) no_members)))))))
+
+-- a closed month, and null where the month isn't closed
+abbrev pub voucher_data : Option Voucher → Data
+voucher_data (Some voucher) = object (
+    member (codes "adjustments") (amount_data voucher.adjustments) (
+    member (codes "lines") (array_data line_data voucher.lines) (
+    member (codes "month") (month_data voucher.month) (
+    member (codes "requested") (amount_data voucher.requested) (
+    member (codes "total") (amount_data voucher.total) no_members)))))
+voucher_data None = object (member (codes "voucher") null no_members)
+
+-- ---- the other answers
+
+abbrev pub next_data : Option Candidate → Data
+next_data next = object (member (codes "next") (or_null candidate_data next) no_members)
+
+abbrev pub paid_data : ℤ → Data
+paid_data paid = object (member (codes "paid") (amount_data paid) no_members)
+
+abbrev pub due_day_data : DueDay → Data
+due_day_data due = object (
+    member (codes "due") (day_data due.day) (
+    member (codes "household") (number_data due.household) no_members))
+
+abbrev pub due_data : List DueDay → Data
+due_data due = object (member (codes "due") (array_data due_day_data due) no_members)
+
+abbrev pub targets_data : Admissions → Data
+targets_data targets = object (
+    member (codes "admitted") (number_data targets.admitted) (
+    member (codes "expected") (number_data targets.expected) (
+    member (codes "extremely_low") (number_data targets.extremely_low) (
+    member (codes "first_day") (day_data targets.first_day) (
+    member (codes "open") (boolean targets.opened) no_members)))))
+
+-- ---- answers
+
+abbrev pub answer_data : Answer → Data
+answer_data (answer.Household summary) = household_data summary
+answer_data (answer.Record r) = record_data r
+answer_data (answer.Next next) = next_data next
+answer_data (answer.Voucher voucher) = voucher_data voucher
+answer_data (answer.Paid paid) = paid_data paid
+answer_data (answer.Due due) = due_data due
+answer_data (answer.Targets targets) = targets_data targets
+
+-- the text of an answer
+abbrev pub answer_text : Answer → List ℕ
+answer_text told = compact_text (answer_data told)
+
+-- why there is no answer: as any refusal
+abbrev pub asked_data : Asked → Data
+asked_data (asked.Refused why) = refusal_data why
+asked_data asked.NoMemory = failure_data (codes "NoMemory")
+
+abbrev pub asked_text : Asked → List ℕ
+asked_text told = compact_text (asked_data told)
