@@ -1,0 +1,38 @@
+-- What a clerk is told of a call, and the book after it.
+use Rattle.std.specs.Prelude.{◌≡◌, ℕ}
+use Rattle.office_io.specs.Outside.{Faulted}
+use Rattle.book_rows.specs.Book.{Book, appended}
+use Rattle.office_answers.specs.declared.reply.Reply.{Reply}
+use Rattle.office_answers.specs.declared.reply.Reply.TheVariants as reply
+use Rattle.office_step.specs.Reply.{done_of}
+use Rattle.office_step.specs.Step.{Outcome, again, refused, appends}
+
+-- the reply to a call of which the office does this
+abbrev pub reply_of : Book → Outcome → Reply
+reply_of book (again done) = reply.Accepted done
+reply_of book (refused refusal) = reply.Refused refusal
+reply_of book (appends rows) = reply.Accepted (done_of (appended book rows) rows.act)
+
+-- the book after it
+abbrev pub book_after : Book → Outcome → Book
+book_after book (again done) = book
+book_after book (refused refusal) = book
+book_after book (appends rows) = appended book rows
+
+-- it is the office's reply and the book after it; or the keeper failed or memory ran out, and the book is as before
+abbrev pub Serves : Outcome → Book → Book → Reply → Type 0
+Serves outcome old new (reply.Accepted done) = (reply.Accepted done ≡ reply_of old outcome) × (new ≡ book_after old outcome)
+Serves outcome old new (reply.Refused refusal) = (reply.Refused refusal ≡ reply_of old outcome) × (new ≡ book_after old outcome)
+Serves outcome old new reply.StoreFault = new ≡ old
+Serves outcome old new reply.NoMemory = new ≡ old
+
+-- the keeper is blamed only where it counted a fault
+abbrev pub ReplyCause : ℕ → ℕ → Reply → Type 0
+ReplyCause before now (reply.Accepted done) = now ≡ before
+ReplyCause before now (reply.Refused refusal) = now ≡ before
+ReplyCause before now reply.StoreFault = Faulted before now
+ReplyCause before now reply.NoMemory = now ≡ before
+
+-- what the keeper tells now it told before, perhaps of another book
+abbrev pub ToldBefore : (Book → Type 0) → (Book → Type 0) → Type 0
+ToldBefore holds holds_now = (book : Book) → holds_now book → (was : Book) × holds was

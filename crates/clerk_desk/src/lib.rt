@@ -1,0 +1,8 @@
+//! The office of one clerk and the keeper of its book: a new act is kept before the clerk is told of it.
+#![tactic(auto)]
+
+mod opening;
+mod serving;
+
+pub use opening::{DeskFault, open_office};
+pub use serving::serve;

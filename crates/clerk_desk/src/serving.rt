@@ -1,0 +1,61 @@
+ghost use Rattle.std.specs.Prelude.{◌≡◌, true};
+ghost use Rattle.book_rows.specs.Book.{Book};
+ghost use Rattle.office_step.specs.Step.{step, appends, is_fit_call};
+ghost use Rattle.office_core.specs.Planned.{IsPlannedFor};
+ghost use Rattle.clerk_desk.specs.Serving.{Serves, ReplyCause, ToldBefore};
+
+use days_core::Day;
+use keeper_core::{Committed, Keeper};
+use office_answers::Reply;
+use office_core::{Call, Judged, Judgment, Office, Step};
+use office_laws::batches_follow;
+use record_history::{Dates, Record};
+use std::alloc::Global;
+
+/// What the office replies to a call in a session, while the clock shows the day. The rows of a new act are kept before
+/// the office has them.
+pub fn serve<K: Keeper>(
+    alloc: Global,
+    office: &mut Office,
+    keeper: &mut K,
+    session: u32,
+    clock: Day,
+    call: &Call,
+) -> Reply
+    requires fit { is_fit_call call.now ≡ true }
+    requires told { (book : Book) → K.holds keeper.old book → book ≡ office.old.book }
+    ensures served { Serves (step office.old.book office.old.capacity session clock call.now) office.old.book office.new.book result }
+    ensures capacity { office.new.capacity ≡ office.old.capacity }
+    ensures kept { (book : Book) → K.holds keeper.new book → book ≡ office.new.book }
+    ensures told_before { ToldBefore (K.holds keeper.old) (K.holds keeper.new) }
+    ensures cause { ReplyCause (K.faults keeper.old) (K.faults keeper.new) result }
+{
+    match office.plan_step(alloc, session, clock, call) {
+        Ok(Judged::Repeat(done)) => Reply::Accepted(done),
+        Ok(Judged::New(step)) => keep(alloc, office, keeper, step),
+        Err(Judgment::Refused(refusal)) => Reply::Refused(refusal),
+        Err(Judgment::NoMemory) => Reply::NoMemory,
+    }
+}
+
+/// Keeps the rows of a step that was planned for the office as it is, and then appends them.
+fn keep<K: Keeper>(alloc: Global, office: &mut Office, keeper: &mut K, step: Step) -> Reply
+    requires planned { IsPlannedFor office.old.capacity office.old.book step }
+    requires told { (book : Book) → K.holds keeper.old book → book ≡ office.old.book }
+    ensures served { Serves (appends step.rows) office.old.book office.new.book result }
+    ensures capacity { office.new.capacity ≡ office.old.capacity }
+    ensures kept { (book : Book) → K.holds keeper.new book → book ≡ office.new.book }
+    ensures told_before { ToldBefore (K.holds keeper.old) (K.holds keeper.new) }
+    ensures cause { ReplyCause (K.faults keeper.old) (K.faults keeper.new) result }
+{
+    batches_follow();
+    let _of_an_office = office.tables();
+    let Ok(()) = office.reserve(&step) else {
+        return Reply::NoMemory;
+    };
+    match keeper.commit(alloc, step.batch()) {
+        Committed::Done => Reply::Accepted(office.apply(step)),
+        Committed::Failed => Reply::StoreFault,
+        Committed::NoMemory => Reply::NoMemory,
+    }
+}
