@@ -1,0 +1,5 @@
+pub mod SoFar
+pub mod Ends
+pub mod Runs
+pub mod Steps
+pub mod ToldBy

@@ -1,0 +1,85 @@
+-- What holds of the lines that were answered so far, and after one line more.
+use Rattle.std.proofs.Common.{◌≡◌, ◌≤◌, ◌+◌, ℕ, List, [], ◌∷◌, ◌++◌, None, Some, length, refl, sym, ap, subst, ◌∙◌, append-nil, append_assoc, arith, length-append}
+use Rattle.std.specs.Prelude.{Option, All, map, fold}
+use Rattle.std.specs.Io.KnownBytes.{Appends, Consumes, prepend_known}
+use Rattle.std.proofs.KnownBytes.{Appends-nil, Appends-trans, Consumes-nil, Consumes-trans, prepend_known-nil}
+use Rattle.std.proofs.lemmas.List.{map-append}
+use Rattle.std.proofs.lemmas.List.Sums.{fold-append}
+use Rattle.std.proofs.lemmas.List.Elements.{All-nil, All-push}
+use Rattle.std.proofs.lemmas.Grind.{flat_map-append}
+use Rattle.line_input.specs.Lines.{IsEndless, joined}
+use Rattle.book_rows.specs.Book.{Book}
+use Rattle.office_step.specs.declared.call.Capacity.{Capacity}
+use Rattle.batch_command.specs.Output.{Given, Told, told_of, one_more, batch_output}
+use Rattle.batch_command.specs.Batch.{line_limit, lines_in}
+
+-- a line of a batch: within one line, not too long, and on a day that the clock may show
+pub record IsTaken (shows : ℕ → Type 0) (given : Given) : Type 0 where
+  pub endless : IsEndless given.line
+  pub short : length given.line ≤ line_limit
+  pub shown : shows given.day
+
+-- these lines were taken and answered
+pub record SoFar (capacity : Capacity) (shows : ℕ → Type 0) (old new : Book) (left known held held_now : Option (List ℕ)) (given : List Given) : Type 0 where
+  pub taken : All (IsTaken shows) given
+  pub consumed : Consumes left known (joined (lines_in given))
+  pub book : new ≡ (batch_output capacity old given).book
+  pub written : Appends held held_now (batch_output capacity old given).text
+
+-- the output with one line more
+pub batch_output-more : (capacity : Capacity) (book : Book) (given : List Given) (g : Given)
+    → batch_output capacity book (given ++ g ∷ []) ≡ one_more capacity (batch_output capacity book given) g
+batch_output-more capacity book given g = fold-append (one_more capacity) (record { text = []; book = book }) given (g ∷ [])
+
+pub joined-more : (given : List Given) (g : Given) → joined (lines_in (given ++ g ∷ [])) ≡ joined (lines_in given) ++ (g.line ++ 10 ∷ [])
+joined-more given g =
+    ap joined (map-append (λ (g : Given). g.line) given (g ∷ []))
+    ∙ flat_map-append (λ (line : List ℕ). line ++ 10 ∷ []) (lines_in given) (g.line ∷ [])
+    ∙ ap (λ l. joined (lines_in given) ++ l) (append-nil (g.line ++ 10 ∷ []))
+
+-- the book after one line more
+pub book-more : (capacity : Capacity) (old mid new : Book) (given : List Given) (g : Given) → mid ≡ (batch_output capacity old given).book
+    → new ≡ (told_of capacity mid g).book → new ≡ (batch_output capacity old (given ++ g ∷ [])).book
+book-more capacity old mid new given g is next =
+    next ∙ ap (λ (b : Book). (told_of capacity b g).book) is ∙ ap (λ (t : Told). t.book) (sym (batch_output-more capacity old given g))
+
+-- what was written with one line more
+pub text-more : (capacity : Capacity) (old mid : Book) (given : List Given) (g : Given) → mid ≡ (batch_output capacity old given).book
+    → (batch_output capacity old given).text ++ (told_of capacity mid g).text ≡ (batch_output capacity old (given ++ g ∷ [])).text
+text-more capacity old mid given g is =
+    ap (λ (b : Book). (batch_output capacity old given).text ++ (told_of capacity b g).text) is
+    ∙ ap (λ (t : Told). t.text) (sym (batch_output-more capacity old given g))
+
+pub written-more : (capacity : Capacity) (old mid : Book) (held held_mid held_now : Option (List ℕ)) (given : List Given) (g : Given)
+    → mid ≡ (batch_output capacity old given).book → Appends held held_mid (batch_output capacity old given).text
+    → Appends held_mid held_now (told_of capacity mid g).text → Appends held held_now (batch_output capacity old (given ++ g ∷ [])).text
+written-more capacity old mid held held_mid held_now given g is first next =
+    subst (Appends held held_now) (text-more capacity old mid given g is) (Appends-trans held held_mid held_now _ _ first next)
+
+module _ (capacity : Capacity) (shows : ℕ → Type 0) (old : Book) where
+  -- nothing was taken yet
+  pub so_far_nothing : (left known held : Option (List ℕ)) → Consumes left known [] → Appends held held [] → SoFar capacity shows old old left known held held []
+  so_far_nothing left known held consumed written = record {
+    taken = All-nil (IsTaken shows);
+    consumed = consumed;
+    book = refl;
+    written = written;
+  }
+
+  -- a reader that holds nothing is at the start of its source
+  pub so_far_start : (rest : List ℕ) (left held : Option (List ℕ)) → rest ≡ [] → SoFar capacity shows old old left (prepend_known rest left) held held []
+  so_far_start rest left held is =
+      so_far_nothing left (prepend_known rest left) held
+      (subst (λ (k : Option (List ℕ)). Consumes left k []) (sym (ap (λ (r : List ℕ). prepend_known r left) is ∙ prepend_known-nil left)) (Consumes-nil left))
+      (Appends-nil held)
+
+  pub so_far_more : (mid new : Book) (left known known_now held held_mid held_now : Option (List ℕ)) (given : List Given) (g : Given)
+      → SoFar capacity shows old mid left known held held_mid given → IsTaken shows g → Consumes known known_now (g.line ++ 10 ∷ [])
+      → new ≡ (told_of capacity mid g).book → Appends held_mid held_now (told_of capacity mid g).text
+      → SoFar capacity shows old new left known_now held held_now (given ++ g ∷ [])
+  so_far_more mid new left known known_now held held_mid held_now given g so_far taken consumed book written = record {
+    taken = All-push (IsTaken shows) given g so_far.taken taken;
+    consumed = subst (Consumes left known_now) (sym (joined-more given g)) (Consumes-trans left known known_now _ _ so_far.consumed consumed);
+    book = book-more capacity old mid new given g so_far.book book;
+    written = written-more capacity old mid held held_mid held_now given g so_far.book so_far.written written;
+  }

@@ -1,0 +1,70 @@
+-- What a batch writes and what it makes of a book, line after line.
+use Rattle.std.specs.Prelude.{ℕ, ◌||◌, if◌then◌else◌, Bool, Option, Some, None, unwrap_or, List, [], ◌∷◌, ◌++◌, Result, Ok, Err, fold, bytes_eq}
+use Rattle.book_rows.specs.Book.{Book}
+use Rattle.office_step.specs.declared.call.Capacity.{Capacity}
+use Rattle.office_step.specs.declared.refusal.Refusal.{Refusal}
+use Rattle.office_step.specs.Step.{Outcome, step}
+use Rattle.office_answers.specs.declared.answer.Answer.{Answer}
+use Rattle.office_answers.specs.declared.reply.Reply.TheVariants as reply
+use Rattle.office_answers.specs.Answering.{answer_to}
+use Rattle.json_front.specs.declared.line.BatchLine.{BatchLine}
+use Rattle.json_front.specs.declared.line.BatchLine.TheVariants as batch_line
+use Rattle.json_front.specs.Lines.{line_from}
+use Rattle.json_front.specs.Replies.{reply_text, bad_form_text}
+use Rattle.json_front.specs.Answers.{answer_text}
+use Rattle.clerk_desk.specs.Serving.{reply_of, book_after}
+
+-- a line of the input, and the day that the clock showed for it
+pub record Given : Type 0 where
+  pub line : List ℕ
+  pub day : ℕ
+
+-- what was written, and the book
+pub record Told : Type 0 where
+  pub text : List ℕ
+  pub book : Book
+
+-- every act of a batch has this session
+abbrev pub session : ℕ
+session = 1
+
+-- an empty line, or one of a single carriage return, is passed over
+abbrev pub is_passed_over : List ℕ → Bool
+is_passed_over line = bytes_eq line [] || bytes_eq line (13 ∷ [])
+
+abbrev pub line_end : List ℕ
+line_end = 10 ∷ []
+
+-- ---- one line
+
+-- a call: the office's reply, and the book after it
+abbrev pub told_of_call : Book → Outcome → Told
+told_of_call book outcome = record { text = reply_text (reply_of book outcome) ++ line_end; book = book_after book outcome }
+
+-- a question: the answer, or why there is none
+abbrev pub answered_text : Result Answer Refusal → List ℕ
+answered_text (Ok answer) = answer_text answer
+answered_text (Err refusal) = reply_text (reply.Refused refusal)
+
+-- by what the line is read as; the line's own day takes the place of the clock's
+abbrev pub told_by : Capacity → Book → ℕ → Result BatchLine (List ℕ) → Told
+told_by capacity book day (Ok (batch_line.Act today call)) = told_of_call book (step book capacity session (unwrap_or today day) call)
+told_by capacity book day (Ok (batch_line.Ask question)) = record { text = answered_text (answer_to book question) ++ line_end; book = book }
+told_by capacity book day (Err path) = record { text = bad_form_text path ++ line_end; book = book }
+
+-- what a line is answered with, and the book after it
+abbrev pub told_of : Capacity → Book → Given → Told
+told_of capacity book given =
+    if is_passed_over given.line then record { text = []; book = book } else told_by capacity book given.day (line_from given.line)
+
+-- ---- all lines
+
+abbrev pub then_told : Told → Told → Told
+then_told earlier next = record { text = earlier.text ++ next.text; book = next.book }
+
+abbrev pub one_more : Capacity → Told → Given → Told
+one_more capacity earlier given = then_told earlier (told_of capacity earlier.book given)
+
+-- what the lines are answered with, one after another, and the book after them
+abbrev pub batch_output : Capacity → Book → List Given → Told
+batch_output capacity book given = fold (one_more capacity) (record { text = []; book = book }) given

@@ -1,0 +1,9 @@
+//! A batch: the lines of a source are answered one after another, and each new act is kept before its reply is written.
+#![tactic(auto)]
+
+mod batch;
+mod ending;
+mod line;
+
+pub use batch::answer_lines;
+pub use ending::Ending;
