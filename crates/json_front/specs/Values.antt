@@ -1,5 +1,5 @@
 -- The plain values of replies and answers.
-use Rattle.std.specs.Prelude.{ℕ, ℤ, Option, Some, None, codes}
+use Rattle.std.specs.Prelude.{ℤ, Option, Some, None, codes}
 use Rattle.serde_json.specs.Data.{Data, null, number, object, member, no_members}
 use Rattle.serde_json.specs.Find.{of_integer}
 use Rattle.json_form.specs.Written.{number_data}
