@@ -1,8 +1,8 @@
 -- Which lines of the input were answered, by what was taken of it.
-use Rattle.std.proofs.Common.{◌≡◌, ◌≤◌, ◌<◌, ◌+◌, ◌⊎◌, inl, inr, ℕ, List, [], ◌∷◌, ◌++◌, None, Some, IfSome, length, refl, sym, ap, subst, ◌∙◌, append-nil, append_assoc, arith}
+use Rattle.std.proofs.Common.{◌≡◌, ◌≤◌, ◌<◌, ◌+◌, inl, inr, ℕ, List, [], ◌∷◌, ◌++◌, None, Some, IfSome, length, sym, ap, ◌∙◌, append-nil, append_assoc, arith}
 use Rattle.std.specs.Prelude.{Option, All}
 use Rattle.std.specs.Io.KnownBytes.{Consumes, Keeps, IsAtEnd, prepend_known}
-use Rattle.line_input.specs.Lines.{IsEndless, lines_of, ended_lines, joined}
+use Rattle.line_input.specs.Lines.{IsEndless, lines_of, joined}
 use Rattle.line_input.specs.Reading.{BeginsLong}
 use Rattle.line_input.proofs.Passed.{FirstIsLong, lines_of-line, lines_of-last, ended_lines-none, lines_of-joined, ended_lines-joined, first_is_long}
 use Rattle.batch_command.specs.Batch.{line_limit, most_lines, Follows}

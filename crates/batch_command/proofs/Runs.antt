@@ -1,6 +1,6 @@
 -- How a batch has run at each of its ends.
-use Rattle.std.proofs.Common.{◌≡◌, ◌≤◌, ◌<◌, ◌+◌, ◌⊎◌, inl, inr, ℕ, List, [], ◌∷◌, ◌++◌, None, Some, IfSome, length, take, refl, sym, ap, subst, ◌∙◌, arith, length-append}
-use Rattle.std.specs.Prelude.{Option, All, map, unwrap_or}
+use Rattle.std.proofs.Common.{◌≡◌, ◌≤◌, ◌<◌, ◌+◌, ◌⊎◌, inl, inr, ℕ, List, [], ◌∷◌, ◌++◌, None, Some, IfSome, length, refl, sym, subst, ◌∙◌, arith, length-append}
+use Rattle.std.specs.Prelude.{Option, All, unwrap_or}
 use Rattle.std.specs.Io.KnownBytes.{Appends, Consumes, Keeps, IsAtEnd, prepend_known}
 use Rattle.std.proofs.KnownBytes.{Appends-trans, Appends-kept, Consumes-trans}
 use Rattle.std.proofs.lemmas.List.{map-append, length-map}
@@ -8,15 +8,15 @@ use Rattle.std.proofs.lemmas.List.Elements.{All-push, All-map, All-weaker}
 use Rattle.office_io.specs.Transfer.{AppendsPart}
 use Rattle.line_input.specs.declared.reader.Next.{Next}
 use Rattle.line_input.specs.declared.reader.Next.TheVariants as next
-use Rattle.line_input.specs.Lines.{IsEndless, joined, lines_of}
+use Rattle.line_input.specs.Lines.{IsEndless, lines_of}
 use Rattle.line_input.specs.Reading.{Reading, Comes}
 use Rattle.book_rows.specs.Book.{Book}
 use Rattle.office_step.specs.declared.call.Capacity.{Capacity}
 use Rattle.batch_command.specs.declared.ending.Ending.{Ending}
 use Rattle.batch_command.specs.declared.ending.Ending.TheVariants as ending
-use Rattle.batch_command.specs.Output.{Given, Told, told_of, batch_output}
+use Rattle.batch_command.specs.Output.{Given, told_of, batch_output}
 use Rattle.batch_command.specs.Line.{AnswersLine}
-use Rattle.batch_command.specs.Batch.{line_limit, most_lines, lines_in, ending_of, Follows, Writes, WritesPart, WritesBefore, Ran}
+use Rattle.batch_command.specs.Batch.{line_limit, most_lines, lines_in, ending_of, Follows, Writes, WritesPart, Ran}
 use Rattle.batch_command.proofs.SoFar.{IsTaken, SoFar, book-more, written-more, joined-more}
 use Rattle.batch_command.proofs.Ends.{IsFront, is_front, is_front_last, follows_done, follows_last, follows_failed, follows_long, follows_more, follows_more_last}
 

@@ -1,5 +1,5 @@
 -- The turns of the loop over the lines, by what the reader and the line's answer say.
-use Rattle.std.proofs.Common.{◌≡◌, ◌≤◌, ◌<◌, ◌+◌, ℕ, List, [], ◌∷◌, ◌++◌, None, Some, length, sym, ap, subst, ◌∙◌, arith, length-append}
+use Rattle.std.proofs.Common.{◌≡◌, ◌<◌, ◌+◌, ℕ, List, [], ◌∷◌, ◌++◌, None, Some, length, sym, subst, arith, length-append}
 use Rattle.std.specs.Prelude.{Option, unwrap_or}
 use Rattle.line_input.specs.declared.reader.Next.TheVariants as next
 use Rattle.line_input.specs.Reading.{Reading, Comes}
@@ -10,7 +10,7 @@ use Rattle.batch_command.specs.declared.ending.Ending.TheVariants as ending
 use Rattle.batch_command.specs.Output.{Given, told_of}
 use Rattle.batch_command.specs.Line.{AnswersLine}
 use Rattle.batch_command.specs.Batch.{line_limit, most_lines, Ran}
-use Rattle.batch_command.proofs.SoFar.{IsTaken, SoFar, so_far_more}
+use Rattle.batch_command.proofs.SoFar.{SoFar, so_far_more}
 use Rattle.batch_command.proofs.Runs.{ran_line, ran_last}
 
 -- the line was answered on a day that the clock may show

@@ -1,5 +1,5 @@
 -- What a batch writes and what it makes of a book, line after line.
-use Rattle.std.specs.Prelude.{ℕ, ◌||◌, if◌then◌else◌, Bool, Option, Some, None, unwrap_or, List, [], ◌∷◌, ◌++◌, Result, Ok, Err, fold, bytes_eq}
+use Rattle.std.specs.Prelude.{ℕ, ◌||◌, if◌then◌else◌, Bool, unwrap_or, List, [], ◌∷◌, ◌++◌, Result, Ok, Err, fold, bytes_eq}
 use Rattle.book_rows.specs.Book.{Book}
 use Rattle.office_step.specs.declared.call.Capacity.{Capacity}
 use Rattle.office_step.specs.declared.refusal.Refusal.{Refusal}

@@ -1,8 +1,7 @@
 -- What comes of a line that is held.
-use Rattle.std.proofs.Common.{◌≡◌, ◌≤◌, ℕ, List, [], ◌∷◌, ◌++◌, Some, None, ap, sym, ◌∙◌, append_assoc, length, false, IfSome, subst}
+use Rattle.std.proofs.Common.{◌≡◌, ℕ, List, [], ◌∷◌, ◌++◌, Some, None, ap, sym, ◌∙◌, append_assoc, IfSome, subst}
 use Rattle.std.specs.Prelude.{Option}
 use Rattle.std.specs.Io.KnownBytes.{Keeps, Consumes, prepend_known}
-use Rattle.line_input.specs.Lines.{has_end}
 use Rattle.line_input.specs.Reading.{Reading, Comes, TakesHeld, BeginsLong}
 use Rattle.line_input.specs.declared.reader.Next.{Next}
 use Rattle.line_input.specs.declared.reader.Next.TheVariants as next

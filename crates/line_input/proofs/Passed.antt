@@ -1,9 +1,8 @@
 -- Bytes whose first lines are known.
-use Rattle.std.proofs.Common.{◌≡◌, ◌≤◌, ◌<◌, ℕ, zero, suc, ◌+◌, Bool, false, true, List, [], ◌∷◌, ◌++◌, length, refl, sym, ap, ◌∙◌, append_assoc, arith, ◌==◌, ◌||◌}
+use Rattle.std.proofs.Common.{◌≡◌, ◌≤◌, ℕ, suc, ◌+◌, Bool, false, true, List, [], ◌∷◌, ◌++◌, length, refl, ap, ◌∙◌, append_assoc, arith, ◌==◌, ◌||◌}
 use Rattle.std.specs.Prelude.{All}
-use Rattle.std.specs.List.{list_any}
 use Rattle.std.proofs.lemmas.List.Elements.{All-head, All-tail}
-use Rattle.line_input.specs.Lines.{has_end, IsEndless, lines_of, ended_lines, into_first, onto_first, joined}
+use Rattle.line_input.specs.Lines.{has_end, IsEndless, lines_of, ended_lines, into_first, joined}
 
 or-false : (a b : Bool) → (a || b) ≡ false → (a ≡ false) × (b ≡ false)
 or-false true b h = absurd (cc)

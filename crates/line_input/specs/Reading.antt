@@ -1,7 +1,7 @@
 -- What a reader of lines has taken from its source, and what one more line takes.
 --
 -- The bytes that are left to it are those that it holds and then those of the source, where that tells them.
-use Rattle.std.specs.Prelude.{◌≡◌, ℕ, ◌<◌, ◌≤◌, false, Option, Some, None, IfSome, List, [], ◌∷◌, ◌++◌, length, ⊤}
+use Rattle.std.specs.Prelude.{◌≡◌, ℕ, ◌<◌, ◌≤◌, false, Option, IfSome, List, [], ◌∷◌, ◌++◌, length, ⊤}
 use Rattle.std.specs.Io.KnownBytes.{Keeps, Consumes, IsAtEnd, prepend_known}
 use Rattle.office_io.specs.Outside.{Faulted}
 use Rattle.line_input.specs.declared.reader.Next.{Next}
