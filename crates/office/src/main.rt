@@ -1,6 +1,7 @@
 //! The office program over the real streams and clock.
 #![tactic(auto)]
 
+use keeper_core::MemoryKeeper;
 use office_io::{StreamSink, StreamSource, SystemClock};
 use std::process::ExitCode;
 use std::rt::Env;
@@ -25,6 +26,14 @@ fn main(rt: HostRuntime) -> ExitCode {
     let mut source = StreamSource::new(rt.stdin());
     let mut sink = StreamSink::new(rt.stdout());
     let clock = SystemClock::new(&rt);
-    let status = office_prog::run(rt.alloc(), &words, &mut source, &mut sink, &clock);
+    let mut keeper = MemoryKeeper::new(rt.alloc());
+    let status = office_prog::run(
+        rt.alloc(),
+        &words,
+        &mut source,
+        &mut sink,
+        &clock,
+        &mut keeper,
+    );
     ExitCode::from(status)
 }

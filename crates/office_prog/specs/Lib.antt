@@ -1,2 +1,4 @@
 pub mod Answer
+pub mod Words
 pub mod Run
+pub mod Batch

@@ -1,20 +1,13 @@
 -- What the program answers to its words and its input.
-use Rattle.std.specs.Prelude.{ℕ, Bool, false, nat_le, if◌then◌else◌, List, [], ◌∷◌, length, codes, bytes_eq, String, string_bytes}
-use Rattle.std.specs.declared.alloc.Global.{Global}
+use Rattle.std.specs.Prelude.{ℕ, nat_le, if◌then◌else◌, List, [], length, codes}
 use Rattle.assess_command.specs.declared.answer.Assessed.{Assessed}
 use Rattle.assess_command.specs.declared.answer.Assessed.TheVariants.{Paid, Refused}
 use Rattle.assess_command.specs.Assess.{assessed}
 use Rattle.office_prog.specs.Answer.{Answer}
 
--- the words are the one word `assess`
-abbrev pub is_assess : List (String Global) → Bool
-is_assess [] = false
-is_assess (word ∷ []) = bytes_eq (string_bytes word) (codes "assess")
-is_assess (word ∷ other ∷ others) = false
-
 -- other words are answered with how the program is used
 abbrev pub usage : Answer
-usage = record { status = 2; text = codes "usage: office assess\n" }
+usage = record { status = 2; text = codes "usage: office assess|batch\n" }
 
 -- an assess object has at most 16,384 bytes
 abbrev pub input_limit : ℕ

@@ -1,10 +1,14 @@
-//! The office program over its words, a source, a sink and a clock.
+//! The office program over its words, a source, a sink, a clock and the keeper of its book.
 #![tactic(auto)]
 
+mod batch;
 mod ending;
 mod program;
+mod words;
 
 pub use program::run;
 
+#[cfg(test)]
+mod batch_tests;
 #[cfg(test)]
 mod tests;

@@ -1,5 +1,6 @@
 use super::*;
 use days_core::Day;
+use keeper_core::MemoryKeeper;
 use office_io::{FixedClock, MemorySink, MemorySource};
 use std::alloc::{AllocError, Global};
 use std::test::Fail;
@@ -26,7 +27,7 @@ const EXEMPT: &str = "{\"adjusted\":0,\"annual\":0,\"assistance\":760,\"reimburs
 const HELPED: &str = "{\"adjusted\":8487,\"annual\":9600,\"assistance\":548,\"reimbursement\":0,\
     \"tenant_rent\":152,\"ttp\":212}\n";
 
-const USAGE: &str = "usage: office assess\n";
+const USAGE: &str = "usage: office assess|batch\n";
 
 fn household(alloc: Global, old: &str, new: &str) -> Result<Vec<u8>, AllocError> {
     Ok(HOUSEHOLD.replace(alloc, old, new)?.into_bytes())
@@ -43,11 +44,12 @@ fn ran(
     let mut source = MemorySource::new(input, unread.into_iter().collect(alloc)?, 7);
     let mut sink = MemorySink::new(alloc, 200, unwritten.into_iter().collect(alloc)?, 7)?;
     let clock = FixedClock::new(Day::from_number(52_595).ok_or("2024-01-01")?);
+    let mut keeper = MemoryKeeper::new(alloc);
     let words: Vec<String> = words
         .split_whitespace()
         .map(|word| word.to_string(alloc))
         .try_collect(alloc)?;
-    let status = run(alloc, &words, &mut source, &mut sink, &clock);
+    let status = run(alloc, &words, &mut source, &mut sink, &clock, &mut keeper);
     Ok((status, sink.into_bytes()))
 }
 
@@ -121,7 +123,7 @@ fn takes_16384_bytes_and_its_one_word(rt: HostRuntime) -> Result<(), Fail> {
     assert_eq!(rt; (status, written.as_slice()), (0, PAID.as_bytes()));
     let (status, written) = ran(alloc, "assess", longer, None, None)?;
     assert_eq!(rt; (status, written.len()), (9, 0));
-    for words in ["assess assess", "", "Assess", "batch"] {
+    for words in ["assess assess", "", "Assess", "batches"] {
         let (status, written) = ran(alloc, words, Vec::new(alloc), None, None)?;
         assert_eq!(rt; status, 2, "{words}");
         assert_eq!(rt; written.as_slice(), USAGE.as_bytes());

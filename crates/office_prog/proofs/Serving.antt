@@ -1,0 +1,38 @@
+-- The book that was opened is the one that the keeper told.
+use Rattle.std.proofs.Common.{◌≡◌, ℕ, None, List, subst}
+use Rattle.std.specs.Prelude.{Option}
+use Rattle.book_rows.specs.Book.{Book}
+use Rattle.keeper_core.specs.Keeping.{BadRow, Keeps}
+use Rattle.office_step.specs.declared.call.Capacity.{Capacity}
+use Rattle.office_step.specs.Valid.{first_fault}
+use Rattle.clerk_desk.specs.Opening.{TellsOnly}
+use Rattle.clerk_desk.specs.Serving.{ToldBefore}
+use Rattle.batch_command.specs.declared.ending.Ending.{Ending}
+use Rattle.batch_command.specs.Batch.{Counts, Ran, Blames}
+use Rattle.office_prog.specs.Batch.{Serves, largest, status_of}
+
+-- what the keeper tells at the end it told of the book that was opened
+told_of_start : (start : Book) (holds holds_mid holds_now : Book → Type 0) (bad_mid : BadRow → Type 0) → TellsOnly start holds_mid bad_mid → Keeps holds holds_mid
+    → ToldBefore holds_mid holds_now → (book : Book) → holds_now book → holds start
+told_of_start start holds holds_mid holds_now bad_mid only kept before book told =
+    let was = before book told in subst holds (only.holds_only was.0 was.1) (kept was.0 was.1)
+
+pub served : (shows : ℕ → Type 0) (holds holds_mid holds_now : Book → Type 0) (bad_mid : BadRow → Type 0) (left left_now held held_now : Option (List ℕ))
+    (source sink keeper keeper_mid : ℕ) (now : Counts) (capacity : Capacity) (start after : Book) (end : Ending) (status : ℕ)
+    → first_fault largest start ≡ None → capacity ≡ largest → TellsOnly start holds_mid bad_mid → Keeps holds holds_mid → keeper_mid ≡ keeper
+    → ((book : Book) → holds_now book → book ≡ after) → ToldBefore holds_mid holds_now
+    → Ran capacity shows start after left left_now held held_now end → Blames (record { source = source; sink = sink; keeper = keeper_mid }) now end
+    → status ≡ status_of end
+    → Serves shows holds holds_now (record { left = left; held = held; counts = record { source = source; sink = sink; keeper = keeper } })
+    (record { left = left_now; held = held_now; counts = now }) status
+served shows holds holds_mid holds_now bad_mid left left_now held held_now source sink keeper keeper_mid now capacity start after end status
+    valid same only kept quiet then_kept before ran blames is = record {
+      start = start;
+      after = after;
+      ending = end;
+      valid = valid;
+      kept = λ book told. (then_kept book told, told_of_start start holds holds_mid holds_now bad_mid only kept before book told);
+      ran = subst (λ (k : Capacity). Ran k shows start after left left_now held held_now end) same ran;
+      blames = subst (λ (n : ℕ). Blames (record { source = source; sink = sink; keeper = n }) now end) quiet blames;
+      status_is = is;
+    }
