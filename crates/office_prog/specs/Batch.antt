@@ -8,6 +8,7 @@ use Rattle.book_rows.specs.Book.{Book}
 use Rattle.keeper_core.specs.Keeping.{BadRow, Keeps}
 use Rattle.office_step.specs.declared.call.Capacity.{Capacity}
 use Rattle.office_step.specs.declared.fault.Fault.{Fault}
+use Rattle.office_step.specs.Step.{IsReached}
 use Rattle.office_step.specs.Valid.{first_fault}
 use Rattle.clerk_desk.specs.declared.opening.DeskFault.{DeskFault}
 use Rattle.clerk_desk.specs.declared.opening.DeskFault.TheVariants as fault
@@ -37,13 +38,14 @@ status_of ending.StoreFault = 5
 status_of ending.NoMemory = 7
 status_of ending.TooLong = 9
 
--- An office's book was opened and the lines were answered on it. Where the keeper tells a book now, that is the one after
--- them, and it told the one before them.
+-- An office's book was opened and the lines were answered on it. The book after them is an office's too. Where the keeper
+-- tells a book now, that is the one after them, and it told the one before them.
 pub record Serves (shows : ℕ → Type 0) (holds holds_now : Book → Type 0) (old new : Door) (status : ℕ) : Type 0 where
   pub start : Book
   pub after : Book
   pub ending : Ending
   pub valid : first_fault largest start ≡ None
+  pub reached : IsReached largest after
   pub kept : (book : Book) → holds_now book → (book ≡ after) × holds start
   pub ran : Ran largest shows start after old.left new.left old.held new.held ending
   pub blames : Blames old.counts new.counts ending
@@ -65,11 +67,14 @@ pub record IsQuiet (old new : Door) : Type 0 where
   pub held : KeepsBytes old.held new.held
   pub counts : new.counts ≡ old.counts
 
--- the fault is written; or nothing is, where the keeper failed or memory ran out
+-- The fault is written; or nothing is, where the keeper failed or memory ran out. Just the one that is blamed counted a
+-- fault, of the sink and the keeper.
 abbrev pub Tells : Door → Door → DeskFault → ℕ → Type 0
 Tells old new (fault.BadBook found) status =
-    Ends (bad_book found) old.held new.held old.counts.sink new.counts.sink status ⊎ ((status ≡ 7) × IsQuiet old new)
-Tells old new fault.StoreFault status = (status ≡ 5) × KeepsBytes old.held new.held × Faulted old.counts.keeper new.counts.keeper
+    (Ends (bad_book found) old.held new.held old.counts.sink new.counts.sink status × (new.counts.keeper ≡ old.counts.keeper))
+    ⊎ ((status ≡ 7) × IsQuiet old new)
+Tells old new fault.StoreFault status =
+    (status ≡ 5) × KeepsBytes old.held new.held × Faulted old.counts.keeper new.counts.keeper × (new.counts.sink ≡ old.counts.sink)
 Tells old new fault.NoMemory status = (status ≡ 7) × IsQuiet old new
 
 -- the book wasn't opened, for that reason, and nothing was read
@@ -78,6 +83,7 @@ pub record Fails (holds holds_now : Book → Type 0) (bad_now : BadRow → Type 
   pub is_why : IsUnopened largest holds_now bad_now why
   pub kept : Keeps holds holds_now
   pub unread : new.left ≡ old.left
+  pub unfaulted : new.counts.source ≡ old.counts.source
   pub told : Tells old new why status
 
 -- what comes of it

@@ -33,6 +33,7 @@ pub fn run_batch<K: Keeper, S: Source, W: Sink, C: Clock>(
     match open_office(alloc, keeper, LARGEST) {
         Ok(mut office) => {
             let ending = answer_lines(alloc, &mut office, source, sink, clock, keeper);
+            let _of_an_office = office.tables();
             status_of(ending)
         }
         Err(DeskFault::BadBook(fault)) => tell_bad_book(alloc, sink, fault),
