@@ -50,6 +50,7 @@ fn answer(rt: &HostRuntime, keeper: &mut MemoryKeeper) -> Result<u8, AllocError>
     let words = ["batch".to_string(alloc)?];
     let mut source = StreamSource::new(rt.stdin());
     let mut sink = StreamSink::new(rt.stdout());
+    // Each line tells its own day, so any clock will do.
     let clock = FixedClock::new(Day::from_number(43_829).unwrap());
     Ok(run(alloc, &words, &mut source, &mut sink, &clock, keeper))
 }
