@@ -11,7 +11,7 @@ use rent_table::Plan;
 ///
 /// Numbers of applicants, households, units and records are any that 32 bits hold: whether they name something is the
 /// office's matter.
-#[derive(Debug, Drop, PartialEq, Eq)]
+#[derive(Drop)]
 pub enum Command {
     Plan(Plan),
     Unit(UnitAct),
@@ -32,4 +32,9 @@ pub enum Command {
     Terminate(TerminateAct),
     Withdraw(WithdrawAct),
     Close(CloseAct),
+}
+
+impl Command {
+    /// Frees it. It stands apart, so that no other proof has a case for each kind of command that goes out of use.
+    pub fn let_go(self) {}
 }

@@ -51,11 +51,18 @@ fn keep<K: Keeper>(alloc: Global, office: &mut Office, keeper: &mut K, step: Ste
     batches_follow();
     let _of_an_office = office.tables();
     let Ok(()) = office.reserve(&step) else {
+        step.let_go();
         return Reply::NoMemory;
     };
     match keeper.commit(alloc, step.batch()) {
         Committed::Done => Reply::Accepted(office.apply(step)),
-        Committed::Failed => Reply::StoreFault,
-        Committed::NoMemory => Reply::NoMemory,
+        Committed::Failed => {
+            step.let_go();
+            Reply::StoreFault
+        }
+        Committed::NoMemory => {
+            step.let_go();
+            Reply::NoMemory
+        }
     }
 }

@@ -2,7 +2,7 @@ ghost use Rattle.std.specs.Prelude.{◌≡◌, true, IfOk};
 ghost use Rattle.serde_json.specs.View.{view};
 ghost use Rattle.json_form.specs.Gives.{Gives};
 ghost use Rattle.book_rows.specs.Fit.{is_application};
-ghost use Rattle.command_text.specs.Applicants.{apply_at, remove_at, apply_data, remove_data};
+ghost use Rattle.command_forms.specs.Applicants.{apply_at, remove_at, apply_data, remove_data};
 
 use crate::fields::{name_field, put_name};
 use crate::numbers::numbers_field;
@@ -13,7 +13,7 @@ use serde_json::{Map, Value};
 use std::alloc::Global;
 
 /// Reads the command, behind its kind.
-#[tactic(auto, unfolding(crate::specs::Applicants::apply_at))]
+#[tactic(auto, unfolding(command_forms::specs::Applicants::apply_at))]
 pub fn apply_of(alloc: Global, value: &Value) -> Result<ApplyAct, FormFault>
     ensures exact { Gives (λ apply. apply) result (apply_at (view value.now)) }
     ensures fit { IfOk result (λ apply. is_application apply ≡ true) }
@@ -60,7 +60,7 @@ pub fn apply_value(alloc: Global, apply: &ApplyAct) -> Result<Value, NoMemory>
 }
 
 /// Reads the command, behind its kind.
-#[tactic(auto, unfolding(crate::specs::Applicants::remove_at))]
+#[tactic(auto, unfolding(command_forms::specs::Applicants::remove_at))]
 pub fn remove_of(alloc: Global, value: &Value) -> Result<RemoveAct, FormFault>
     ensures { Gives (λ remove. remove) result (remove_at (view value.now)) }
 {

@@ -2,12 +2,12 @@ ghost use Rattle.std.specs.Prelude.{◌≡◌, ◌≢◌, true, Some, None, IfOk
 ghost use Rattle.serde_json.specs.View.{view};
 ghost use Rattle.book_rows.specs.Fit.{is_fit};
 ghost use Rattle.book_rows.specs.declared.command.Command.{Command};
-ghost use Rattle.command_text.specs.Holdable.{IsHoldable};
-ghost use Rattle.command_text.specs.Commands.{command_at, accepted, command_from, body_of, command_in};
+ghost use Rattle.command_forms.specs.Holdable.{IsHoldable};
+ghost use Rattle.command_forms.specs.Commands.{command_at, accepted, command_from, body_of, command_in};
 
 use crate::command::{command_of_value, value_of_command};
-use crate::holdable::held_command;
 use book_rows::Command;
+use command_forms::held_command;
 use json_form::{FormFault, value_of_bytes};
 use plain_data::{NoMemory, Text};
 use serde_json::Value;
@@ -67,10 +67,30 @@ fn own_command(alloc: Global, body: &Text) -> Result<Command, BodyFault>
     ensures bad_body { result ≡ Err BodyFault.BadBody → command_in body.now ≡ None }
 {
     let asked = command_of_bytes(alloc, body.as_bytes())?;
-    if body_of_command(alloc, &asked)? != *body {
-        return Err(BodyFault::BadBody);
+    match fault_of_text(alloc, &asked, body) {
+        None => Ok(asked),
+        Some(fault) => {
+            asked.let_go();
+            Err(fault)
+        }
     }
-    Ok(asked)
+}
+
+/// Why the text isn't the command's own, if it isn't.
+fn fault_of_text(alloc: Global, asked: &Command, body: &Text) -> Option<BodyFault>
+    ensures own { result ≡ None → body_of asked.now ≡ body.now }
+    ensures bad_body { result ≡ Some BodyFault.BadBody → body_of asked.now ≢ body.now }
+{
+    match body_of_command(alloc, asked) {
+        Ok(own) => {
+            if own == *body {
+                None
+            } else {
+                Some(BodyFault::BadBody)
+            }
+        }
+        Err(NoMemory) => Some(BodyFault::NoMemory),
+    }
 }
 
 fn command_of_bytes(alloc: Global, bytes: &[u8]) -> Result<Command, BodyFault>

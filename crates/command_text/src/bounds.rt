@@ -1,12 +1,13 @@
 //! The bounds of a plan.
 
-ghost use Rattle.std.specs.Prelude.{◌≡◌, true, codes, map, IfOk};
+ghost use Rattle.std.specs.Prelude.{◌≡◌, true, codes, map, length, IfOk};
+ghost use Rattle.std.specs.List.{list_all};
 ghost use Rattle.serde_json.specs.View.{view, items_view};
 ghost use Rattle.json_form.specs.Gives.{Gives};
 ghost use Rattle.json_form.specs.Form as form;
 ghost use Rattle.json_form.specs.Path.{position};
 ghost use Rattle.book_rows.specs.Fit.{is_within, is_bound, are_bounds};
-ghost use Rattle.command_text.specs.Fields.{bound_of, bound_at, bound_data, six_bounds, bounds_at, bounds_data};
+ghost use Rattle.command_forms.specs.Fields.{bound_of, bound_at, bound_data, six_bounds, bounds_at, bounds_data};
 
 use crate::numbers::numbers_among;
 use json_form::{FormFault, Written};
@@ -39,23 +40,28 @@ fn bounds_of(alloc: Global, value: &Value) -> Result<[Bound; 6], FormFault>
     }
 }
 
-#[tactic(auto, using(json_form::proofs::Items::length_as_count), unfolding(json_form::specs::Form::items_from))]
+#[tactic(auto, using(json_form::proofs::Items::length_as_count))]
 fn bounds_among(alloc: Global, items: &[Value]) -> Result<[Bound; 6], FormFault>
     ensures exact { Gives (λ bounds. bounds) result (six_bounds (items_view items.now)) }
     ensures fit { IfOk result (λ bounds. are_bounds bounds ≡ true) }
 {
-    match items {
-        [studio, one, two, three, four, five] => {
-            let studio = bound_at(alloc, studio, 0)?;
-            let one = bound_at(alloc, one, 1)?;
-            let two = bound_at(alloc, two, 2)?;
-            let three = bound_at(alloc, three, 3)?;
-            let four = bound_at(alloc, four, 4)?;
-            let five = bound_at(alloc, five, 5)?;
-            Ok([studio, one, two, three, four, five])
-        }
-        _ => Err(FormFault::here(alloc)),
+    if items.len() != 6 {
+        return Err(FormFault::here(alloc));
     }
+    let bounds = rows_among(alloc, items)?;
+    Ok(<[Bound; 6]>::try_from(bounds).unwrap())
+}
+
+fn rows_among(alloc: Global, items: &[Value]) -> Result<Vec<Bound>, FormFault>
+    ensures exact { Gives (λ rows. rows.items) result (form.items_from bound_at 0 (items_view items.now)) }
+    ensures of_length { IfOk result (λ rows. length rows.items ≡ length items.now) }
+    ensures in_range { IfOk result (λ rows. list_all is_bound rows.items ≡ true) }
+{
+    let mut rows = Vec::new(alloc);
+    for (index, item) in items.iter().enumerate() {
+        rows.push(bound_at(alloc, item, index)?)?;
+    }
+    Ok(rows)
 }
 
 fn bound_at(alloc: Global, item: &Value, index: usize) -> Result<Bound, FormFault>
@@ -68,7 +74,7 @@ fn bound_at(alloc: Global, item: &Value, index: usize) -> Result<Bound, FormFaul
     }
 }
 
-#[tactic(auto, using(json_form::proofs::Items::length_as_count))]
+#[tactic(auto, using(json_form::proofs::Items::length_as_count), unfolding(command_forms::specs::Fields::bound_at))]
 fn bound_of_pair(alloc: Global, item: &Value) -> Result<Bound, FormFault>
     ensures exact { Gives (λ bound. bound) result (bound_at (view item.now)) }
     ensures fit { IfOk result (λ bound. is_bound bound ≡ true) }

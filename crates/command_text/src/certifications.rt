@@ -2,8 +2,8 @@ ghost use Rattle.std.specs.Prelude.{◌≡◌, true, IfOk};
 ghost use Rattle.serde_json.specs.View.{view};
 ghost use Rattle.json_form.specs.Gives.{Gives};
 ghost use Rattle.book_rows.specs.Fit.{is_name};
-ghost use Rattle.command_text.specs.Certifications.{start_at, admit_at, annual_at, interim_at, resume_at, gross_at, correct_at};
-ghost use Rattle.command_text.specs.Certifications.{start_data, admit_data, annual_data, interim_data, resume_data, gross_data, correct_data};
+ghost use Rattle.command_forms.specs.Certifications.{start_at, admit_at, annual_at, interim_at, resume_at, gross_at, correct_at};
+ghost use Rattle.command_forms.specs.Certifications.{start_data, admit_data, annual_data, interim_data, resume_data, gross_data, correct_data};
 
 use crate::fields::{name_field, put_name};
 use book_rows::{AdmitAct, AnnualAct, CorrectAct, GrossAct, InterimAct, ResumeAct, StartAct};
@@ -14,7 +14,7 @@ use serde_json::{Map, Value};
 use std::alloc::Global;
 
 /// Reads the command, behind its kind.
-#[tactic(auto, unfolding(crate::specs::Certifications::start_at))]
+#[tactic(auto, unfolding(command_forms::specs::Certifications::start_at))]
 pub fn start_of(alloc: Global, value: &Value) -> Result<StartAct, FormFault>
     ensures exact { Gives (λ start. start) result (start_at (view value.now)) }
     ensures fit { IfOk result (λ start. is_name 40 start.name ≡ true) }
@@ -47,7 +47,7 @@ pub fn start_value(alloc: Global, start: &StartAct) -> Result<Value, NoMemory>
 }
 
 /// Reads the command, behind its kind.
-#[tactic(auto, unfolding(crate::specs::Certifications::admit_at))]
+#[tactic(auto, unfolding(command_forms::specs::Certifications::admit_at))]
 pub fn admit_of(alloc: Global, value: &Value) -> Result<AdmitAct, FormFault>
     ensures { Gives (λ admit. admit) result (admit_at (view value.now)) }
 {
@@ -79,7 +79,7 @@ pub fn admit_value(alloc: Global, admit: &AdmitAct) -> Result<Value, NoMemory>
 }
 
 /// Reads the command, behind its kind.
-#[tactic(auto, unfolding(crate::specs::Certifications::annual_at))]
+#[tactic(auto, unfolding(command_forms::specs::Certifications::annual_at))]
 pub fn annual_of(alloc: Global, value: &Value) -> Result<AnnualAct, FormFault>
     ensures { Gives (λ annual. annual) result (annual_at (view value.now)) }
 {
@@ -111,7 +111,7 @@ pub fn annual_value(alloc: Global, annual: &AnnualAct) -> Result<Value, NoMemory
 }
 
 /// Reads the command, behind its kind.
-#[tactic(auto, unfolding(crate::specs::Certifications::interim_at))]
+#[tactic(auto, unfolding(command_forms::specs::Certifications::interim_at))]
 pub fn interim_of(alloc: Global, value: &Value) -> Result<InterimAct, FormFault>
     ensures { Gives (λ interim. interim) result (interim_at (view value.now)) }
 {
@@ -163,7 +163,7 @@ pub fn interim_value(alloc: Global, interim: &InterimAct) -> Result<Value, NoMem
 }
 
 /// Reads the command, behind its kind.
-#[tactic(auto, unfolding(crate::specs::Certifications::resume_at))]
+#[tactic(auto, unfolding(command_forms::specs::Certifications::resume_at))]
 pub fn resume_of(alloc: Global, value: &Value) -> Result<ResumeAct, FormFault>
     ensures { Gives (λ resume. resume) result (resume_at (view value.now)) }
 {
@@ -198,7 +198,7 @@ pub fn resume_value(alloc: Global, resume: &ResumeAct) -> Result<Value, NoMemory
 }
 
 /// Reads the command, behind its kind.
-#[tactic(auto, unfolding(crate::specs::Certifications::gross_at))]
+#[tactic(auto, unfolding(command_forms::specs::Certifications::gross_at))]
 pub fn gross_of(alloc: Global, value: &Value) -> Result<GrossAct, FormFault>
     ensures { Gives (λ gross. gross) result (gross_at (view value.now)) }
 {
@@ -227,7 +227,7 @@ pub fn gross_value(alloc: Global, gross: &GrossAct) -> Result<Value, NoMemory>
 }
 
 /// Reads the command, behind its kind.
-#[tactic(auto, unfolding(crate::specs::Certifications::correct_at))]
+#[tactic(auto, unfolding(command_forms::specs::Certifications::correct_at))]
 pub fn correct_of(alloc: Global, value: &Value) -> Result<CorrectAct, FormFault>
     ensures { Gives (λ correct. correct) result (correct_at (view value.now)) }
 {

@@ -3,14 +3,13 @@ ghost use Rattle.serde_json.specs.View.{view};
 ghost use Rattle.serde_json.specs.Written.{has_float};
 ghost use Rattle.json_form.specs.Gives.{Gives};
 ghost use Rattle.book_rows.specs.Fit.{is_fit};
-ghost use Rattle.command_text.specs.Commands.{rest_at, command_at, command_data};
+ghost use Rattle.command_forms.specs.Commands.{rest_at, command_at, command_data};
 
 use crate::applicants::{apply_of, apply_value, remove_of, remove_value};
 use crate::certifications::{
     admit_of, admit_value, annual_of, annual_value, correct_of, correct_value, gross_of,
     gross_value, interim_of, interim_value, resume_of, resume_value, start_of, start_value,
 };
-use crate::kind::Kind;
 use crate::moves::{
     ask_transfer_of, ask_transfer_value, close_of, close_value, move_out_of, move_out_value,
     terminate_of, terminate_value, transfer_of, transfer_value, withdraw_of, withdraw_value,
@@ -19,6 +18,7 @@ use crate::property::{
     limits_of, limits_value, plan_of, plan_value, rents_of, rents_value, unit_of, unit_value,
 };
 use book_rows::Command;
+use command_forms::Kind;
 use json_form::{FormFault, field, object};
 use plain_data::NoMemory;
 use serde_json::Value;
@@ -26,7 +26,7 @@ use std::alloc::Global;
 
 /// Reads the command of a value. The fault is that of every form: `BadField` with the path of the first place that
 /// doesn't fit, seen from the value.
-#[tactic(auto, unfolding(crate::specs::Commands::command_at))]
+#[tactic(auto, unfolding(command_forms::specs::Commands::command_at))]
 pub fn command_of_value(alloc: Global, value: &Value) -> Result<Command, FormFault>
     ensures exact { Gives (λ asked. asked) result (command_at (view value.now)) }
     ensures fit { IfOk result (λ asked. is_fit asked ≡ true) }

@@ -6,7 +6,7 @@ ghost use Rattle.serde_json.specs.Data.{put as with_member};
 ghost use Rattle.json_form.specs.Gives.{Gives};
 ghost use Rattle.json_form.specs.Form as form;
 ghost use Rattle.book_rows.specs.Fit.{is_name, is_within};
-ghost use Rattle.command_text.specs.Fields.{name_at, name_data, month_within, month_data};
+ghost use Rattle.command_forms.specs.Fields.{name_at, name_data, month_within, month_data};
 
 use book_rows::is_name;
 use days_core::{Month, text_of_month};

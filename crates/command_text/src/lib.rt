@@ -1,4 +1,4 @@
-//! The texts of commands: how a command is read of JSON and written as it, and the text that stands for it in a book.
+//! The texts of commands: a command is read of JSON and written as it, and so is the text that stands for it in a book.
 #![tactic(auto)]
 
 mod applicants;
@@ -7,16 +7,12 @@ mod bounds;
 mod certifications;
 mod command;
 mod fields;
-mod holdable;
-mod kind;
-mod laws;
 mod moves;
 mod numbers;
 mod property;
 
 pub use body::{BodyFault, body_of_command, command_of_body};
 pub use command::{command_of_value, value_of_command};
-pub use laws::bodies_read_back;
 
 #[cfg(test)]
 mod tests;

@@ -1,8 +1,8 @@
 ghost use Rattle.std.specs.Prelude.{◌≡◌, IfOk};
 ghost use Rattle.serde_json.specs.View.{view};
 ghost use Rattle.json_form.specs.Gives.{Gives};
-ghost use Rattle.command_text.specs.Moves.{ask_transfer_at, transfer_at, move_out_at, terminate_at, withdraw_at, close_at};
-ghost use Rattle.command_text.specs.Moves.{ask_transfer_data, transfer_data, move_out_data, terminate_data, withdraw_data, close_data};
+ghost use Rattle.command_forms.specs.Moves.{ask_transfer_at, transfer_at, move_out_at, terminate_at, withdraw_at, close_at};
+ghost use Rattle.command_forms.specs.Moves.{ask_transfer_data, transfer_data, move_out_data, terminate_data, withdraw_data, close_data};
 
 use crate::fields::put_month;
 use book_rows::{AskTransferAct, CloseAct, MoveOutAct, TerminateAct, TransferAct, WithdrawAct};
@@ -12,7 +12,7 @@ use serde_json::{Map, Value};
 use std::alloc::Global;
 
 /// Reads the command, behind its kind.
-#[tactic(auto, unfolding(crate::specs::Moves::ask_transfer_at))]
+#[tactic(auto, unfolding(command_forms::specs::Moves::ask_transfer_at))]
 pub fn ask_transfer_of(alloc: Global, value: &Value) -> Result<AskTransferAct, FormFault>
     ensures { Gives (λ ask. ask) result (ask_transfer_at (view value.now)) }
 {
@@ -41,7 +41,7 @@ pub fn ask_transfer_value(alloc: Global, ask: &AskTransferAct) -> Result<Value, 
 }
 
 /// Reads the command, behind its kind.
-#[tactic(auto, unfolding(crate::specs::Moves::transfer_at))]
+#[tactic(auto, unfolding(command_forms::specs::Moves::transfer_at))]
 pub fn transfer_of(alloc: Global, value: &Value) -> Result<TransferAct, FormFault>
     ensures { Gives (λ transfer. transfer) result (transfer_at (view value.now)) }
 {
@@ -73,7 +73,7 @@ pub fn transfer_value(alloc: Global, transfer: &TransferAct) -> Result<Value, No
 }
 
 /// Reads the command, behind its kind.
-#[tactic(auto, unfolding(crate::specs::Moves::move_out_at))]
+#[tactic(auto, unfolding(command_forms::specs::Moves::move_out_at))]
 pub fn move_out_of(alloc: Global, value: &Value) -> Result<MoveOutAct, FormFault>
     ensures { Gives (λ move_out. move_out) result (move_out_at (view value.now)) }
 {
@@ -102,7 +102,7 @@ pub fn move_out_value(alloc: Global, move_out: &MoveOutAct) -> Result<Value, NoM
 }
 
 /// Reads the command, behind its kind.
-#[tactic(auto, unfolding(crate::specs::Moves::terminate_at))]
+#[tactic(auto, unfolding(command_forms::specs::Moves::terminate_at))]
 pub fn terminate_of(alloc: Global, value: &Value) -> Result<TerminateAct, FormFault>
     ensures { Gives (λ terminate. terminate) result (terminate_at (view value.now)) }
 {
@@ -131,7 +131,7 @@ pub fn terminate_value(alloc: Global, terminate: &TerminateAct) -> Result<Value,
 }
 
 /// Reads the command, behind its kind.
-#[tactic(auto, unfolding(crate::specs::Moves::withdraw_at))]
+#[tactic(auto, unfolding(command_forms::specs::Moves::withdraw_at))]
 pub fn withdraw_of(alloc: Global, value: &Value) -> Result<WithdrawAct, FormFault>
     ensures { Gives (λ withdraw. withdraw) result (withdraw_at (view value.now)) }
 {
@@ -160,7 +160,7 @@ pub fn withdraw_value(alloc: Global, withdraw: &WithdrawAct) -> Result<Value, No
 }
 
 /// Reads the command, behind its kind.
-#[tactic(auto, unfolding(crate::specs::Moves::close_at))]
+#[tactic(auto, unfolding(command_forms::specs::Moves::close_at))]
 pub fn close_of(alloc: Global, value: &Value) -> Result<CloseAct, FormFault>
     ensures { Gives (λ close. close) result (close_at (view value.now)) }
 {

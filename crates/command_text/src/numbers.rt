@@ -7,7 +7,7 @@ ghost use Rattle.json_form.specs.Gives.{Gives};
 ghost use Rattle.json_form.specs.Form as form;
 ghost use Rattle.json_form.specs.Path.{position};
 ghost use Rattle.book_rows.specs.Fit.{is_within, are_limits};
-ghost use Rattle.command_text.specs.Fields.{numbers_at, limits_at};
+ghost use Rattle.command_forms.specs.Fields.{numbers_at, limits_at};
 
 use json_form::{FormFault, number};
 use plain_data::Listed;

@@ -2,8 +2,8 @@ ghost use Rattle.std.specs.Prelude.{◌≡◌, true, IfOk};
 ghost use Rattle.serde_json.specs.View.{view};
 ghost use Rattle.json_form.specs.Gives.{Gives};
 ghost use Rattle.book_rows.specs.Fit.{is_plan, is_unit, is_rents, is_limits};
-ghost use Rattle.command_text.specs.Property.{plan_at, unit_at, rents_at, limits_act_at};
-ghost use Rattle.command_text.specs.Property.{plan_data, unit_data, rents_data, limits_act_data};
+ghost use Rattle.command_forms.specs.Property.{plan_at, unit_at, rents_at, limits_act_at};
+ghost use Rattle.command_forms.specs.Property.{plan_data, unit_data, rents_data, limits_act_data};
 
 use crate::bounds::{bounds_field, bounds_value};
 use crate::fields::{first_field, name_field, put_month, put_name};
@@ -17,7 +17,7 @@ use serde_json::{Map, Value};
 use std::alloc::Global;
 
 /// Reads the command, behind its kind.
-#[tactic(auto, unfolding(crate::specs::Property::plan_at))]
+#[tactic(auto, unfolding(command_forms::specs::Property::plan_at))]
 pub fn plan_of(alloc: Global, value: &Value) -> Result<Plan, FormFault>
     ensures exact { Gives (λ plan. plan) result (plan_at (view value.now)) }
     ensures fit { IfOk result (λ plan. is_plan plan ≡ true) }
@@ -81,7 +81,7 @@ pub fn plan_value(alloc: Global, plan: &Plan) -> Result<Value, NoMemory>
 }
 
 /// Reads the command, behind its kind.
-#[tactic(auto, unfolding(crate::specs::Property::unit_at))]
+#[tactic(auto, unfolding(command_forms::specs::Property::unit_at))]
 pub fn unit_of(alloc: Global, value: &Value) -> Result<UnitAct, FormFault>
     ensures exact { Gives (λ unit. unit) result (unit_at (view value.now)) }
     ensures fit { IfOk result (λ unit. is_unit unit ≡ true) }
@@ -114,7 +114,7 @@ pub fn unit_value(alloc: Global, unit: &UnitAct) -> Result<Value, NoMemory>
 }
 
 /// Reads the command, behind its kind.
-#[tactic(auto, unfolding(crate::specs::Property::rents_at))]
+#[tactic(auto, unfolding(command_forms::specs::Property::rents_at))]
 pub fn rents_of(alloc: Global, value: &Value) -> Result<RentsAct, FormFault>
     ensures exact { Gives (λ rents. rents) result (rents_at (view value.now)) }
     ensures fit { IfOk result (λ rents. is_rents rents ≡ true) }
@@ -151,7 +151,7 @@ pub fn rents_value(alloc: Global, rents: &RentsAct) -> Result<Value, NoMemory>
 }
 
 /// Reads the command, behind its kind.
-#[tactic(auto, unfolding(crate::specs::Property::limits_act_at))]
+#[tactic(auto, unfolding(command_forms::specs::Property::limits_act_at))]
 pub fn limits_of(alloc: Global, value: &Value) -> Result<LimitsAct, FormFault>
     ensures exact { Gives (λ limits. limits) result (limits_act_at (view value.now)) }
     ensures fit { IfOk result (λ limits. is_limits limits ≡ true) }

@@ -249,6 +249,16 @@ fn reads_amounts_and_facts_within_their_ranges(rt: HostRuntime) -> Result<(), Fa
     assert_fit(&rt, alloc, RENTS, &ends)
 }
 
+fn is_no_body(alloc: Global, body: &Text) -> bool {
+    match command_of_body(alloc, body) {
+        Ok(asked) => {
+            asked.let_go();
+            false
+        }
+        Err(fault) => fault == BodyFault::BadBody,
+    }
+}
+
 #[test]
 fn another_text_is_no_body(rt: HostRuntime) -> Result<(), Fail> {
     let alloc = rt.alloc();
@@ -264,12 +274,9 @@ fn another_text_is_no_body(rt: HostRuntime) -> Result<(), Fail> {
         "{\"kind\":\"close\",\"month\":\"2024-13\"}",
     ] {
         let body = Text::new(text.as_bytes().to_vec(alloc)?);
-        assert!(rt;
-            command_of_body(alloc, &body) == Err(BodyFault::BadBody),
-            "{text}"
-        );
+        assert!(rt; is_no_body(alloc, &body), "{text}");
     }
     let body = Text::new([0xff].to_vec(alloc)?);
-    assert!(rt; command_of_body(alloc, &body) == Err(BodyFault::BadBody));
+    assert!(rt; is_no_body(alloc, &body));
     Ok(())
 }

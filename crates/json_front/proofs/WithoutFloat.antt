@@ -6,7 +6,7 @@ use Rattle.serde_json.specs.Data.{Data}
 use Rattle.serde_json.specs.Written.{has_float}
 use Rattle.json_form.specs.Written.{number_data, day_data}
 use Rattle.json_form.proofs.Again.{array_without_float}
-use Rattle.command_text.specs.Fields.{name_data, month_data}
+use Rattle.command_forms.specs.Fields.{name_data, month_data}
 use Rattle.wait_list.specs.declared.ask.Candidate.{Candidate}
 use Rattle.wait_list.specs.declared.ask.Candidate.TheVariants as candidate
 use Rattle.voucher_core.specs.declared.line.Line.{Line}

@@ -3,7 +3,7 @@ use Rattle.std.specs.Prelude.{ℕ, ℤ, List, Option, Some, None, codes}
 use Rattle.serde_json.specs.Data.{Data, null, boolean, string, object, Members, member, no_members}
 use Rattle.serde_json.specs.Written.{compact_text}
 use Rattle.json_form.specs.Written.{number_data, day_data, array_data}
-use Rattle.command_text.specs.Fields.{month_data, name_data}
+use Rattle.command_forms.specs.Fields.{month_data, name_data}
 use Rattle.record_history.specs.declared.records.Kind.{Kind}
 use Rattle.record_history.specs.declared.records.Kind.TheVariants as kind
 use Rattle.record_history.specs.declared.records.Dates.{Dates}

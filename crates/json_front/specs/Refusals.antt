@@ -2,7 +2,7 @@
 use Rattle.std.specs.Prelude.{ℕ, List, codes}
 use Rattle.serde_json.specs.Data.{Data, string, object, Members, member, no_members, put}
 use Rattle.json_form.specs.Written.{number_data, day_data}
-use Rattle.command_text.specs.Fields.{month_data}
+use Rattle.command_forms.specs.Fields.{month_data}
 use Rattle.office_step.specs.declared.refusal.Named.{Named}
 use Rattle.office_step.specs.declared.refusal.Named.TheVariants as named
 use Rattle.office_step.specs.declared.refusal.Refusal.{Refusal}

@@ -3,7 +3,7 @@ use Rattle.std.specs.Prelude.{ℕ, List, codes}
 use Rattle.serde_json.specs.Data.{Data, null, object, member, no_members}
 use Rattle.serde_json.specs.Written.{compact_text}
 use Rattle.json_form.specs.Written.{number_data, day_data}
-use Rattle.command_text.specs.Fields.{month_data}
+use Rattle.command_forms.specs.Fields.{month_data}
 use Rattle.office_step.specs.declared.reply.Done.{Done}
 use Rattle.office_step.specs.declared.reply.Made.{Made}
 use Rattle.office_step.specs.declared.reply.Made.TheVariants as made

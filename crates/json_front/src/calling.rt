@@ -3,7 +3,7 @@ ghost use Rattle.serde_json.specs.View.{view};
 ghost use Rattle.json_form.specs.Gives.{Gives};
 ghost use Rattle.json_form.specs.Form as form;
 ghost use Rattle.book_rows.specs.Fit.{is_fit};
-ghost use Rattle.command_text.specs.Commands.{command_at};
+ghost use Rattle.command_forms.specs.Commands.{command_at};
 ghost use Rattle.office_step.specs.Step.{is_fit_call};
 ghost use Rattle.json_front.specs.Calls.{call_fields, call_at, call_from};
 
@@ -31,8 +31,13 @@ fn call_of(alloc: Global, value: &Value) -> Result<Call, FormFault>
 {
     object(alloc, value)?;
     let call = call_fields(alloc, value)?;
-    only(alloc, value, &["clerk", "request", "act"])?;
-    Ok(call)
+    match only(alloc, value, &["clerk", "request", "act"]) {
+        Ok(()) => Ok(call),
+        Err(fault) => {
+            call.let_go();
+            Err(fault)
+        }
+    }
 }
 
 /// Reads the fields of a call, in an object that may have others.

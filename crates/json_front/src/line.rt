@@ -15,7 +15,7 @@ use serde_json::Value;
 use std::alloc::Global;
 
 /// A line of a batch.
-#[derive(Debug, PartialEq, Eq, Drop)]
+#[derive(Drop)]
 pub enum BatchLine {
     /// A call, and the day on which it is made, if the line tells it.
     Act { today: Option<Day>, call: Call },
@@ -73,6 +73,11 @@ fn act_of(alloc: Global, value: &Value) -> Result<BatchLine, FormFault>
 {
     let today = optional_field(alloc, value, "today")?;
     let call = call_fields(alloc, value)?;
-    only(alloc, value, &["today", "clerk", "request", "act"])?;
-    Ok(BatchLine::Act { today, call })
+    match only(alloc, value, &["today", "clerk", "request", "act"]) {
+        Ok(()) => Ok(BatchLine::Act { today, call }),
+        Err(fault) => {
+            call.let_go();
+            Err(fault)
+        }
+    }
 }

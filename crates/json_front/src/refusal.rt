@@ -2,7 +2,7 @@ ghost use Rattle.std.specs.Prelude.{◌≡◌, IfOk};
 ghost use Rattle.serde_json.specs.View.{view, members_view};
 ghost use Rattle.serde_json.specs.Data.{no_members, member, put as with_member};
 ghost use Rattle.json_form.specs.Written.{day_data};
-ghost use Rattle.command_text.specs.Fields.{month_data};
+ghost use Rattle.command_forms.specs.Fields.{month_data};
 ghost use Rattle.json_front.specs.Values.{or_null};
 ghost use Rattle.json_front.specs.Refusals.{refusal_kind, refusal_number, refusal_members, named_word, cause_data, refused, refusal_data, failure_data, bad_form_data};
 

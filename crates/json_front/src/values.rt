@@ -4,7 +4,7 @@ ghost use Rattle.std.specs.Prelude.{◌≡◌, false, IfOk, OnOk, OnErr};
 ghost use Rattle.serde_json.specs.View.{view, members_view};
 ghost use Rattle.serde_json.specs.Data.{no_members, member, put as with_member};
 ghost use Rattle.serde_json.specs.Written.{compact_text, has_float};
-ghost use Rattle.command_text.specs.Fields.{month_data, name_data};
+ghost use Rattle.command_forms.specs.Fields.{month_data, name_data};
 ghost use Rattle.json_front.specs.Values.{amount_data, or_null, candidate_data};
 
 use days_core::{Month, text_of_month};

@@ -6,7 +6,7 @@ use Rattle.voucher_core.specs.declared.line.Line.{Line}
 use Rattle.book_rows.specs.declared.rows.ActRow.{ActRow}
 use Rattle.book_rows.specs.declared.rows.Batch.{Batch}
 use Rattle.book_rows.specs.Book.{Book}
-use Rattle.command_text.specs.Commands.{command_in, body_of}
+use Rattle.command_forms.specs.Commands.{command_in, body_of}
 use Rattle.office_step.specs.declared.call.Call.{Call}
 use Rattle.office_step.specs.declared.call.Capacity.{Capacity}
 use Rattle.office_step.specs.declared.refusal.Refusal.{Refusal}

@@ -4,7 +4,7 @@ use Rattle.std.specs.Prelude.{true, find}
 use Rattle.record_history.specs.declared.records.Record.{Record}
 use Rattle.voucher_core.specs.declared.line.Line.{Line}
 use Rattle.book_rows.specs.declared.rows.Batch.{Batch}
-use Rattle.command_text.specs.Commands.{command_in, body_of}
+use Rattle.command_forms.specs.Commands.{command_in, body_of}
 use Rattle.office_step.specs.declared.call.Call.{Call}
 use Rattle.office_step.specs.declared.refusal.Refusal.{Refusal}
 use Rattle.office_step.specs.Acts.{name_given}

@@ -32,6 +32,9 @@ impl Step {
     {
         &self.batch
     }
+
+    /// Frees it. It stands apart, so that no other proof has a case for each kind of command that goes out of use.
+    pub fn let_go(self) {}
 }
 
 /// What an office makes of a call that it doesn't refuse.

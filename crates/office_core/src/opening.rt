@@ -22,6 +22,7 @@ impl Office {
     ghost use Rattle.office_step.specs.Step.{step as step_of, is_fit_call};
     ghost use Rattle.office_step.specs.Valid.{rows_in, replayed, difference, first_fault, with_rows};
     ghost use Rattle.office_core.specs.Planned.{IsPlannedFor};
+    ghost use Rattle.office_core.specs.Office.{HasRoomFor};
     ghost use Rattle.office_core.specs.Opening.{IsNamed};
 
     /// The office whose book the tables are: each of their acts is done again, and has to come to just the rows that they
@@ -95,6 +96,24 @@ impl Office {
         }
     }
 
+    /// Where the rows of the step differ from those of the tables, or that there is no room for them.
+    fn fault_of_step(&mut self, given: &Given, row: &ActRow, step: &Step) -> Option<OpenFault>
+        requires { IsPlannedFor self.old.capacity self.old.book step.now }
+        ensures capacity { self.new.capacity ≡ self.old.capacity }
+        ensures book { self.new.book ≡ self.old.book }
+        ensures named { IfSome result (IsNamed (difference given.now row.now (Some step.now.rows))) }
+        ensures same { result ≡ None → difference given.now row.now (Some step.now.rows) ≡ None }
+        ensures room { result ≡ None → HasRoomFor self.new.room step.now }
+    {
+        if let Some(fault) = given.difference(row, Some(step.batch())) {
+            return Some(OpenFault::BadBook(fault));
+        }
+        match self.reserve(step) {
+            Ok(()) => None,
+            Err(NoMemory) => Some(OpenFault::NoMemory),
+        }
+    }
+
     fn replay_step(&mut self, given: &Given, row: &ActRow, step: Step) -> Result<(), OpenFault>
         requires { IsPlannedFor self.old.capacity self.old.book step }
         ensures capacity { self.new.capacity ≡ self.old.capacity }
@@ -102,13 +121,15 @@ impl Office {
         ensures goes_on { OnOk result (difference given.now row.now (Some step.rows) ≡ None) }
         ensures book { OnOk result (self.new.book ≡ appended self.old.book step.rows) }
     {
-        if let Some(fault) = given.difference(row, Some(step.batch())) {
-            return Err(OpenFault::BadBook(fault));
+        match self.fault_of_step(given, row, &step) {
+            Some(fault) => {
+                step.let_go();
+                Err(fault)
+            }
+            None => {
+                self.append(step);
+                Ok(())
+            }
         }
-        let Ok(()) = self.reserve(&step) else {
-            return Err(OpenFault::NoMemory);
-        };
-        self.append(step);
-        Ok(())
     }
 }

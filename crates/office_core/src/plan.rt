@@ -1,5 +1,5 @@
 ghost use Rattle.std.specs.Prelude.{◌≡◌, Some, IfOk};
-ghost use Rattle.command_text.specs.Commands.{command_in};
+ghost use Rattle.command_forms.specs.Commands.{command_in};
 
 use crate::{Judged, Judgment, Office, Step};
 use book_rows::{ActRow, Batch, Command};
@@ -17,7 +17,7 @@ use voucher_core::Line;
 impl Office {
     ghost use Rattle.std.specs.Prelude.{◌≡◌, ◌≤◌, ◌<◌, ◌^◌, true, None, Some, length, find, IfOk, IfSome, OnOk};
     ghost use Rattle.record_history.specs.Held.{IsWithin};
-    ghost use Rattle.command_text.specs.Commands.{body_of, command_in};
+    ghost use Rattle.command_forms.specs.Commands.{body_of, command_in};
     ghost use Rattle.office_step.specs.Known.{known_of};
     ghost use Rattle.office_step.specs.Made.{record_of, lines_of};
     ghost use Rattle.office_step.specs.Refusals.{is_request_of, lines_full};

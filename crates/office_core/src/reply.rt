@@ -19,7 +19,7 @@ use voucher_core::{Line, total};
 impl Office {
     ghost use Rattle.std.specs.Prelude.{◌≡◌, ◌==◌, ◌≤◌, ℕ, Some, nat_le, length, filter, find, option_copied, Contains, IfOk, IfSome};
     ghost use Rattle.book_rows.specs.declared.command.Command.TheVariants as command;
-    ghost use Rattle.command_text.specs.Commands.{body_of, command_in};
+    ghost use Rattle.command_forms.specs.Commands.{body_of, command_in};
     ghost use Rattle.record_history.specs.Held.{IsWithin};
     ghost use Rattle.office_step.specs.Acts.{applications_of, units_of};
     ghost use Rattle.office_step.specs.Refusals.{is_request_of};

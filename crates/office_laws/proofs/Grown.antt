@@ -6,7 +6,7 @@ use Rattle.std.proofs.lemmas.List.Folds.{find-append}
 use Rattle.rent_table.specs.declared.plan.Plan.{Plan}
 use Rattle.book_rows.specs.declared.rows.ActRow.{ActRow}
 use Rattle.book_rows.specs.declared.command.Command.{Command}
-use Rattle.command_text.specs.Commands.{command_in}
+use Rattle.command_forms.specs.Commands.{command_in}
 use Rattle.office_step.specs.declared.known.Closed.{Closed}
 use Rattle.office_step.specs.Acts.{Act, act_of, acts_of, plan_in, plan_of, plan_act, unit_in, unit_row, units_of, rents_in, rent_row, rents_of, limits_in, limit_row, limits_of, apply_in, application_by, applications_of, closing_of, last_closing, numbered, first_in, last_in}
 use Rattle.office_laws.proofs.Lists.{filter_map_one, first_in-append, last_in-append, numbered-append, length-numbered}

@@ -5,8 +5,8 @@ use Rattle.book_rows.specs.declared.rows.ActRow.{ActRow}
 use Rattle.book_rows.specs.declared.rows.Batch.{Batch}
 use Rattle.book_rows.specs.Book.{Book}
 use Rattle.book_rows.specs.Fit.{is_within, is_fit}
-use Rattle.command_text.specs.Commands.{body_of, command_in}
-use Rattle.command_text.proofs.CommandAgain.{body_again}
+use Rattle.command_forms.specs.Commands.{body_of, command_in}
+use Rattle.command_forms.proofs.CommandAgain.{body_again}
 use Rattle.office_step.specs.declared.call.Call.{Call}
 use Rattle.office_step.specs.declared.call.Capacity.{Capacity}
 use Rattle.std.proofs.lemmas.Bool.{and_parts}

@@ -7,7 +7,7 @@ use Rattle.std.proofs.lemmas.List.Sums.{fold-append}
 use Rattle.book_rows.specs.declared.rows.Batch.{Batch}
 use Rattle.book_rows.specs.Book.{Book, empty_book, appended}
 use Rattle.book_rows.specs.declared.command.Command.{Command}
-use Rattle.command_text.specs.Commands.{body_of, only_own, command_from, command_in}
+use Rattle.command_forms.specs.Commands.{body_of, only_own, command_from, command_in}
 use Rattle.office_step.specs.declared.call.Call.{Call}
 use Rattle.office_step.specs.declared.call.Capacity.{Capacity}
 use Rattle.office_step.specs.Step.{Outcome, again, refused, appends, step, IsAppended, reached_empty, reached_more}

@@ -15,7 +15,7 @@ use Rattle.book_rows.specs.declared.rows.Batch.{Batch}
 use Rattle.book_rows.specs.Book.{Book, IsBatch, appended}
 use Rattle.book_rows.specs.declared.command.Command.{Command}
 use Rattle.book_rows.specs.declared.command.Command.TheVariants as command
-use Rattle.command_text.specs.Commands.{body_of, command_in}
+use Rattle.command_forms.specs.Commands.{body_of, command_in}
 use Rattle.office_step.specs.declared.call.Call.{Call}
 use Rattle.office_step.specs.declared.call.Capacity.{Capacity}
 use Rattle.office_step.specs.declared.reply.Done.{Done}

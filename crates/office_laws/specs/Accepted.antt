@@ -2,8 +2,8 @@
 use Rattle.std.specs.Prelude.{◌≡◌, ℕ, ◌+◌, true, None, length}
 use Rattle.book_rows.specs.declared.rows.Batch.{Batch}
 use Rattle.book_rows.specs.Book.{Book}
-use Rattle.command_text.specs.Holdable.{IsHoldable}
-use Rattle.command_text.specs.Commands.{body_of}
+use Rattle.command_forms.specs.Holdable.{IsHoldable}
+use Rattle.command_forms.specs.Commands.{body_of}
 use Rattle.office_step.specs.declared.call.Call.{Call}
 use Rattle.office_step.specs.declared.call.Capacity.{Capacity}
 use Rattle.office_step.specs.Known.{known_of}

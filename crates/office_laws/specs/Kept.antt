@@ -6,7 +6,7 @@ use Rattle.book_rows.specs.declared.rows.ActRow.{ActRow}
 use Rattle.book_rows.specs.declared.rows.Batch.{Batch}
 use Rattle.book_rows.specs.Book.{Book, IsBatch, IsBefore}
 use Rattle.book_rows.specs.Fit.{is_fit}
-use Rattle.command_text.specs.Commands.{command_in}
+use Rattle.command_forms.specs.Commands.{command_in}
 use Rattle.office_step.specs.declared.call.Capacity.{Capacity}
 use Rattle.office_step.specs.Acts.{Act, acts_of, plan_of, applications_of, takes_off_list, household_count, ask_in}
 use Rattle.office_step.specs.Refusals.{is_request_of}

@@ -3,7 +3,7 @@ use Rattle.std.specs.Prelude.{◌≡◌, ℕ, Contains}
 use Rattle.book_rows.specs.declared.rows.ActRow.{ActRow}
 use Rattle.book_rows.specs.declared.rows.Batch.{Batch}
 use Rattle.book_rows.specs.Book.{Book, appended}
-use Rattle.command_text.specs.Commands.{body_of}
+use Rattle.command_forms.specs.Commands.{body_of}
 use Rattle.office_step.specs.declared.call.Call.{Call}
 use Rattle.office_step.specs.declared.call.Capacity.{Capacity}
 use Rattle.office_step.specs.Reply.{done_of}

@@ -16,7 +16,7 @@ use Rattle.book_rows.specs.declared.moves.AskTransferAct.{AskTransferAct}
 use Rattle.book_rows.specs.declared.rows.ActRow.{ActRow}
 use Rattle.book_rows.specs.declared.command.Command.{Command}
 use Rattle.book_rows.specs.declared.command.Command.TheVariants as command
-use Rattle.command_text.specs.Commands.{command_in}
+use Rattle.command_forms.specs.Commands.{command_in}
 use Rattle.office_step.specs.declared.known.Application.{Application}
 use Rattle.office_step.specs.declared.known.Request.{Request}
 use Rattle.office_step.specs.declared.known.Closed.{Closed}

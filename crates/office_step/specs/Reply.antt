@@ -9,7 +9,7 @@ use Rattle.book_rows.specs.declared.rows.ActRow.{ActRow}
 use Rattle.book_rows.specs.declared.command.Command.{Command}
 use Rattle.book_rows.specs.declared.command.Command.TheVariants as command
 use Rattle.book_rows.specs.Book.{Book}
-use Rattle.command_text.specs.Commands.{command_in}
+use Rattle.command_forms.specs.Commands.{command_in}
 use Rattle.office_step.specs.declared.reply.Done.{Done}
 use Rattle.office_step.specs.declared.reply.Made.{Made}
 use Rattle.office_step.specs.declared.reply.Made.TheVariants as made

@@ -28,7 +28,7 @@ use Rattle.book_rows.specs.declared.command.Command.{Command}
 use Rattle.book_rows.specs.declared.command.Command.TheVariants as command
 use Rattle.book_rows.specs.Fit.{is_within, is_fit}
 use Rattle.book_rows.specs.Book.{Book, empty_book, appended}
-use Rattle.command_text.specs.Commands.{command_in, body_of}
+use Rattle.command_forms.specs.Commands.{command_in, body_of}
 use Rattle.office_step.specs.declared.call.Call.{Call}
 use Rattle.office_step.specs.declared.call.Capacity.{Capacity}
 use Rattle.office_step.specs.declared.refusal.Refusal.{Refusal}

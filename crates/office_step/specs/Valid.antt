@@ -10,7 +10,7 @@ use Rattle.book_rows.specs.declared.rows.Table.TheVariants as table
 use Rattle.book_rows.specs.declared.rows.Table.{Table}
 use Rattle.book_rows.specs.Book.{Book, empty_book, appended}
 use Rattle.book_rows.specs.Same.{same_act, same_record, same_line}
-use Rattle.command_text.specs.Commands.{command_in}
+use Rattle.command_forms.specs.Commands.{command_in}
 use Rattle.office_step.specs.declared.call.Call.{Call}
 use Rattle.office_step.specs.declared.call.Capacity.{Capacity}
 use Rattle.office_step.specs.declared.fault.Fault.{Fault}

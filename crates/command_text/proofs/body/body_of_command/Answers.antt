@@ -1,6 +1,6 @@
 use Rattle.std.proofs.Common.{ap, ◌∙◌}
-use Rattle.command_text.specs.Commands.{command_in}
-use Rattle.command_text.proofs.CommandAgain.{body_again}
+use Rattle.command_forms.specs.Commands.{command_in}
+use Rattle.command_forms.proofs.CommandAgain.{body_again}
 use Rattle.command_text.proofs.body.body_of_command.Goals as goal
 
 pub returns-clause-read_again : goal.returns-clause-read_again

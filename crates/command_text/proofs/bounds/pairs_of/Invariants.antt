@@ -1,6 +1,6 @@
 use Rattle.std.proofs.Common.{◌≡◌, map, take}
 use Rattle.serde_json.specs.View.{view}
-use Rattle.command_text.specs.Fields.{bound_data}
+use Rattle.command_forms.specs.Fields.{bound_data}
 use Rattle.command_text.proofs.bounds.pairs_of.Given as goal
 
 abbrev pub invariant-loop-bound : goal.invariant-loop-bound

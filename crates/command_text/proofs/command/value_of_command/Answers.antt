@@ -1,4 +1,4 @@
-use Rattle.command_text.proofs.WithoutFloat.{written_without_float}
+use Rattle.command_forms.proofs.WithoutFloat.{written_without_float}
 use Rattle.command_text.proofs.command.value_of_command.Goals as goal
 
 pub returns-clause-no_float : goal.returns-clause-no_float

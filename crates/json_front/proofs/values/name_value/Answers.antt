@@ -1,6 +1,6 @@
 use Rattle.std.proofs.Common.{sym, ◌∙◌, subst}
 use Rattle.std.specs.Str.{IsUtf8}
-use Rattle.command_text.proofs.Names.{name_data_text, name_data_other, view-Null}
+use Rattle.command_forms.proofs.Names.{name_data_text, name_data_other, view-Null}
 use Rattle.json_front.proofs.values.name_value.Goals as goal
 
 pub returns-in_ok-try_from_str-in-Ok : goal.returns-in_ok-try_from_str-in-Ok

@@ -1,0 +1,155 @@
+//! What the types of a command say of its numbers and days.
+//!
+//! The range of a number behind a reference is known where it is read or passed on, so these functions pass each on.
+//! They do nothing.
+
+ghost use Rattle.std.specs.Prelude.{All, ◌≤◌};
+ghost use Rattle.facts_core.specs.FactsData.{FactsFit, IncomeFits, AssetFits, DisposalFits};
+ghost use Rattle.command_forms.specs.Holdable.{IsHoldable, IsNumber, IsDay, IsMonth, AreDates};
+
+use book_rows::Command;
+use days_core::{Day, Month};
+use facts_core::{Asset, Disposal, Facts, Income, Member};
+use record_history::Dates;
+
+/// A command that a program holds is one that it can hold.
+pub fn held_command(asked: &Command)
+    ensures { IsHoldable asked.now }
+{
+    match asked {
+        Command::Plan(_) => {}
+        Command::Unit(_) => {}
+        Command::Rents(rents) => held_day(rents.from),
+        Command::Limits(limits) => held_day(limits.from),
+        Command::Apply(_) => {}
+        Command::Remove(remove) => held_number(remove.applicant),
+        Command::Start(start) => {
+            held_number(start.unit);
+            held_day(start.from);
+            held_facts(&start.facts);
+        }
+        Command::Admit(admit) => {
+            held_number(admit.applicant);
+            held_number(admit.unit);
+            held_day(admit.from);
+            held_facts(&admit.facts);
+        }
+        Command::Annual(annual) => {
+            held_seen(annual.household, annual.seen, annual.from);
+            held_facts(&annual.facts);
+        }
+        Command::Interim(interim) => {
+            held_seen(interim.household, interim.seen, interim.from);
+            held_dates(interim.dates);
+            held_facts(&interim.facts);
+        }
+        Command::Resume(resume) => {
+            held_seen(resume.household, resume.seen, resume.from);
+            held_day(resume.done);
+            held_facts(&resume.facts);
+        }
+        Command::Gross(gross) => held_seen(gross.household, gross.seen, gross.from),
+        Command::Correct(correct) => {
+            held_seen(correct.household, correct.seen, correct.from);
+            held_number(correct.target);
+            held_facts(&correct.facts);
+        }
+        Command::AskTransfer(ask) => held_number(ask.household),
+        Command::Transfer(transfer) => {
+            held_seen(transfer.household, transfer.seen, transfer.from);
+            held_number(transfer.unit);
+        }
+        Command::MoveOut(move_out) => held_seen(move_out.household, move_out.seen, move_out.last),
+        Command::Terminate(terminate) => held_seen(
+            terminate.household,
+            terminate.seen,
+            terminate.from,
+        ),
+        Command::Withdraw(withdraw) => {
+            held_number(withdraw.household);
+            held_number(withdraw.seen);
+            held_number(withdraw.target);
+        }
+        Command::Close(close) => held_month(close.month),
+    }
+}
+
+fn held_seen(household: u32, seen: u32, day: Day)
+    ensures household { IsNumber household }
+    ensures seen { IsNumber seen }
+    ensures day { IsDay day }
+{}
+
+fn held_number(number: u32)
+    ensures { IsNumber number }
+{}
+
+fn held_day(day: Day)
+    ensures { IsDay day }
+{}
+
+fn held_month(month: Month)
+    ensures { IsMonth month }
+{}
+
+fn held_dates(dates: Dates)
+    ensures { AreDates dates }
+{}
+
+fn held_facts(facts: &Facts)
+    ensures { FactsFit facts.now }
+{
+    held_number(facts.care_work);
+    held_number(facts.care_school);
+    held_number(facts.disability);
+    held_number(facts.medical);
+    held_number(facts.welfare);
+    held_members(facts.members.as_slice());
+    held_incomes(facts.incomes.as_slice());
+    held_assets(facts.assets.as_slice());
+    held_disposals(facts.disposals.as_slice());
+}
+
+fn held_members(members: &[Member])
+    ensures { All (λ person. person.born ≤ 116877) members.now }
+{
+    for member in members {
+        held_day(member.born);
+    }
+}
+
+fn held_incomes(incomes: &[Income])
+    ensures { All IncomeFits incomes.now }
+{
+    for income in incomes {
+        held_income(*income);
+    }
+}
+
+fn held_income(income: Income)
+    ensures { IncomeFits income }
+{}
+
+fn held_assets(assets: &[Asset])
+    ensures { All AssetFits assets.now }
+{
+    for asset in assets {
+        held_asset(*asset);
+    }
+}
+
+fn held_asset(asset: Asset)
+    ensures { AssetFits asset }
+{}
+
+fn held_disposals(disposals: &[Disposal])
+    ensures { All DisposalFits disposals.now }
+{
+    for disposal in disposals {
+        held_disposal(*disposal);
+    }
+}
+
+fn held_disposal(disposal: Disposal)
+    ensures { DisposalFits disposal }
+{}
