@@ -21,6 +21,3 @@ pub use rents::Rents;
 pub use rounding::round_half_up;
 pub use text::{BadDay, day_of_text, month_of_text, texts_read_back};
 pub use writing::{text_of_day, text_of_month};
-
-#[cfg(test)]
-mod tests;

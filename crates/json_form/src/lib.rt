@@ -19,6 +19,3 @@ pub use formed::Formed;
 pub use path::Path;
 pub use value::{boolean, number, text};
 pub use written::{Written, put};
-
-#[cfg(test)]
-mod tests;

@@ -5,6 +5,3 @@ mod more;
 mod reader;
 
 pub use reader::{LineReader, Next};
-
-#[cfg(test)]
-mod tests;

@@ -14,6 +14,3 @@ pub use sink::{Put, Sink};
 pub use source::{Got, Source};
 pub use stream::{StreamSink, StreamSource};
 pub use transfer::{Input, read_up_to, write_whole};
-
-#[cfg(test)]
-mod tests;

@@ -6,6 +6,3 @@ mod rules;
 
 pub use figures::Payment;
 pub use rules::{payment, rent_split};
-
-#[cfg(test)]
-mod tests;

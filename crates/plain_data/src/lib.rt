@@ -8,6 +8,3 @@ mod text;
 pub use listed::Listed;
 pub use no_memory::NoMemory;
 pub use text::Text;
-
-#[cfg(test)]
-mod tests;

@@ -6,6 +6,3 @@ mod laws;
 
 pub use index::{Entry, RowIndex};
 pub use laws::{index_finds, index_grows, request_keys_differ};
-
-#[cfg(test)]
-mod tests;

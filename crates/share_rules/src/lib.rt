@@ -4,6 +4,3 @@
 mod shares;
 
 pub use shares::{share, share_run};
-
-#[cfg(test)]
-mod tests;
