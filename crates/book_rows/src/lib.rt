@@ -24,6 +24,3 @@ pub use property::{LimitsAct, RentsAct, UnitAct};
 pub use rows::{ActRow, Batch, Table};
 pub use same::{same_act, same_line, same_record};
 pub use tables::Tables;
-
-#[cfg(test)]
-mod tests;

@@ -6,6 +6,3 @@ mod figures;
 
 pub use certified::{figures_carried, figures_of_facts, no_figures};
 pub use figures::Figures;
-
-#[cfg(test)]
-mod tests;

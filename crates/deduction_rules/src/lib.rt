@@ -9,6 +9,3 @@ mod household;
 
 pub use adjusted::adjusted_income;
 pub use figures::Allowances;
-
-#[cfg(test)]
-mod tests;

@@ -16,6 +16,3 @@ pub use laws::{
 };
 pub use review::{gross_day, rent_due_day};
 pub use rightful::rightful_day;
-
-#[cfg(test)]
-mod tests;

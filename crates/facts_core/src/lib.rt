@@ -14,6 +14,3 @@ pub use json::{facts_of_value, facts_read_back, value_of_facts};
 pub use members::{Member, Relation};
 pub use property::{Asset, Disposal};
 pub use rules::broken_rule;
-
-#[cfg(test)]
-mod tests;

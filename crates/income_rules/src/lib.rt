@@ -13,6 +13,3 @@ pub use earned::counted_earned;
 pub use figures::Annual;
 pub use income::annual_income;
 pub use members::{is_head_or_partner, is_under, member_at};
-
-#[cfg(test)]
-mod tests;

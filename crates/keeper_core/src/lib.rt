@@ -9,6 +9,3 @@ mod planned;
 pub use keeper::{Committed, Keeper, Loaded};
 pub use memory::MemoryKeeper;
 pub use planned::PlannedKeeper;
-
-#[cfg(test)]
-mod tests;

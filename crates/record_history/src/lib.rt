@@ -18,6 +18,3 @@ pub use order::{comes_before, later};
 pub use records::{Dates, Kind, Record};
 pub use runs::Run;
 pub use stretch::{Stretch, add_day};
-
-#[cfg(test)]
-mod tests;

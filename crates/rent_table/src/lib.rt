@@ -14,6 +14,3 @@ pub use laws::rows_stand_latest;
 pub use plan::{Bound, Plan};
 pub use rows::{LimitRow, RentRow, Unit};
 pub use table::RentTable;
-
-#[cfg(test)]
-mod tests;

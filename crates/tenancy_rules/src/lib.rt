@@ -13,6 +13,3 @@ pub use laws::{change_is_what_lives, no_unit_has_two, units_change_by_transfer};
 pub use occupancy::double_use;
 pub use order::{order_fault, sooner};
 pub use rent_table::{admission_limit, suits};
-
-#[cfg(test)]
-mod tests;

@@ -16,6 +16,3 @@ pub use closing::close_lines;
 pub use laws::{certified_stays, lines_name_their_pairs, one_closing_settles};
 pub use line::Line;
 pub use sums::total;
-
-#[cfg(test)]
-mod tests;

@@ -15,6 +15,3 @@ pub use laws::next_suits;
 pub use list::WaitList;
 pub use rank::best_rank;
 pub use targets::{Targets, wants_extremely_low};
-
-#[cfg(test)]
-mod tests;
