@@ -12,6 +12,3 @@ mod stretch;
 pub use calls::call_of;
 pub use given::Given;
 pub use laws::{reached_is_valid, replay_is_kept, valid_is_reached};
-
-#[cfg(test)]
-mod tests;

@@ -13,6 +13,3 @@ mod property;
 
 pub use body::{BodyFault, body_of_command, command_of_body};
 pub use command::{command_of_value, value_of_command};
-
-#[cfg(test)]
-mod tests;

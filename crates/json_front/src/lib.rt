@@ -17,6 +17,3 @@ pub use answer::{text_of_answer, text_of_asked};
 pub use calling::call_of_bytes;
 pub use line::{BatchLine, line_of_bytes};
 pub use reply::{text_of_bad_form, text_of_reply};
-
-#[cfg(test)]
-mod tests;

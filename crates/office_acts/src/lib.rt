@@ -20,6 +20,3 @@ pub use admissions::targets;
 pub use closing::lines_of;
 pub use judging::judge;
 pub use next::next_for;
-
-#[cfg(test)]
-mod tests;

@@ -7,8 +7,3 @@ mod program;
 mod words;
 
 pub use program::run;
-
-#[cfg(test)]
-mod batch_tests;
-#[cfg(test)]
-mod tests;

@@ -4,6 +4,3 @@
 mod register;
 
 pub use register::Register;
-
-#[cfg(test)]
-mod tests;

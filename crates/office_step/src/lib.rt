@@ -35,6 +35,3 @@ pub use rightful::{
     annual_right, corrected_annual_right, corrected_right, interim_right, resume_right,
 };
 pub use units::{disorder, name_taken, size_misfit, unit_taken};
-
-#[cfg(test)]
-mod tests;

@@ -1,17 +1,14 @@
-use super::*;
-use days_core::Day;
 use keeper_core::MemoryKeeper;
 use office_io::{FixedClock, MemorySink, MemorySource};
-use std::alloc::{AllocError, Global};
+use office_prog::run;
+use sample_office::{FACTS, day, written};
+use std::alloc::Global;
+use std::process::Abort;
 use std::test::Fail;
 
 /// One person who turned 70 in the year before, with benefits of 9,600 and medical expenses of 1,000.
 const HOUSEHOLD: &str =
-    "{\"day\":\"2024-01-01\",\"passbook\":200,\"contract_rent\":700,\"utility\":60,\
-    \"facts\":{\"members\":[{\"relation\":\"Head\",\"born\":\"1953-06-01\",\"disabled\":false,\
-    \"student\":false,\"helped\":false,\"cared\":false}],\"incomes\":[{\"member\":0,\"kind\":\"Benefits\",\
-    \"annual\":9600}],\"assets\":[],\"disposals\":[],\"care_work\":0,\"care_school\":0,\"disability\":0,\
-    \"medical\":1000,\"welfare\":0,\"exempt\":false}}";
+    "{'day':'2024-01-01','passbook':200,'contract_rent':700,'utility':60,'facts':FACTS}";
 
 const PAID: &str = "{\"adjusted\":8488,\"annual\":9600,\"assistance\":548,\"reimbursement\":0,\
     \"tenant_rent\":152,\"ttp\":212}\n";
@@ -29,8 +26,10 @@ const HELPED: &str = "{\"adjusted\":8487,\"annual\":9600,\"assistance\":548,\"re
 
 const USAGE: &str = "usage: office assess|batch\n";
 
-fn household(alloc: Global, old: &str, new: &str) -> Result<Vec<u8>, AllocError> {
-    Ok(HOUSEHOLD.replace(alloc, old, new)?.into_bytes())
+fn household(alloc: Global, old: &str, new: &str) -> Result<Vec<u8>, Fail> {
+    let whole = HOUSEHOLD.replace(alloc, "FACTS", FACTS)?;
+    let changed = whole.replace(alloc, old, new)?;
+    Ok(written(alloc, &changed)?.into_bytes())
 }
 
 /// Runs the program on words that stand with a blank between them, and gives its status and its output.
@@ -43,7 +42,7 @@ fn ran(
 ) -> Result<(u8, Vec<u8>), Fail> {
     let mut source = MemorySource::new(input, unread.into_iter().collect(alloc)?, 7);
     let mut sink = MemorySink::new(alloc, 200, unwritten.into_iter().collect(alloc)?, 7)?;
-    let clock = FixedClock::new(Day::from_number(52_595).ok_or("2024-01-01")?);
+    let clock = FixedClock::new(day("2024-01-01"));
     let mut keeper = MemoryKeeper::new(alloc);
     let words: Vec<String> = words
         .split_whitespace()
@@ -53,6 +52,20 @@ fn ran(
     Ok((status, sink.into_bytes()))
 }
 
+/// Assesses the input, and compares the status and what was written.
+fn assert_assesses(
+    rt: &impl Abort,
+    alloc: Global,
+    input: Vec<u8>,
+    status: u8,
+    text: &str,
+) -> Result<(), Fail> {
+    let (ended, written) = ran(alloc, "assess", input, None, None)?;
+    assert_eq!(rt; ended, status, "{text}");
+    assert_eq!(rt; written.as_slice(), text.as_bytes());
+    Ok(())
+}
+
 #[test]
 fn assesses_a_household(rt: HostRuntime) -> Result<(), Fail> {
     let alloc = rt.alloc();
@@ -60,21 +73,18 @@ fn assesses_a_household(rt: HostRuntime) -> Result<(), Fail> {
     for (old, new, text) in [
         ("", "", PAID),
         (
-            "\"exempt\":false",
-            "\"exempt\":false,\"incomes\":[],\"medical\":0",
+            "'welfare':0",
+            "'welfare':0,'incomes':[],'medical':0",
             NOTHING,
         ),
         (
-            "\"exempt\":false",
-            "\"exempt\":true,\"incomes\":[],\"medical\":0",
+            "'welfare':0",
+            "'welfare':0,'exempt':true,'incomes':[],'medical':0",
             EXEMPT,
         ),
-        ("\"disability\":0", "\"disability\":1", HELPED),
+        ("'disability':0", "'disability':1", HELPED),
     ] {
-        let input = household(alloc, old, new)?;
-        let (status, written) = ran(alloc, "assess", input, None, None)?;
-        assert_eq!(rt; status, 0, "{new}");
-        assert_eq!(rt; written.as_slice(), text.as_bytes());
+        assert_assesses(&rt, alloc, household(alloc, old, new)?, 0, text)?;
     }
     Ok(())
 }
@@ -89,40 +99,35 @@ fn says_why_it_assesses_nothing(rt: HostRuntime) -> Result<(), Fail> {
             "{\"refused\":{\"kind\":\"Form\",\"path\":\"facts.members[0].born\"}}\n",
         ),
         (
-            "\"exempt\"",
-            "\"extra\":1,\"exempt\"",
+            "'exempt'",
+            "'extra':1,'exempt'",
             "{\"refused\":{\"kind\":\"Form\",\"path\":\"facts.?\"}}\n",
         ),
         (
-            "\"member\":0",
-            "\"member\":1",
+            "'member':0",
+            "'member':1",
             "{\"refused\":{\"kind\":\"FactsRule\",\"number\":8,\"rule\":3}}\n",
         ),
-        (
-            HOUSEHOLD,
-            "",
-            "{\"refused\":{\"kind\":\"Form\",\"path\":\"\"}}\n",
-        ),
     ] {
-        let input = household(alloc, old, new)?;
-        let (status, written) = ran(alloc, "assess", input, None, None)?;
-        assert_eq!(rt; status, 8, "{new}");
-        assert_eq!(rt; written.as_slice(), text.as_bytes());
+        assert_assesses(&rt, alloc, household(alloc, old, new)?, 8, text)?;
     }
-    Ok(())
+    let no_json = "{\"refused\":{\"kind\":\"Form\",\"path\":\"\"}}\n";
+    assert_assesses(&rt, alloc, Vec::new(alloc), 8, no_json)
 }
 
 #[test]
-fn takes_16384_bytes_and_its_one_word(rt: HostRuntime) -> Result<(), Fail> {
+fn takes_16384_bytes(rt: HostRuntime) -> Result<(), Fail> {
     let alloc = rt.alloc();
     let mut input = household(alloc, "", "")?;
     input.resize(16_384, b' ')?;
-    let mut longer = input.clone()?;
-    longer.push(b' ')?;
-    let (status, written) = ran(alloc, "assess", input, None, None)?;
-    assert_eq!(rt; (status, written.as_slice()), (0, PAID.as_bytes()));
-    let (status, written) = ran(alloc, "assess", longer, None, None)?;
-    assert_eq!(rt; (status, written.len()), (9, 0));
+    assert_assesses(&rt, alloc, input.clone()?, 0, PAID)?;
+    input.push(b' ')?;
+    assert_assesses(&rt, alloc, input, 9, "")
+}
+
+#[test]
+fn takes_its_one_word(rt: HostRuntime) -> Result<(), Fail> {
+    let alloc = rt.alloc();
     for words in ["assess assess", "", "Assess", "batches"] {
         let (status, written) = ran(alloc, words, Vec::new(alloc), None, None)?;
         assert_eq!(rt; status, 2, "{words}");
@@ -132,7 +137,7 @@ fn takes_16384_bytes_and_its_one_word(rt: HostRuntime) -> Result<(), Fail> {
 }
 
 #[test]
-fn faults_end_the_program_at_each_call(rt: HostRuntime) -> Result<(), Fail> {
+fn read_faults_end_the_program(rt: HostRuntime) -> Result<(), Fail> {
     let alloc = rt.alloc();
     let whole = household(alloc, "", "")?;
     let reads = whole.len() as u64 / 7 + 1;
@@ -140,6 +145,15 @@ fn faults_end_the_program_at_each_call(rt: HostRuntime) -> Result<(), Fail> {
         let (status, written) = ran(alloc, "assess", whole.clone()?, Some(call), None)?;
         assert_eq!(rt; (status, written.len()), (3, 0), "read {call}");
     }
+    let (status, _) = ran(alloc, "assess", whole, Some(reads + 1), Some(14))?;
+    assert_eq!(rt; status, 0, "no fault comes so late");
+    Ok(())
+}
+
+#[test]
+fn write_faults_end_the_program(rt: HostRuntime) -> Result<(), Fail> {
+    let alloc = rt.alloc();
+    let whole = household(alloc, "", "")?;
     for call in 0..14u64 {
         let (status, written) = ran(alloc, "assess", whole.clone()?, None, Some(call))?;
         assert_eq!(rt;
@@ -149,7 +163,5 @@ fn faults_end_the_program_at_each_call(rt: HostRuntime) -> Result<(), Fail> {
         );
         assert!(rt; PAID.as_bytes().starts_with(&written));
     }
-    let (status, _) = ran(alloc, "assess", whole, Some(reads + 1), Some(14))?;
-    assert_eq!(rt; status, 0, "no fault comes so late");
     Ok(())
 }

@@ -1,22 +1,14 @@
-use super::*;
-use days_core::Day;
+use book_rows::Tables;
 use keeper_core::{Keeper, MemoryKeeper, PlannedKeeper};
 use office_io::{FixedClock, MemorySink, MemorySource};
+use office_prog::run;
+use sample_office::{CLOSE_JANUARY, PLAN, RENTS, START, UNIT, day, written};
 use std::alloc::Global;
+use std::process::Abort;
 use std::test::Fail;
 
-/// The plan, a unit, rents, a household of one of 70, and the closing of January 2024, each with its request.
-const MONTH: [&str; 5] = [
-    "'act':{'kind':'plan','first':'2024-01','early':false,'method':1,'fiscal_month':1,'report_days':30,'passbook':200,\
-    'expected':10,'bounds':[[1,1],[1,2],[2,4],[3,6],[4,8],[5,10]],'ranks':[1,2]}",
-    "'act':{'kind':'unit','name':'A-101','group':1,'bedrooms':1,'accessible':false}",
-    "'act':{'kind':'rents','group':1,'from':'2024-01-01','contract_rent':700,'utility':60}",
-    "'act':{'kind':'start','name':'Ada Reed','unit':1,'from':'2024-01-01','facts':{'members':[{'relation':'Head',\
-    'born':'1953-06-01','disabled':false,'student':false,'helped':false,'cared':false}],'incomes':[{'member':0,\
-    'kind':'Benefits','annual':9600}],'assets':[],'disposals':[],'care_work':0,'care_school':0,'disability':0,\
-    'medical':1000,'welfare':0,'exempt':false}}",
-    "'act':{'kind':'close','month':'2024-01'}",
-];
+/// The plan, a unit, rents, a household of one of 70, and the closing of January 2024.
+const MONTH: [&str; 5] = [PLAN, UNIT, RENTS, START, CLOSE_JANUARY];
 
 const REPLIES: &str = "{'act':1,'day':'2024-01-01','made':null}\n\
     {'act':2,'day':'2024-01-01','made':{'unit':1}}\n\
@@ -24,18 +16,17 @@ const REPLIES: &str = "{'act':1,'day':'2024-01-01','made':null}\n\
     {'act':4,'day':'2024-01-01','made':{'assistance':548,'household':1,'record':1,'reimbursement':0,'tenant_rent':152,'ttp':212}}\n\
     {'act':5,'day':'2024-01-01','made':{'amount':548,'lines':1,'month':'2024-01'}}\n";
 
-/// The first lines of the month, by clerk 1, and then the text.
-fn lines(alloc: Global, count: usize, more: &str) -> Result<Vec<u8>, Fail> {
+/// The first lines of the month, by clerk 1, each with its request.
+fn lines(alloc: Global, count: usize) -> Result<Vec<u8>, Fail> {
     let mut text = String::new(alloc);
     for (place, act) in MONTH.iter().take(count).enumerate() {
         let request = place as u64 + 1;
         let line = format!(in alloc;
-            "{{'today':'2024-01-01','clerk':1,'request':{request},{act}}}\n"
+            "{{'today':'2024-01-01','clerk':1,'request':{request},'act':{act}}}\n"
         )?;
         text.push_str(&line)?;
     }
-    text.push_str(more)?;
-    Ok(text.replace(alloc, "'", "\"")?.into_bytes())
+    Ok(written(alloc, &text)?.into_bytes())
 }
 
 /// Answers the lines on the keeper's book, and gives the status and what was written, with ' for ".
@@ -48,7 +39,7 @@ fn answered<K: Keeper>(
 ) -> Result<(u8, String), Fail> {
     let mut source = MemorySource::new(input, unread.into_iter().collect(alloc)?, 700);
     let mut sink = MemorySink::new(alloc, 900, unwritten.into_iter().collect(alloc)?, 40)?;
-    let clock = FixedClock::new(Day::from_number(52_595).ok_or("2024-01-01")?);
+    let clock = FixedClock::new(day("2024-01-01"));
     let words = ["batch".to_string(alloc)?];
     let status = run(alloc, &words, &mut source, &mut sink, &clock, keeper);
     let written = String::from_utf8(sink.into_bytes())?;
@@ -59,11 +50,17 @@ fn answered<K: Keeper>(
 fn answers_a_month(rt: HostRuntime) -> Result<(), Fail> {
     let alloc = rt.alloc();
     let mut keeper = MemoryKeeper::new(alloc);
-    let (status, written) = answered(alloc, &mut keeper, lines(alloc, 5, "")?, None, None)?;
+    let (status, written) = answered(alloc, &mut keeper, lines(alloc, 5)?, None, None)?;
     assert_eq!(rt; status, 0);
     assert_eq!(rt; written.as_str(), REPLIES);
     assert_eq!(rt; keeper.tables().acts.len(), 5);
     Ok(())
+}
+
+/// What is answered to the input on an empty book, which is one line for each of so many replies.
+fn answered_alone(alloc: Global, input: Vec<u8>) -> Result<(u8, String), Fail> {
+    let mut keeper = MemoryKeeper::new(alloc);
+    answered(alloc, &mut keeper, input, None, None)
 }
 
 // A bad line is answered in its place, empty ones aren't, and the last needs no end.
@@ -79,9 +76,8 @@ fn answers_each_line_in_its_place(rt: HostRuntime) -> Result<(), Fail> {
             "{'refused':{'kind':'Form','path':'ask.day'}}\n{'refused':{'id':1,'kind':'NoSuch','number':5,'what':'household'}}\n",
         ),
     ] {
-        let mut keeper = MemoryKeeper::new(alloc);
-        let input = text.replace(alloc, "'", "\"")?.into_bytes();
-        let (status, written) = answered(alloc, &mut keeper, input, None, None)?;
+        let input = written(alloc, text)?.into_bytes();
+        let (status, written) = answered_alone(alloc, input)?;
         assert_eq!(rt; status, 0);
         assert_eq!(rt; written.as_str(), replies);
     }
@@ -93,11 +89,10 @@ fn answers_each_line_in_its_place(rt: HostRuntime) -> Result<(), Fail> {
 fn ends_at_a_long_line(rt: HostRuntime) -> Result<(), Fail> {
     let alloc = rt.alloc();
     for (length, ended, count) in [(16_384, 0, 2), (16_385, 9, 1)] {
-        let mut input = lines(alloc, 1, "")?;
+        let mut input = lines(alloc, 1)?;
         let whole = input.len() + length;
         input.resize(whole, b' ')?;
-        let mut keeper = MemoryKeeper::new(alloc);
-        let (status, written) = answered(alloc, &mut keeper, input, None, None)?;
+        let (status, written) = answered_alone(alloc, input)?;
         assert_eq!(rt; status, ended);
         assert_eq!(rt; written.lines().count(), count);
     }
@@ -110,7 +105,7 @@ fn ends_where_the_keeper_fails(rt: HostRuntime) -> Result<(), Fail> {
     let alloc = rt.alloc();
     for call in 0..5u64 {
         let mut keeper = PlannedKeeper::new(alloc, [call].to_vec(alloc)?);
-        let (status, written) = answered(alloc, &mut keeper, lines(alloc, 4, "")?, None, None)?;
+        let (status, written) = answered(alloc, &mut keeper, lines(alloc, 4)?, None, None)?;
         assert_eq!(rt; status, 5);
         assert_eq!(rt; written.lines().count() as u64, call.saturating_sub(1));
         assert_eq!(rt; keeper.tables().acts.len() as u64, call.saturating_sub(1));
@@ -118,48 +113,50 @@ fn ends_where_the_keeper_fails(rt: HostRuntime) -> Result<(), Fail> {
     Ok(())
 }
 
-// Each read or write may fail: what is kept is what was answered, or one act more where a write failed.
+// Each read may fail, and what is kept is what was answered.
 #[test]
 fn keeps_what_it_answers(rt: HostRuntime) -> Result<(), Fail> {
     let alloc = rt.alloc();
     for call in 0..3u64 {
         let mut keeper = MemoryKeeper::new(alloc);
-        let (status, written) = answered(
-            alloc,
-            &mut keeper,
-            lines(alloc, 5, "")?,
-            Some(call),
-            None,
-        )?;
+        let input = lines(alloc, 5)?;
+        let (status, written) = answered(alloc, &mut keeper, input, Some(call), None)?;
         assert_eq!(rt; status, 3, "read {call}");
         assert_eq!(rt; keeper.tables().acts.len(), written.lines().count());
     }
+    Ok(())
+}
+
+// Each write may fail, and what was written is the beginning of the replies.
+#[test]
+fn writes_the_beginning_of_its_replies(rt: HostRuntime) -> Result<(), Fail> {
+    let alloc = rt.alloc();
     for call in 0..10u64 {
         let mut keeper = MemoryKeeper::new(alloc);
-        let (status, written) = answered(
-            alloc,
-            &mut keeper,
-            lines(alloc, 5, "")?,
-            None,
-            Some(call),
-        )?;
+        let input = lines(alloc, 5)?;
+        let (status, written) = answered(alloc, &mut keeper, input, None, Some(call))?;
         assert_eq!(rt; status, 4, "write {call}");
         assert!(rt; REPLIES.starts_with(written.as_str()));
     }
     Ok(())
 }
 
-// A book that isn't an office's is named by its first fault.
-#[test]
-fn names_where_a_book_goes_wrong(rt: HostRuntime) -> Result<(), Fail> {
-    let alloc = rt.alloc();
+/// The tables of a month, but with a line for 549 in place of 548.
+fn changed_tables(alloc: Global) -> Result<Tables, Fail> {
     let mut keeper = MemoryKeeper::new(alloc);
-    answered(alloc, &mut keeper, lines(alloc, 5, "")?, None, None)?;
+    answered(alloc, &mut keeper, lines(alloc, 5)?, None, None)?;
     let mut tables = keeper.into_tables();
     if let Some(line) = tables.lines.first_mut() {
         line.amount = 549;
     }
-    let mut keeper = MemoryKeeper::with(tables);
+    Ok(tables)
+}
+
+// A book that isn't an office's is named by its first fault.
+#[test]
+fn names_where_a_book_goes_wrong(rt: HostRuntime) -> Result<(), Fail> {
+    let alloc = rt.alloc();
+    let mut keeper = MemoryKeeper::with(changed_tables(alloc)?);
     let (status, written) = answered(alloc, &mut keeper, Vec::new(alloc), None, None)?;
     assert_eq!(rt; status, 6);
     assert_eq!(rt; written.as_str(), "bad book: lines 5\n");
