@@ -124,13 +124,25 @@ fn replied(
     requires month { ClosesBy 2639 asked.now }
     ensures { office.new.register ≡ office.old.register }
 {
-    let Ok(lines) = lines_of(alloc, &office.register, asked) else {
-        panic!(rt; "no memory");
-    };
-    for line in &lines {
-        assert!(rt; office.lines.push(*line).is_ok());
-    }
+    let lines = lines_made(rt, alloc, &office.register, asked);
+    hold(rt, &mut office.lines, &lines);
     reply_of(made, asked, &lines)
+}
+
+fn lines_made(rt: &impl Abort, alloc: Global, register: &Register, asked: &Command) -> Vec<Line>
+    requires { ClosesBy 2639 asked.now }
+    ensures { length result.items < 2 ^ 32 }
+{
+    match lines_of(alloc, register, asked) {
+        Ok(lines) => lines,
+        Err(NoMemory) => panic!(rt; "no memory"),
+    }
+}
+
+fn hold(rt: &impl Abort, held: &mut Vec<Line>, lines: &[Line]) {
+    for line in lines {
+        assert!(rt; held.push(*line).is_ok());
+    }
 }
 
 fn reply_of(made: &Option<Record>, asked: &Command, lines: &[Line]) -> Made
