@@ -1,9 +1,8 @@
 use crate::applicants::{ApplyAct, RemoveAct};
-use crate::certifications::{
-    AdmitAct, AnnualAct, CorrectAct, GrossAct, InterimAct, ResumeAct, StartAct,
-};
+use crate::certifications::{AdmitAct, StartAct};
 use crate::closings::CloseAct;
-use crate::moves::{AskTransferAct, MoveOutAct, TerminateAct, TransferAct, WithdrawAct};
+use crate::household::HouseholdAct;
+use crate::moves::AskTransferAct;
 use crate::property::{LimitsAct, RentsAct, UnitAct};
 use rent_table::Plan;
 
@@ -21,16 +20,8 @@ pub enum Command {
     Remove(RemoveAct),
     Start(StartAct),
     Admit(AdmitAct),
-    Annual(AnnualAct),
-    Interim(InterimAct),
-    Resume(ResumeAct),
-    Gross(GrossAct),
-    Correct(CorrectAct),
     AskTransfer(AskTransferAct),
-    Transfer(TransferAct),
-    MoveOut(MoveOutAct),
-    Terminate(TerminateAct),
-    Withdraw(WithdrawAct),
+    Household(HouseholdAct),
     Close(CloseAct),
 }
 

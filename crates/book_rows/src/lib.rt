@@ -5,6 +5,7 @@ mod applicants;
 mod certifications;
 mod closings;
 mod command;
+mod household;
 mod moves;
 mod names;
 mod property;
@@ -18,6 +19,7 @@ pub use certifications::{
 };
 pub use closings::CloseAct;
 pub use command::Command;
+pub use household::{HouseholdAct, HouseholdChange};
 pub use moves::{AskTransferAct, MoveOutAct, TerminateAct, TransferAct, WithdrawAct};
 pub use names::is_name;
 pub use property::{LimitsAct, RentsAct, UnitAct};

@@ -12,9 +12,6 @@ pub struct AskTransferAct {
 /// Moves a household into another unit.
 #[derive(Clone, Copy, Debug, PartialEq, Eq)]
 pub struct TransferAct {
-    pub household: u32,
-    /// The number of the newest record that the clerk saw of the household.
-    pub seen: u32,
     pub unit: u32,
     pub from: Day,
 }
@@ -22,9 +19,6 @@ pub struct TransferAct {
 /// Tells that a household moved out.
 #[derive(Clone, Copy, Debug, PartialEq, Eq)]
 pub struct MoveOutAct {
-    pub household: u32,
-    /// The number of the newest record that the clerk saw of the household.
-    pub seen: u32,
     /// Its last day in the unit.
     pub last: Day,
 }
@@ -32,18 +26,12 @@ pub struct MoveOutAct {
 /// Ends a household's assistance, though it stays in its unit.
 #[derive(Clone, Copy, Debug, PartialEq, Eq)]
 pub struct TerminateAct {
-    pub household: u32,
-    /// The number of the newest record that the clerk saw of the household.
-    pub seen: u32,
     pub from: Day,
 }
 
 /// Withdraws a record, so that it counts no more.
 #[derive(Clone, Copy, Debug, PartialEq, Eq)]
 pub struct WithdrawAct {
-    pub household: u32,
-    /// The number of the newest record that the clerk saw of the household.
-    pub seen: u32,
     /// The number of the record that is withdrawn.
     pub target: u32,
 }

@@ -10,8 +10,9 @@ use Rattle.command_forms.specs.Commands.{command_at, command_data, body_of, acce
 use Rattle.command_forms.proofs.PlainText.{IsPlain, read_compact}
 use Rattle.command_forms.proofs.PropertyAgain.{plan_again, plan_plain, unit_again, unit_plain, rents_again, rents_plain, limits_act_again, limits_act_plain}
 use Rattle.command_forms.proofs.ApplicantsAgain.{apply_again, apply_plain, remove_again, remove_plain}
-use Rattle.command_forms.proofs.CertificationsAgain.{start_again, start_plain, admit_again, admit_plain, annual_again, annual_plain, interim_again, interim_plain, resume_again, resume_plain, gross_again, gross_plain, correct_again, correct_plain}
-use Rattle.command_forms.proofs.MovesAgain.{ask_transfer_again, ask_transfer_plain, transfer_again, transfer_plain, move_out_again, move_out_plain, terminate_again, terminate_plain, withdraw_again, withdraw_plain, close_again, close_plain}
+use Rattle.command_forms.proofs.CertificationsAgain.{start_again, start_plain, admit_again, admit_plain}
+use Rattle.command_forms.proofs.MovesAgain.{ask_transfer_again, ask_transfer_plain, close_again, close_plain}
+use Rattle.command_forms.proofs.ChangesAgain.{kind_again, household_again, household_plain}
 
 pub command_again : (asked : Command) → is_fit asked ≡ true → IsHoldable asked → command_at (command_data asked) ≡ Ok asked
 unfolding command_at
@@ -23,16 +24,8 @@ command_again (command.Apply apply) fit h = simp (apply_again apply fit) refl
 command_again (command.Remove remove) fit h = simp (remove_again remove h) refl
 command_again (command.Start start) fit h = simp (start_again start fit h) refl
 command_again (command.Admit admit) fit h = simp (admit_again admit h) refl
-command_again (command.Annual annual) fit h = simp (annual_again annual h) refl
-command_again (command.Interim interim) fit h = simp (interim_again interim h) refl
-command_again (command.Resume resume) fit h = simp (resume_again resume h) refl
-command_again (command.Gross gross) fit h = simp (gross_again gross h) refl
-command_again (command.Correct correct) fit h = simp (correct_again correct h) refl
 command_again (command.AskTransfer ask) fit h = simp (ask_transfer_again ask h) refl
-command_again (command.Transfer transfer) fit h = simp (transfer_again transfer h) refl
-command_again (command.MoveOut move_out) fit h = simp (move_out_again move_out h) refl
-command_again (command.Terminate terminate) fit h = simp (terminate_again terminate h) refl
-command_again (command.Withdraw withdraw) fit h = simp (withdraw_again withdraw h) refl
+command_again (command.Household act) fit h = simp (kind_again act.household act.seen act.change, household_again act.household act.seen act.change h.0 h.1 h.2) refl
 command_again (command.Close close) fit h = simp (close_again close h) refl
 
 command_plain : (asked : Command) → is_fit asked ≡ true → IsHoldable asked → IsPlain 4 (command_data asked)
@@ -44,16 +37,8 @@ command_plain (command.Apply apply) fit h = apply_plain apply fit
 command_plain (command.Remove remove) fit h = remove_plain remove h
 command_plain (command.Start start) fit h = start_plain start fit h
 command_plain (command.Admit admit) fit h = admit_plain admit h
-command_plain (command.Annual annual) fit h = annual_plain annual h
-command_plain (command.Interim interim) fit h = interim_plain interim h
-command_plain (command.Resume resume) fit h = resume_plain resume h
-command_plain (command.Gross gross) fit h = gross_plain gross h
-command_plain (command.Correct correct) fit h = correct_plain correct h
 command_plain (command.AskTransfer ask) fit h = ask_transfer_plain ask h
-command_plain (command.Transfer transfer) fit h = transfer_plain transfer h
-command_plain (command.MoveOut move_out) fit h = move_out_plain move_out h
-command_plain (command.Terminate terminate) fit h = terminate_plain terminate h
-command_plain (command.Withdraw withdraw) fit h = withdraw_plain withdraw h
+command_plain (command.Household act) fit h = household_plain act.household act.seen act.change h.0 h.1 h.2
 command_plain (command.Close close) fit h = close_plain close h
 
 pub body_again : (asked : Command) → is_fit asked ≡ true → IsHoldable asked → command_in (body_of asked) ≡ Some asked

@@ -6,5 +6,6 @@ pub mod PropertyAgain
 pub mod ApplicantsAgain
 pub mod CertificationsAgain
 pub mod MovesAgain
+pub mod ChangesAgain
 pub mod CommandAgain
 pub mod WithoutFloat

@@ -11,6 +11,9 @@ use Rattle.json_form.proofs.Again.{array_without_float}
 use Rattle.facts_core.proofs.FactsAgain.{facts_without_float}
 use Rattle.book_rows.specs.declared.command.Command.{Command}
 use Rattle.book_rows.specs.declared.command.Command.TheVariants as command
+use Rattle.book_rows.specs.declared.household.HouseholdChange.{HouseholdChange}
+use Rattle.book_rows.specs.declared.household.HouseholdChange.TheVariants as change
+use Rattle.command_forms.specs.Changes.{household_data}
 use Rattle.command_forms.specs.Fields.{name_data, numbers_data, bound_data}
 use Rattle.command_forms.specs.Commands.{command_data}
 
@@ -24,6 +27,17 @@ name_without_float name =
 numbers_without_float : (numbers : List ℕ) → has_float (numbers_data numbers) ≡ false
 numbers_without_float numbers = array_without_float number_data (λ number. refl) numbers
 
+household_without_float : (household seen : ℕ) (c : HouseholdChange) → has_float (household_data (record { household = household; seen = seen; change = c })) ≡ false
+household_without_float household seen (change.Annual annual) = simp (facts_without_float annual.facts) refl
+household_without_float household seen (change.Interim interim) = simp (facts_without_float interim.facts) refl
+household_without_float household seen (change.Resume resume) = simp (facts_without_float resume.facts) refl
+household_without_float household seen (change.Gross gross) = refl
+household_without_float household seen (change.Correct correct) = simp (facts_without_float correct.facts) refl
+household_without_float household seen (change.Transfer transfer) = refl
+household_without_float household seen (change.MoveOut move_out) = refl
+household_without_float household seen (change.Terminate terminate) = refl
+household_without_float household seen (change.Withdraw withdraw) = refl
+
 command_without_float : (asked : Command) → has_float (command_data asked) ≡ false
 command_without_float (command.Plan plan) = simp (array_without_float bound_data (λ bound. refl) plan.bounds, numbers_without_float plan.ranks) refl
 command_without_float (command.Unit unit) = simp (name_without_float unit.name) refl
@@ -33,16 +47,8 @@ command_without_float (command.Apply apply) = simp (name_without_float apply.nam
 command_without_float (command.Remove remove) = refl
 command_without_float (command.Start start) = simp (facts_without_float start.facts, name_without_float start.name) refl
 command_without_float (command.Admit admit) = simp (facts_without_float admit.facts) refl
-command_without_float (command.Annual annual) = simp (facts_without_float annual.facts) refl
-command_without_float (command.Interim interim) = simp (facts_without_float interim.facts) refl
-command_without_float (command.Resume resume) = simp (facts_without_float resume.facts) refl
-command_without_float (command.Gross gross) = refl
-command_without_float (command.Correct correct) = simp (facts_without_float correct.facts) refl
 command_without_float (command.AskTransfer ask) = refl
-command_without_float (command.Transfer transfer) = refl
-command_without_float (command.MoveOut move_out) = refl
-command_without_float (command.Terminate terminate) = refl
-command_without_float (command.Withdraw withdraw) = refl
+command_without_float (command.Household act) = household_without_float act.household act.seen act.change
 command_without_float (command.Close close) = refl
 
 pub written_without_float : {E : Type 0} (result : Result Value E) (asked : Command) → IfOk result (λ value. view value ≡ command_data asked) → IfOk result (λ value. has_float (view value) ≡ false)

@@ -10,8 +10,9 @@ use Rattle.command_forms.specs.declared.kind.Kind.TheVariants as kind
 use Rattle.command_forms.specs.Kinds.{kind_at}
 use Rattle.command_forms.specs.Property.{plan_at, unit_at, rents_at, limits_act_at, plan_data, unit_data, rents_data, limits_act_data}
 use Rattle.command_forms.specs.Applicants.{apply_at, remove_at, apply_data, remove_data}
-use Rattle.command_forms.specs.Certifications.{start_at, admit_at, annual_at, interim_at, resume_at, gross_at, correct_at, start_data, admit_data, annual_data, interim_data, resume_data, gross_data, correct_data}
-use Rattle.command_forms.specs.Moves.{ask_transfer_at, transfer_at, move_out_at, terminate_at, withdraw_at, close_at, ask_transfer_data, transfer_data, move_out_data, terminate_data, withdraw_data, close_data}
+use Rattle.command_forms.specs.Certifications.{start_at, admit_at, start_data, admit_data}
+use Rattle.command_forms.specs.Moves.{ask_transfer_at, close_at, ask_transfer_data, close_data}
+use Rattle.command_forms.specs.Changes.{household_at, household_data}
 
 -- ---- reading
 
@@ -25,16 +26,8 @@ rest_at kind.Apply d = apply_at d >>= λ apply. Ok (command.Apply apply)
 rest_at kind.Remove d = remove_at d >>= λ remove. Ok (command.Remove remove)
 rest_at kind.Start d = start_at d >>= λ start. Ok (command.Start start)
 rest_at kind.Admit d = admit_at d >>= λ admit. Ok (command.Admit admit)
-rest_at kind.Annual d = annual_at d >>= λ annual. Ok (command.Annual annual)
-rest_at kind.Interim d = interim_at d >>= λ interim. Ok (command.Interim interim)
-rest_at kind.Resume d = resume_at d >>= λ resume. Ok (command.Resume resume)
-rest_at kind.Gross d = gross_at d >>= λ gross. Ok (command.Gross gross)
-rest_at kind.Correct d = correct_at d >>= λ correct. Ok (command.Correct correct)
 rest_at kind.AskTransfer d = ask_transfer_at d >>= λ ask. Ok (command.AskTransfer ask)
-rest_at kind.Transfer d = transfer_at d >>= λ transfer. Ok (command.Transfer transfer)
-rest_at kind.MoveOut d = move_out_at d >>= λ move_out. Ok (command.MoveOut move_out)
-rest_at kind.Terminate d = terminate_at d >>= λ terminate. Ok (command.Terminate terminate)
-rest_at kind.Withdraw d = withdraw_at d >>= λ withdraw. Ok (command.Withdraw withdraw)
+rest_at (kind.Household change) d = household_at change d >>= λ act. Ok (command.Household act)
 rest_at kind.Close d = close_at d >>= λ close. Ok (command.Close close)
 
 -- a command: its kind first, then the fields of that kind in their order, then no other member
@@ -56,16 +49,8 @@ command_data (command.Apply apply) = apply_data apply
 command_data (command.Remove remove) = remove_data remove
 command_data (command.Start start) = start_data start
 command_data (command.Admit admit) = admit_data admit
-command_data (command.Annual annual) = annual_data annual
-command_data (command.Interim interim) = interim_data interim
-command_data (command.Resume resume) = resume_data resume
-command_data (command.Gross gross) = gross_data gross
-command_data (command.Correct correct) = correct_data correct
 command_data (command.AskTransfer ask) = ask_transfer_data ask
-command_data (command.Transfer transfer) = transfer_data transfer
-command_data (command.MoveOut move_out) = move_out_data move_out
-command_data (command.Terminate terminate) = terminate_data terminate
-command_data (command.Withdraw withdraw) = withdraw_data withdraw
+command_data (command.Household act) = household_data act
 command_data (command.Close close) = close_data close
 
 -- the text of a command: compact JSON

@@ -4,6 +4,8 @@
 use Rattle.std.specs.Prelude.{ℕ, ◌<◌, ◌≤◌, ◌^◌, ⊤}
 use Rattle.facts_core.specs.FactsData.{FactsFit}
 use Rattle.record_history.specs.declared.records.Dates.{Dates}
+use Rattle.book_rows.specs.declared.household.HouseholdChange.{HouseholdChange}
+use Rattle.book_rows.specs.declared.household.HouseholdChange.TheVariants as change
 use Rattle.book_rows.specs.declared.command.Command.{Command}
 use Rattle.book_rows.specs.declared.command.Command.TheVariants as command
 
@@ -22,6 +24,17 @@ pub record AreDates (dates : Dates) : Type 0 where
   pub notice : IsDay dates.notice
   pub done : IsDay dates.done
 
+abbrev pub IsHoldableChange : HouseholdChange → Type 0
+IsHoldableChange (change.Annual annual) = IsDay annual.from × FactsFit annual.facts
+IsHoldableChange (change.Interim interim) = AreDates interim.dates × IsDay interim.from × FactsFit interim.facts
+IsHoldableChange (change.Resume resume) = IsDay resume.done × IsDay resume.from × FactsFit resume.facts
+IsHoldableChange (change.Gross gross) = IsDay gross.from
+IsHoldableChange (change.Correct correct) = IsNumber correct.target × IsDay correct.from × FactsFit correct.facts
+IsHoldableChange (change.Transfer transfer) = IsNumber transfer.unit × IsDay transfer.from
+IsHoldableChange (change.MoveOut move_out) = IsDay move_out.last
+IsHoldableChange (change.Terminate terminate) = IsDay terminate.from
+IsHoldableChange (change.Withdraw withdraw) = IsNumber withdraw.target
+
 abbrev pub IsHoldable : Command → Type 0
 IsHoldable (command.Plan plan) = ⊤
 IsHoldable (command.Unit unit) = ⊤
@@ -31,17 +44,6 @@ IsHoldable (command.Apply apply) = ⊤
 IsHoldable (command.Remove remove) = IsNumber remove.applicant
 IsHoldable (command.Start start) = IsNumber start.unit × IsDay start.from × FactsFit start.facts
 IsHoldable (command.Admit admit) = IsNumber admit.applicant × IsNumber admit.unit × IsDay admit.from × FactsFit admit.facts
-IsHoldable (command.Annual annual) = IsNumber annual.household × IsNumber annual.seen × IsDay annual.from × FactsFit annual.facts
-IsHoldable (command.Interim interim) =
-    IsNumber interim.household × IsNumber interim.seen × AreDates interim.dates × IsDay interim.from × FactsFit interim.facts
-IsHoldable (command.Resume resume) =
-    IsNumber resume.household × IsNumber resume.seen × IsDay resume.done × IsDay resume.from × FactsFit resume.facts
-IsHoldable (command.Gross gross) = IsNumber gross.household × IsNumber gross.seen × IsDay gross.from
-IsHoldable (command.Correct correct) =
-    IsNumber correct.household × IsNumber correct.seen × IsNumber correct.target × IsDay correct.from × FactsFit correct.facts
 IsHoldable (command.AskTransfer ask) = IsNumber ask.household
-IsHoldable (command.Transfer transfer) = IsNumber transfer.household × IsNumber transfer.seen × IsNumber transfer.unit × IsDay transfer.from
-IsHoldable (command.MoveOut move_out) = IsNumber move_out.household × IsNumber move_out.seen × IsDay move_out.last
-IsHoldable (command.Terminate terminate) = IsNumber terminate.household × IsNumber terminate.seen × IsDay terminate.from
-IsHoldable (command.Withdraw withdraw) = IsNumber withdraw.household × IsNumber withdraw.seen × IsNumber withdraw.target
+IsHoldable (command.Household act) = IsNumber act.household × IsNumber act.seen × IsHoldableChange act.change
 IsHoldable (command.Close close) = IsMonth close.month

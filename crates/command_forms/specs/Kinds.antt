@@ -5,6 +5,7 @@ use Rattle.serde_json.specs.Find.{as_str}
 use Rattle.json_form.specs.Form.{fit}
 use Rattle.command_forms.specs.declared.kind.Kind.{Kind}
 use Rattle.command_forms.specs.declared.kind.Kind.TheVariants as kind
+use Rattle.command_forms.specs.declared.kind.ChangeKind.TheVariants as change
 
 abbrev pub kind_from : List ℕ → Option Kind
 kind_from text =
@@ -16,16 +17,16 @@ kind_from text =
     else (if bytes_eq text (codes "remove") then Some kind.Remove
     else (if bytes_eq text (codes "start") then Some kind.Start
     else (if bytes_eq text (codes "admit") then Some kind.Admit
-    else (if bytes_eq text (codes "annual") then Some kind.Annual
-    else (if bytes_eq text (codes "interim") then Some kind.Interim
-    else (if bytes_eq text (codes "resume") then Some kind.Resume
-    else (if bytes_eq text (codes "gross") then Some kind.Gross
-    else (if bytes_eq text (codes "correct") then Some kind.Correct
+    else (if bytes_eq text (codes "annual") then Some (kind.Household change.Annual)
+    else (if bytes_eq text (codes "interim") then Some (kind.Household change.Interim)
+    else (if bytes_eq text (codes "resume") then Some (kind.Household change.Resume)
+    else (if bytes_eq text (codes "gross") then Some (kind.Household change.Gross)
+    else (if bytes_eq text (codes "correct") then Some (kind.Household change.Correct)
     else (if bytes_eq text (codes "ask_transfer") then Some kind.AskTransfer
-    else (if bytes_eq text (codes "transfer") then Some kind.Transfer
-    else (if bytes_eq text (codes "move_out") then Some kind.MoveOut
-    else (if bytes_eq text (codes "terminate") then Some kind.Terminate
-    else (if bytes_eq text (codes "withdraw") then Some kind.Withdraw
+    else (if bytes_eq text (codes "transfer") then Some (kind.Household change.Transfer)
+    else (if bytes_eq text (codes "move_out") then Some (kind.Household change.MoveOut)
+    else (if bytes_eq text (codes "terminate") then Some (kind.Household change.Terminate)
+    else (if bytes_eq text (codes "withdraw") then Some (kind.Household change.Withdraw)
     else (if bytes_eq text (codes "close") then Some kind.Close
     else None))))))))))))))))))
 

@@ -4,5 +4,6 @@ pub mod Property
 pub mod Applicants
 pub mod Certifications
 pub mod Moves
+pub mod Changes
 pub mod Commands
 pub mod Holdable

@@ -5,9 +5,9 @@
 
 ghost use Rattle.std.specs.Prelude.{All, ◌≤◌};
 ghost use Rattle.facts_core.specs.FactsData.{FactsFit, IncomeFits, AssetFits, DisposalFits};
-ghost use Rattle.command_forms.specs.Holdable.{IsHoldable, IsNumber, IsDay, IsMonth, AreDates};
+ghost use Rattle.command_forms.specs.Holdable.{IsHoldable, IsHoldableChange, IsNumber, IsDay, IsMonth, AreDates};
 
-use book_rows::Command;
+use book_rows::{Command, HouseholdChange};
 use days_core::{Day, Month};
 use facts_core::{Asset, Disposal, Facts, Income, Member};
 use record_history::Dates;
@@ -34,51 +34,49 @@ pub fn held_command(asked: &Command)
             held_day(admit.from);
             held_facts(&admit.facts);
         }
-        Command::Annual(annual) => {
-            held_seen(annual.household, annual.seen, annual.from);
-            held_facts(&annual.facts);
-        }
-        Command::Interim(interim) => {
-            held_seen(interim.household, interim.seen, interim.from);
-            held_dates(interim.dates);
-            held_facts(&interim.facts);
-        }
-        Command::Resume(resume) => {
-            held_seen(resume.household, resume.seen, resume.from);
-            held_day(resume.done);
-            held_facts(&resume.facts);
-        }
-        Command::Gross(gross) => held_seen(gross.household, gross.seen, gross.from),
-        Command::Correct(correct) => {
-            held_seen(correct.household, correct.seen, correct.from);
-            held_number(correct.target);
-            held_facts(&correct.facts);
-        }
         Command::AskTransfer(ask) => held_number(ask.household),
-        Command::Transfer(transfer) => {
-            held_seen(transfer.household, transfer.seen, transfer.from);
-            held_number(transfer.unit);
-        }
-        Command::MoveOut(move_out) => held_seen(move_out.household, move_out.seen, move_out.last),
-        Command::Terminate(terminate) => held_seen(
-            terminate.household,
-            terminate.seen,
-            terminate.from,
-        ),
-        Command::Withdraw(withdraw) => {
-            held_number(withdraw.household);
-            held_number(withdraw.seen);
-            held_number(withdraw.target);
+        Command::Household(act) => {
+            held_number(act.household);
+            held_number(act.seen);
+            held_change(&act.change);
         }
         Command::Close(close) => held_month(close.month),
     }
 }
 
-fn held_seen(household: u32, seen: u32, day: Day)
-    ensures household { IsNumber household }
-    ensures seen { IsNumber seen }
-    ensures day { IsDay day }
-{}
+fn held_change(change: &HouseholdChange)
+    ensures { IsHoldableChange change.now }
+{
+    match change {
+        HouseholdChange::Annual(annual) => {
+            held_day(annual.from);
+            held_facts(&annual.facts);
+        }
+        HouseholdChange::Interim(interim) => {
+            held_dates(interim.dates);
+            held_day(interim.from);
+            held_facts(&interim.facts);
+        }
+        HouseholdChange::Resume(resume) => {
+            held_day(resume.done);
+            held_day(resume.from);
+            held_facts(&resume.facts);
+        }
+        HouseholdChange::Gross(gross) => held_day(gross.from),
+        HouseholdChange::Correct(correct) => {
+            held_number(correct.target);
+            held_day(correct.from);
+            held_facts(&correct.facts);
+        }
+        HouseholdChange::Transfer(transfer) => {
+            held_number(transfer.unit);
+            held_day(transfer.from);
+        }
+        HouseholdChange::MoveOut(move_out) => held_day(move_out.last),
+        HouseholdChange::Terminate(terminate) => held_day(terminate.from),
+        HouseholdChange::Withdraw(withdraw) => held_number(withdraw.target),
+    }
+}
 
 fn held_number(number: u32)
     ensures { IsNumber number }

@@ -16,17 +16,23 @@ pub enum Kind {
     Remove,
     Start,
     Admit,
+    AskTransfer,
+    Household(ChangeKind),
+    Close,
+}
+
+/// Which change of a household it is.
+#[derive(Clone, Copy, Debug, PartialEq, Eq)]
+pub enum ChangeKind {
     Annual,
     Interim,
     Resume,
     Gross,
     Correct,
-    AskTransfer,
     Transfer,
     MoveOut,
     Terminate,
     Withdraw,
-    Close,
 }
 
 impl Formed for Kind {
@@ -52,16 +58,16 @@ fn kind_of(text: &str) -> Option<Kind>
         "remove" => Some(Kind::Remove),
         "start" => Some(Kind::Start),
         "admit" => Some(Kind::Admit),
-        "annual" => Some(Kind::Annual),
-        "interim" => Some(Kind::Interim),
-        "resume" => Some(Kind::Resume),
-        "gross" => Some(Kind::Gross),
-        "correct" => Some(Kind::Correct),
+        "annual" => Some(Kind::Household(ChangeKind::Annual)),
+        "interim" => Some(Kind::Household(ChangeKind::Interim)),
+        "resume" => Some(Kind::Household(ChangeKind::Resume)),
+        "gross" => Some(Kind::Household(ChangeKind::Gross)),
+        "correct" => Some(Kind::Household(ChangeKind::Correct)),
         "ask_transfer" => Some(Kind::AskTransfer),
-        "transfer" => Some(Kind::Transfer),
-        "move_out" => Some(Kind::MoveOut),
-        "terminate" => Some(Kind::Terminate),
-        "withdraw" => Some(Kind::Withdraw),
+        "transfer" => Some(Kind::Household(ChangeKind::Transfer)),
+        "move_out" => Some(Kind::Household(ChangeKind::MoveOut)),
+        "terminate" => Some(Kind::Household(ChangeKind::Terminate)),
+        "withdraw" => Some(Kind::Household(ChangeKind::Withdraw)),
         "close" => Some(Kind::Close),
         _ => None,
     }

@@ -7,5 +7,5 @@ mod kind;
 mod laws;
 
 pub use holdable::held_command;
-pub use kind::Kind;
+pub use kind::{ChangeKind, Kind};
 pub use laws::bodies_read_back;

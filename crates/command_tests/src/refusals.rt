@@ -1,14 +1,14 @@
 use days_core::{Day, Month};
-use office_step::{
-    Named, Refusal, act_day, annual_right, book_full, corrected_annual_right, corrected_right,
-    day_range, interim_right, lines_full, name_taken, next_to_close, no_assistance, no_household,
-    no_plan, no_rent, no_unit, not_next, overdue, plan_given, rent_due, repeated, request_reused,
-    resume_right, stale, unseen, wrong_day, wrong_month,
+use office_refusals::{
+    act_day, annual_right, book_full, corrected_right, day_range, interim_right, lines_full,
+    name_taken, next_to_close, no_assistance, no_household, no_plan, no_rent, no_unit, not_next,
+    overdue, plan_given, rent_due, resume_right, stale, unseen, wrong_day, wrong_month,
 };
+use office_step::{Named, Refusal};
 use record_history::{Dates, History, Kind};
 use rent_table::RentTable;
 use sample_office::{
-    act_row, body, day, history_of, month, office_day, record, rent_row, rent_table, text,
+    day, history_of, month, office_day, record, rent_row, rent_table, text,
 };
 use std::alloc::Global;
 use std::process::Abort;
@@ -55,32 +55,6 @@ fn nobody(id: u32) -> Refusal {
         what: Named::Household,
         id,
     }
-}
-
-#[test]
-fn a_request_is_of_one_clerk_and_one_command(rt: HostRuntime) {
-    let reused = Refusal::RequestReused { act: 5 };
-    assert_request(&rt, rt.alloc(), (1, 50, "{}"), true, None);
-    assert_request(&rt, rt.alloc(), (1, 50, "[]"), false, Some(reused));
-    assert_request(&rt, rt.alloc(), (2, 50, "{}"), false, None);
-    assert_request(&rt, rt.alloc(), (1, 51, "[]"), false, None);
-}
-
-/// Tries a clerk's request of a command where act 5 is clerk 1's of request 50.
-fn assert_request(
-    rt: &impl Abort,
-    alloc: Global,
-    (clerk, request, asked): (u32, u32, &str),
-    repeats: bool,
-    refused: Option<Refusal>,
-) {
-    let Ok(body) = body(alloc, "{}") else {
-        panic!(rt; "no memory");
-    };
-    let rows = [act_row(5, 1, 50, body)];
-    let found = request_reused(&rows, clerk, request, asked.as_bytes());
-    assert!(rt; repeated(&rows, clerk, request, asked.as_bytes()).is_some() == repeats);
-    assert_refused(rt, found, refused);
 }
 
 const RANGE: [(&str, bool); 4] = [
@@ -186,14 +160,10 @@ fn certifications_have_their_days(rt: HostRuntime) {
     assert_corrections(&rt, &history);
 }
 
-// Certified on 2024-01-01 and again on the first of 2025 and 2026: the next annual is of 2027, and the one of record 2 stays
-// where it is.
+// Certified on 2024-01-01 and again on the first of 2025 and 2026: the next annual is of 2027.
 fn assert_annuals(rt: &impl Abort, history: &History) {
-    let second = record(1, 2, 2, Kind::AR, day("2025-01-01"));
     assert_day(rt, annual_right(history, 1), "2027-01-01");
     assert!(rt; annual_right(history, 2).is_none());
-    let corrected = corrected_annual_right(history, 1, &second);
-    assert_day(rt, corrected, "2025-01-01");
 }
 
 fn assert_corrections(rt: &impl Abort, history: &History) {

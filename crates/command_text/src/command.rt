@@ -6,14 +6,9 @@ ghost use Rattle.book_rows.specs.Fit.{is_fit};
 ghost use Rattle.command_forms.specs.Commands.{rest_at, command_at, command_data};
 
 use crate::applicants::{apply_of, apply_value, remove_of, remove_value};
-use crate::certifications::{
-    admit_of, admit_value, annual_of, annual_value, correct_of, correct_value, gross_of,
-    gross_value, interim_of, interim_value, resume_of, resume_value, start_of, start_value,
-};
-use crate::moves::{
-    ask_transfer_of, ask_transfer_value, close_of, close_value, move_out_of, move_out_value,
-    terminate_of, terminate_value, transfer_of, transfer_value, withdraw_of, withdraw_value,
-};
+use crate::certifications::{admit_of, admit_value, start_of, start_value};
+use crate::changes::{household_of, household_value};
+use crate::moves::{ask_transfer_of, ask_transfer_value, close_of, close_value};
 use crate::property::{
     limits_of, limits_value, plan_of, plan_value, rents_of, rents_value, unit_of, unit_value,
 };
@@ -49,16 +44,8 @@ fn command_of_kind(alloc: Global, value: &Value, kind: Kind) -> Result<Command, 
         Kind::Remove => Command::Remove(remove_of(alloc, value)?),
         Kind::Start => Command::Start(start_of(alloc, value)?),
         Kind::Admit => Command::Admit(admit_of(alloc, value)?),
-        Kind::Annual => Command::Annual(annual_of(alloc, value)?),
-        Kind::Interim => Command::Interim(interim_of(alloc, value)?),
-        Kind::Resume => Command::Resume(resume_of(alloc, value)?),
-        Kind::Gross => Command::Gross(gross_of(alloc, value)?),
-        Kind::Correct => Command::Correct(correct_of(alloc, value)?),
         Kind::AskTransfer => Command::AskTransfer(ask_transfer_of(alloc, value)?),
-        Kind::Transfer => Command::Transfer(transfer_of(alloc, value)?),
-        Kind::MoveOut => Command::MoveOut(move_out_of(alloc, value)?),
-        Kind::Terminate => Command::Terminate(terminate_of(alloc, value)?),
-        Kind::Withdraw => Command::Withdraw(withdraw_of(alloc, value)?),
+        Kind::Household(kind) => Command::Household(household_of(alloc, value, kind)?),
         Kind::Close => Command::Close(close_of(alloc, value)?),
     };
     Ok(asked)
@@ -85,16 +72,8 @@ fn value_by_kind(alloc: Global, asked: &Command) -> Result<Value, NoMemory>
         Command::Remove(remove) => remove_value(alloc, remove),
         Command::Start(start) => start_value(alloc, start),
         Command::Admit(admit) => admit_value(alloc, admit),
-        Command::Annual(annual) => annual_value(alloc, annual),
-        Command::Interim(interim) => interim_value(alloc, interim),
-        Command::Resume(resume) => resume_value(alloc, resume),
-        Command::Gross(gross) => gross_value(alloc, gross),
-        Command::Correct(correct) => correct_value(alloc, correct),
         Command::AskTransfer(ask) => ask_transfer_value(alloc, ask),
-        Command::Transfer(transfer) => transfer_value(alloc, transfer),
-        Command::MoveOut(move_out) => move_out_value(alloc, move_out),
-        Command::Terminate(terminate) => terminate_value(alloc, terminate),
-        Command::Withdraw(withdraw) => withdraw_value(alloc, withdraw),
+        Command::Household(act) => household_value(alloc, act),
         Command::Close(close) => close_value(alloc, close),
     }
 }

@@ -5,6 +5,7 @@ mod applicants;
 mod body;
 mod bounds;
 mod certifications;
+mod changes;
 mod command;
 mod fields;
 mod moves;

@@ -7,60 +7,8 @@ use Rattle.office_step.specs.declared.refusal.Named.{Named}
 use Rattle.office_step.specs.declared.refusal.Named.TheVariants as named
 use Rattle.office_step.specs.declared.refusal.Refusal.{Refusal}
 use Rattle.office_step.specs.declared.refusal.Refusal.TheVariants as refusal
+use Rattle.office_step.specs.Numbers.{number_of, name_of}
 use Rattle.json_front.specs.Values.{or_null, candidate_data}
-
-abbrev pub refusal_kind : Refusal → List ℕ
-refusal_kind (refusal.RequestReused act) = codes "RequestReused"
-refusal_kind refusal.NoPlan = codes "NoPlan"
-refusal_kind (refusal.PlanGiven act) = codes "PlanGiven"
-refusal_kind (refusal.BookFull acts) = codes "BookFull"
-refusal_kind (refusal.NoSuch what id) = codes "NoSuch"
-refusal_kind (refusal.Stale newest) = codes "Stale"
-refusal_kind (refusal.Unseen newest) = codes "Unseen"
-refusal_kind (refusal.FactsRule rule) = codes "FactsRule"
-refusal_kind (refusal.DayRange first last) = codes "DayRange"
-refusal_kind (refusal.NoRent group day) = codes "NoRent"
-refusal_kind (refusal.NoLimits day) = codes "NoLimits"
-refusal_kind (refusal.NotLive target) = codes "NotLive"
-refusal_kind (refusal.WrongDay right) = codes "WrongDay"
-refusal_kind (refusal.Disorder target) = codes "Disorder"
-refusal_kind (refusal.NameTaken unit) = codes "NameTaken"
-refusal_kind (refusal.SizeMisfit unit size) = codes "SizeMisfit"
-refusal_kind (refusal.UnitTaken household day) = codes "UnitTaken"
-refusal_kind (refusal.NotNext next) = codes "NotNext"
-refusal_kind (refusal.Ineligible limit annual) = codes "Ineligible"
-refusal_kind (refusal.NoAssistance ttp gross) = codes "NoAssistance"
-refusal_kind (refusal.WrongMonth next) = codes "WrongMonth"
-refusal_kind (refusal.RentDue household target day) = codes "RentDue"
-refusal_kind (refusal.Overdue household anniversary) = codes "Overdue"
-refusal_kind (refusal.LinesFull lines more) = codes "LinesFull"
-
--- its place in the one order
-abbrev pub refusal_number : Refusal → ℕ
-refusal_number (refusal.RequestReused act) = 1
-refusal_number refusal.NoPlan = 2
-refusal_number (refusal.PlanGiven act) = 3
-refusal_number (refusal.BookFull acts) = 4
-refusal_number (refusal.NoSuch what id) = 5
-refusal_number (refusal.Stale newest) = 6
-refusal_number (refusal.Unseen newest) = 7
-refusal_number (refusal.FactsRule rule) = 8
-refusal_number (refusal.DayRange first last) = 9
-refusal_number (refusal.NoRent group day) = 10
-refusal_number (refusal.NoLimits day) = 11
-refusal_number (refusal.NotLive target) = 12
-refusal_number (refusal.WrongDay right) = 13
-refusal_number (refusal.Disorder target) = 14
-refusal_number (refusal.NameTaken unit) = 15
-refusal_number (refusal.SizeMisfit unit size) = 16
-refusal_number (refusal.UnitTaken household day) = 17
-refusal_number (refusal.NotNext next) = 18
-refusal_number (refusal.Ineligible limit annual) = 19
-refusal_number (refusal.NoAssistance ttp gross) = 20
-refusal_number (refusal.WrongMonth next) = 21
-refusal_number (refusal.RentDue household target day) = 22
-refusal_number (refusal.Overdue household anniversary) = 23
-refusal_number (refusal.LinesFull lines more) = 24
 
 -- what a number should have named
 abbrev pub named_word : Named → List ℕ
@@ -103,7 +51,7 @@ refusal_members (refusal.LinesFull lines more) = put (codes "more") (number_data
 
 -- the kind, the number and the members, in the byte order of their names
 abbrev pub cause_data : Refusal → Data
-cause_data why = object (put (codes "number") (number_data (refusal_number why)) (put (codes "kind") (string (refusal_kind why)) (refusal_members why)))
+cause_data why = object (put (codes "number") (number_data (number_of why)) (put (codes "kind") (string (name_of why)) (refusal_members why)))
 
 abbrev pub refused : Data → Data
 refused cause = object (member (codes "refused") cause no_members)

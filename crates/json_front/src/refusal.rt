@@ -4,7 +4,8 @@ ghost use Rattle.serde_json.specs.Data.{no_members, member, put as with_member};
 ghost use Rattle.json_form.specs.Written.{day_data};
 ghost use Rattle.command_forms.specs.Fields.{month_data};
 ghost use Rattle.json_front.specs.Values.{or_null};
-ghost use Rattle.json_front.specs.Refusals.{refusal_kind, refusal_number, refusal_members, named_word, cause_data, refused, refusal_data, failure_data, bad_form_data};
+ghost use Rattle.office_step.specs.Numbers.{number_of, name_of};
+ghost use Rattle.json_front.specs.Refusals.{refusal_members, named_word, cause_data, refused, refusal_data, failure_data, bad_form_data};
 
 use crate::values::{month_value, next_value, one_member};
 use days_core::{Day, Month};
@@ -26,8 +27,9 @@ fn cause_value(alloc: Global, why: &Refusal) -> Result<Value, NoMemory>
     ensures { IfOk result (λ value. view value ≡ cause_data why.now) }
 {
     let mut object = members_of(alloc, why)?;
-    put(alloc, &mut object, "kind", &kind_of(why))?;
-    put(alloc, &mut object, "number", &number_of(why))?;
+    let (number, name) = number_and_name(why);
+    put(alloc, &mut object, "kind", &name)?;
+    put(alloc, &mut object, "number", &number)?;
     Ok(Value::Object(object))
 }
 
@@ -147,64 +149,35 @@ fn named_word(what: Named) -> &'static str
     }
 }
 
-fn kind_of(why: &Refusal) -> &'static str
-    ensures { result.now ≡ refusal_kind why.now }
+/// Its place in the one order, and its name.
+fn number_and_name(why: &Refusal) -> (u32, &'static str)
+    ensures number { result.0 ≡ number_of why.now }
+    ensures name { result.1.now ≡ name_of why.now }
 {
     match why {
-        Refusal::RequestReused { .. } => "RequestReused",
-        Refusal::NoPlan => "NoPlan",
-        Refusal::PlanGiven { .. } => "PlanGiven",
-        Refusal::BookFull { .. } => "BookFull",
-        Refusal::NoSuch { .. } => "NoSuch",
-        Refusal::Stale { .. } => "Stale",
-        Refusal::Unseen { .. } => "Unseen",
-        Refusal::FactsRule { .. } => "FactsRule",
-        Refusal::DayRange { .. } => "DayRange",
-        Refusal::NoRent { .. } => "NoRent",
-        Refusal::NoLimits { .. } => "NoLimits",
-        Refusal::NotLive { .. } => "NotLive",
-        Refusal::WrongDay { .. } => "WrongDay",
-        Refusal::Disorder { .. } => "Disorder",
-        Refusal::NameTaken { .. } => "NameTaken",
-        Refusal::SizeMisfit { .. } => "SizeMisfit",
-        Refusal::UnitTaken { .. } => "UnitTaken",
-        Refusal::NotNext { .. } => "NotNext",
-        Refusal::Ineligible { .. } => "Ineligible",
-        Refusal::NoAssistance { .. } => "NoAssistance",
-        Refusal::WrongMonth { .. } => "WrongMonth",
-        Refusal::RentDue { .. } => "RentDue",
-        Refusal::Overdue { .. } => "Overdue",
-        Refusal::LinesFull { .. } => "LinesFull",
-    }
-}
-
-fn number_of(why: &Refusal) -> u32
-    ensures { result ≡ refusal_number why.now }
-{
-    match why {
-        Refusal::RequestReused { .. } => 1,
-        Refusal::NoPlan => 2,
-        Refusal::PlanGiven { .. } => 3,
-        Refusal::BookFull { .. } => 4,
-        Refusal::NoSuch { .. } => 5,
-        Refusal::Stale { .. } => 6,
-        Refusal::Unseen { .. } => 7,
-        Refusal::FactsRule { .. } => 8,
-        Refusal::DayRange { .. } => 9,
-        Refusal::NoRent { .. } => 10,
-        Refusal::NoLimits { .. } => 11,
-        Refusal::NotLive { .. } => 12,
-        Refusal::WrongDay { .. } => 13,
-        Refusal::Disorder { .. } => 14,
-        Refusal::NameTaken { .. } => 15,
-        Refusal::SizeMisfit { .. } => 16,
-        Refusal::UnitTaken { .. } => 17,
-        Refusal::NotNext { .. } => 18,
-        Refusal::Ineligible { .. } => 19,
-        Refusal::NoAssistance { .. } => 20,
-        Refusal::WrongMonth { .. } => 21,
-        Refusal::RentDue { .. } => 22,
-        Refusal::Overdue { .. } => 23,
-        Refusal::LinesFull { .. } => 24,
+        Refusal::RequestReused { .. } => (1, "RequestReused"),
+        Refusal::NoPlan => (2, "NoPlan"),
+        Refusal::PlanGiven { .. } => (3, "PlanGiven"),
+        Refusal::BookFull { .. } => (4, "BookFull"),
+        Refusal::NoSuch { .. } => (5, "NoSuch"),
+        Refusal::Stale { .. } => (6, "Stale"),
+        Refusal::Unseen { .. } => (7, "Unseen"),
+        Refusal::FactsRule { .. } => (8, "FactsRule"),
+        Refusal::DayRange { .. } => (9, "DayRange"),
+        Refusal::NoRent { .. } => (10, "NoRent"),
+        Refusal::NoLimits { .. } => (11, "NoLimits"),
+        Refusal::NotLive { .. } => (12, "NotLive"),
+        Refusal::WrongDay { .. } => (13, "WrongDay"),
+        Refusal::Disorder { .. } => (14, "Disorder"),
+        Refusal::NameTaken { .. } => (15, "NameTaken"),
+        Refusal::SizeMisfit { .. } => (16, "SizeMisfit"),
+        Refusal::UnitTaken { .. } => (17, "UnitTaken"),
+        Refusal::NotNext { .. } => (18, "NotNext"),
+        Refusal::Ineligible { .. } => (19, "Ineligible"),
+        Refusal::NoAssistance { .. } => (20, "NoAssistance"),
+        Refusal::WrongMonth { .. } => (21, "WrongMonth"),
+        Refusal::RentDue { .. } => (22, "RentDue"),
+        Refusal::Overdue { .. } => (23, "Overdue"),
+        Refusal::LinesFull { .. } => (24, "LinesFull"),
     }
 }

@@ -2,3 +2,4 @@ pub mod Counted
 pub mod Turn
 pub mod Bounds
 pub mod Accepts
+pub mod Ready

@@ -1,5 +1,5 @@
 -- What an office answers to a command, and what holds of a record that an act makes.
-use Rattle.std.specs.Prelude.{ℕ, ◌≡◌, ◌≤◌, ◌+◌, ⊤, Option, Some, None, Result, Ok, Err, length}
+use Rattle.std.specs.Prelude.{ℕ, ◌≡◌, ◌≤◌, ◌+◌, ⊤, Option, Some, None, Result, Ok, Err, length, IfSome}
 use Rattle.days_core.specs.declared.rents.Rents.{Rents}
 use Rattle.record_history.specs.declared.records.Record.{Record}
 use Rattle.record_history.specs.Records.{newest_number}
@@ -7,6 +7,10 @@ use Rattle.record_history.specs.Held.{IsWithin}
 use Rattle.book_rows.specs.declared.command.Command.{Command}
 use Rattle.book_rows.specs.declared.command.Command.TheVariants as command
 use Rattle.office_step.specs.declared.refusal.Refusal.{Refusal}
+use Rattle.facts_core.specs.Rules.{broken_rule}
+use Rattle.office_step.specs.declared.heading.Heading.{Heading}
+use Rattle.office_step.specs.Households.{AreBy}
+use Rattle.office_step.specs.Made.{Basis, from_facts}
 use Rattle.office_step.specs.Known.{Known, own_in}
 use Rattle.office_register.specs.Registered.{HasDates}
 
@@ -35,6 +39,21 @@ pub record IsPlaced (known : Known) (made : Record) : Type 0 where
 pub record HasSize (made : Record) : Type 0 where
   pub least : 1 ≤ made.size
   pub most : made.size ≤ 12
+
+abbrev pub HasSizeBy : Basis → Record → Type 0
+HasSizeBy (from_facts facts) made = HasSize made
+HasSizeBy _ made = ⊤
+
+-- the facts break no rule on the day, where there are some
+abbrev pub AreKept : Basis → ℕ → Type 0
+AreKept (from_facts facts) from = broken_rule facts from ≡ None
+AreKept _ from = ⊤
+
+-- a record can be made under the heading
+pub record IsReady (basis : Basis) (heading : Heading) : Type 0 where
+  pub from : heading.from ≤ 80353
+  pub dates : IfSome heading.dates (AreBy 80353)
+  pub facts : AreKept basis heading.from
 
 -- a closing is of that month or an earlier one
 abbrev pub ClosesBy : ℕ → Command → Type 0

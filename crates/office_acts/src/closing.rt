@@ -2,17 +2,17 @@
 
 ghost use Rattle.std.specs.Prelude.{◌<◌, ◌^◌, length, ◌≡◌, ◌≤◌, ◌+◌, [], None, option_and_then, IfSome, IfOk, IsOk};
 ghost use Rattle.std.specs.Option.{option_map, option_map_or};
-ghost use Rattle.office_step.specs.Refusals as refusals;
-ghost use Rattle.office_step.specs.Refusals.{first_of, next_to_close};
 ghost use Rattle.office_step.specs.Made.{last_close, lines_of_close, lines_of};
-ghost use Rattle.office_step.specs.Step.{of_close, rent_due_in};
-ghost use Rattle.office_acts.specs.Judged.{judged_by, ClosesBy};
+ghost use Rattle.office_step.specs.Against.{next_month, wrong_month, rent_due, overdue};
+ghost use Rattle.office_acts.specs.Judged.{ClosesBy};
 
 use crate::lookups::plan_day;
 use book_rows::{CloseAct, Command};
 use days_core::{Day, Month, last_of};
+use office_refusals as refusals;
+use office_refusals::next_to_close;
 use office_register::Register;
-use office_step::{Closed, Refusal, next_to_close, overdue, rent_due, wrong_month};
+use office_step::{Closed, Refusal};
 use plain_data::NoMemory;
 use record_history::{Dates, Record};
 use rent_table::Plan;
@@ -20,33 +20,19 @@ use std::alloc::Global;
 use voucher_core::{Line, close_lines};
 use wait_list::Candidate;
 
-pub fn judge_close(register: &Register, close: &CloseAct) -> Result<Option<Record>, Refusal>
-    ensures judged { result ≡ judged_by (first_of (of_close register.now.known close.now)) None }
-    ensures month { IsOk result → close.now.month ≤ 2639 }
+/// Refused where it isn't the next month to close.
+pub fn wrong_month(register: &Register, asked: &Command) -> Option<Refusal>
+    ensures value { result ≡ wrong_month register.now.known asked.now }
+    ensures by { result ≡ None → ClosesBy 2639 asked.now }
 {
-    if let Some(refusal) = wrong_month_in(register, close.month) {
-        return Err(refusal);
+    match asked {
+        Command::Close(close) => refusals::wrong_month(next_month(register), close.month),
+        _ => None,
     }
-    if let Some(refusal) = rent_due_in(register, close) {
-        return Err(refusal);
-    }
-    if let Some(refusal) = overdue(register.history(), close.month) {
-        return Err(refusal);
-    }
-    Ok(None)
 }
 
-/// Refused where the month isn't the next to close.
-fn wrong_month_in(register: &Register, month: Month) -> Option<Refusal>
-    ensures value { result ≡ refusals.wrong_month (option_and_then (λ plan. next_to_close plan.first (option_map (λ closing. closing.month) register.now.known.closing)) register.now.known.plan) month }
-    ensures by { result ≡ None → month ≤ 2639 }
-{
-    wrong_month(next_month(register), month)
-}
-
-/// The next month to close.
 fn next_month(register: &Register) -> Option<Month>
-    ensures value { result ≡ option_and_then (λ plan. next_to_close plan.first (option_map (λ closing. closing.month) register.now.known.closing)) register.now.known.plan }
+    ensures value { result ≡ next_month register.now.known }
     ensures by { IfSome result (λ month. month ≤ 2639) }
 {
     let plan = register.plan()?;
@@ -62,12 +48,27 @@ fn last_month(register: &Register) -> Option<Month>
 }
 
 /// Refused where the rents of a household are due.
-fn rent_due_in(register: &Register, close: &CloseAct) -> Option<Refusal>
-    ensures { result ≡ rent_due_in register.now.known close.now }
+pub fn rent_due(register: &Register, asked: &Command) -> Option<Refusal>
+    ensures { result ≡ rent_due register.now.known asked.now }
 {
-    let first = plan_day(register);
-    let last = last_of(close.month);
-    rent_due(register.history(), register.table(), first, last)
+    match asked {
+        Command::Close(close) => {
+            let (first, last) = (plan_day(register), last_of(close.month));
+            refusals::rent_due(register.history(), register.table(), first, last)
+        }
+        _ => None,
+    }
+}
+
+/// Refused where a household should have been certified anew.
+pub fn overdue(register: &Register, asked: &Command) -> Option<Refusal>
+    requires { ClosesBy 2639 asked.now }
+    ensures { result ≡ overdue register.now.known asked.now }
+{
+    match asked {
+        Command::Close(close) => refusals::overdue(register.history(), close.month),
+        _ => None,
+    }
 }
 
 /// The lines that the next act makes. Only a closing makes some.
@@ -78,24 +79,7 @@ pub fn lines_of(alloc: Global, register: &Register, asked: &Command) -> Result<V
 {
     match asked {
         Command::Close(close) => lines_of_close(alloc, register, close),
-        Command::Plan(_)
-        | Command::Unit(_)
-        | Command::Rents(_)
-        | Command::Limits(_)
-        | Command::Apply(_)
-        | Command::Remove(_)
-        | Command::Start(_)
-        | Command::Admit(_)
-        | Command::Annual(_)
-        | Command::Interim(_)
-        | Command::Resume(_)
-        | Command::Gross(_)
-        | Command::Correct(_)
-        | Command::AskTransfer(_)
-        | Command::Transfer(_)
-        | Command::MoveOut(_)
-        | Command::Terminate(_)
-        | Command::Withdraw(_) => Ok(Vec::new(alloc)),
+        _ => Ok(Vec::new(alloc)),
     }
 }
 

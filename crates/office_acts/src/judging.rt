@@ -1,25 +1,33 @@
-ghost use Rattle.std.specs.Prelude.{◌≡◌, ◌≤◌, true, None, IfSome, IfOk, IsOk};
+ghost use Rattle.std.specs.Prelude.{◌≡◌, ◌≤◌, true, IfSome, IfOk, IsOk};
 ghost use Rattle.record_history.specs.Held.{IsWithin};
 ghost use Rattle.book_rows.specs.Fit.{is_fit};
 ghost use Rattle.office_register.specs.Registered.{HasDates};
 ghost use Rattle.office_register.specs.Accepted.{IsAccepted};
-ghost use Rattle.office_step.specs.Refusals.{first_of};
 ghost use Rattle.office_step.specs.Made.{record_of};
-ghost use Rattle.office_step.specs.Step.{is_plan, refused_by, refusals_of};
+ghost use Rattle.office_step.specs.Against.{refused_by};
 ghost use Rattle.office_acts.specs.Judged.{judged_by, IsMade, IsPlaced, ClosesBy};
 
-use crate::certifications::{judge_annual, judge_gross, judge_interim, judge_resume};
-use crate::closing::judge_close;
-use crate::corrections::judge_correct;
-use crate::entries::{judge_admit, judge_start};
-use crate::moves::{judge_move_out, judge_terminate, judge_transfer, judge_withdraw};
-use crate::property::{judge_ask_transfer, judge_from, judge_remove, judge_unit};
+use crate::admission::{ineligible, no_assistance, not_next};
+use crate::closing::{overdue, rent_due, wrong_month};
+use crate::making::{heading_of, record_of};
+use crate::names::{book_full, no_plan, no_such, plan_given, stale, unseen};
+use crate::places::{disorder, name_taken, size_misfit, unit_taken};
+use crate::terms::{day_range, facts_rule, no_limits, no_rent, not_live, wrong_day};
 use book_rows::Command;
 use days_core::{Day, Month};
 use office_register::Register;
-use office_step::{Refusal, book_full, no_plan, plan_given};
+use office_step::Refusal;
 use record_history::{Dates, Record};
 use wait_list::Candidate;
+
+/// The command is refused, if the test stands.
+macro_rules! refused {
+    ($test:expr) => {
+        if let Some(refusal) = $test {
+            return Err(refusal);
+        }
+    };
+}
 
 /// What the office does with the command on the day, where the book may hold so many acts: it refuses, or else makes a
 /// record or none. Days up to 2099-12-31.
@@ -42,6 +50,7 @@ pub fn judge(
     judge_any(register, most, today, asked)
 }
 
+/// The refusals in their one order.
 fn judge_any(
     register: &Register,
     most: u32,
@@ -53,51 +62,29 @@ fn judge_any(
     ensures made { IfOk result (λ made. IfSome made (IsMade register.now.known)) }
     ensures month { IsOk result → ClosesBy 2639 asked.now }
 {
-    let given = register.plan_act();
-    let is_plan = is_plan(asked);
-    if let Some(refusal) = no_plan(given, is_plan) {
-        return Err(refusal);
-    }
-    if let Some(refusal) = plan_given(given, is_plan) {
-        return Err(refusal);
-    }
-    if let Some(refusal) = book_full(register.count(), most) {
-        return Err(refusal);
-    }
-    judge_act(register, today, asked)
-}
-
-fn is_plan(asked: &Command) -> bool
-    ensures { result ≡ is_plan asked.now }
-{
-    matches!(asked, Command::Plan(_))
-}
-
-/// The same where nothing stands against every act.
-fn judge_act(register: &Register, today: Day, asked: &Command) -> Result<Option<Record>, Refusal>
-    requires { today ≤ 80353 }
-    ensures judged { result ≡ judged_by (first_of (refusals_of register.now.known today asked.now)) (record_of register.now.known asked.now) }
-    ensures made { IfOk result (λ made. IfSome made (IsMade register.now.known)) }
-    ensures month { IsOk result → ClosesBy 2639 asked.now }
-{
-    match asked {
-        Command::Plan(_) | Command::Apply(_) => Ok(None),
-        Command::Unit(unit) => judge_unit(register, unit),
-        Command::Rents(rents) => judge_from(rents.from),
-        Command::Limits(limits) => judge_from(limits.from),
-        Command::Remove(remove) => judge_remove(register, remove),
-        Command::Start(start) => judge_start(register, start),
-        Command::Admit(admit) => judge_admit(register, admit),
-        Command::Annual(annual) => judge_annual(register, annual),
-        Command::Interim(interim) => judge_interim(register, today, interim),
-        Command::Resume(resume) => judge_resume(register, today, resume),
-        Command::Gross(gross) => judge_gross(register, gross),
-        Command::Correct(correct) => judge_correct(register, correct),
-        Command::AskTransfer(ask) => judge_ask_transfer(register, ask),
-        Command::Transfer(transfer) => judge_transfer(register, transfer),
-        Command::MoveOut(move_out) => judge_move_out(register, move_out),
-        Command::Terminate(terminate) => judge_terminate(register, terminate),
-        Command::Withdraw(withdraw) => judge_withdraw(register, withdraw),
-        Command::Close(close) => judge_close(register, close),
-    }
+    refused!(no_plan(register, asked));
+    refused!(plan_given(register, asked));
+    refused!(book_full(register, most));
+    refused!(no_such(register, asked));
+    refused!(stale(register, asked));
+    refused!(unseen(register, asked));
+    refused!(facts_rule(asked));
+    refused!(day_range(register, today, asked));
+    let heading = heading_of(register, today, asked);
+    refused!(no_rent(register, asked, &heading));
+    refused!(no_limits(register, asked, &heading));
+    refused!(not_live(register, asked));
+    let made = record_of(register, asked, &heading);
+    refused!(wrong_day(register, today, asked, &made));
+    refused!(disorder(register, asked, &made));
+    refused!(name_taken(register, asked));
+    refused!(size_misfit(register, asked, &made));
+    refused!(unit_taken(register, asked, &made));
+    refused!(not_next(register, asked));
+    refused!(ineligible(register, asked, &made));
+    refused!(no_assistance(register, asked, &made));
+    refused!(wrong_month(register, asked));
+    refused!(rent_due(register, asked));
+    refused!(overdue(register, asked));
+    Ok(made)
 }

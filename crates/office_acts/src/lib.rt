@@ -1,20 +1,29 @@
 //! What an office does with a command, by what its register knows.
 #![tactic(auto)]
 
+/// Leaves with the refusal, if it stands.
+macro_rules! stands {
+    ($test:expr) => {
+        if let Some(refusal) = $test {
+            return Some(refusal);
+        }
+    };
+}
+
+mod admission;
 mod admissions;
-mod certifications;
 mod closing;
-mod corrections;
-mod entries;
 mod headings;
 mod judging;
 mod lookups;
+mod making;
 mod movers;
-mod moves;
+mod moving;
+mod names;
 mod next;
-mod property;
+mod places;
 mod records;
-mod standing;
+mod terms;
 
 pub use admissions::targets;
 pub use closing::lines_of;

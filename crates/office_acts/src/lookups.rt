@@ -6,11 +6,11 @@ ghost use Rattle.record_history.specs.Held.{IsWithin};
 ghost use Rattle.office_register.specs.Registered.{HasDates};
 ghost use Rattle.office_step.specs.Households.{record_at, unit_continued};
 ghost use Rattle.office_step.specs.Known.{own_in};
-ghost use Rattle.office_step.specs.Step.{plan_day};
+ghost use Rattle.office_step.specs.Against.{plan_day};
 
 use days_core::{Day, first_of};
+use office_refusals::continued;
 use office_register::Register;
-use office_step::continued;
 use record_history::{Dates, Record};
 use rent_table::{Plan, RentTable, Unit};
 

@@ -13,8 +13,9 @@ ghost use Rattle.office_acts.specs.Judged.{AreWithin, IsMade, HasSize};
 use certified_figures::{Figures, figures_carried, figures_of_facts, no_figures};
 use days_core::{Day, Rents};
 use facts_core::Facts;
+use office_refusals::{continued, entry, rents_in_unit, told_extremely_low};
 use office_register::Register;
-use office_step::{Heading, continued, entry, rents_in_unit, told_extremely_low};
+use office_step::Heading;
 use record_history::{Dates, History, Kind, Record};
 use rent_table::{LimitRow, Plan, RentTable};
 

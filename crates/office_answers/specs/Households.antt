@@ -8,7 +8,7 @@ use Rattle.office_step.specs.declared.refusal.Refusal.TheVariants as refusal
 use Rattle.office_step.specs.Acts.{at_number}
 use Rattle.office_step.specs.Known.{Known, own_in}
 use Rattle.office_step.specs.Households.{record_at}
-use Rattle.office_step.specs.Step.{no_household_in}
+use Rattle.office_step.specs.Against.{no_household}
 use Rattle.office_answers.specs.declared.answer.Answer.{Answer}
 use Rattle.office_answers.specs.declared.answer.Answer.TheVariants as answer
 use Rattle.office_answers.specs.declared.answer.HouseholdSummary.{HouseholdSummary}
@@ -32,9 +32,9 @@ summary_of known household = record {
 
 -- the summary of a household that there is
 abbrev pub household_answer : Known → ℕ → Result Answer Refusal
-household_answer known household = unless (no_household_in known household) (Ok (answer.Household (summary_of known household)))
+household_answer known household = unless (no_household known household) (Ok (answer.Household (summary_of known household)))
 
 -- a record of a household that there is, whether or not it counts
 abbrev pub record_answer : Known → ℕ → ℕ → Result Answer Refusal
 record_answer known household number =
-    unless (no_household_in known household) (answered answer.Record (record_at (own_in known household) number) (refusal.NoSuch named.Record number))
+    unless (no_household known household) (answered answer.Record (record_at (own_in known household) number) (refusal.NoSuch named.Record number))

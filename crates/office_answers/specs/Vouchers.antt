@@ -6,7 +6,7 @@ use Rattle.voucher_core.specs.Lines.{total, paid}
 use Rattle.office_step.specs.declared.known.Closed.{Closed}
 use Rattle.office_step.specs.declared.refusal.Refusal.{Refusal}
 use Rattle.office_step.specs.Known.{Known}
-use Rattle.office_step.specs.Step.{no_household_in}
+use Rattle.office_step.specs.Against.{no_household}
 use Rattle.office_answers.specs.declared.answer.Answer.{Answer}
 use Rattle.office_answers.specs.declared.answer.Answer.TheVariants as answer
 use Rattle.office_answers.specs.declared.answer.Voucher.{Voucher}
@@ -44,4 +44,4 @@ voucher_answer known lines month =
 
 -- what all lines pay a household that there is for the month
 abbrev pub paid_answer : Known → List Line → ℕ → ℕ → Result Answer Refusal
-paid_answer known lines household month = unless (no_household_in known household) (Ok (answer.Paid (paid household month lines)))
+paid_answer known lines household month = unless (no_household known household) (Ok (answer.Paid (paid household month lines)))

@@ -6,7 +6,8 @@ ghost use Rattle.office_answers.specs.Households.{name_in, live_numbers, summary
 
 use crate::{Answer, Asked, HouseholdSummary};
 use office_register::Register;
-use office_step::{Named, Refusal, no_household};
+use office_refusals::no_household;
+use office_step::{Named, Refusal};
 use plain_data::{Listed, NoMemory, Text};
 use record_history::{Dates, Record, is_live};
 use std::alloc::Global;

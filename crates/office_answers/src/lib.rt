@@ -15,3 +15,4 @@ pub use answer::{Admissions, Answer, Asked, DueDay, HouseholdSummary, Voucher};
 pub use answering::answer_to;
 pub use question::Question;
 pub use reply::Reply;
+

@@ -1,5 +1,5 @@
 -- What the office does with a call, by what was found of it.
-use Rattle.std.proofs.Common.{◌≡◌, ◌∙◌, ℕ, ◌+◌, List, [], ◌∷◌, length, Option, Some, None, Ok, Err, ap, sym, subst, refl}
+use Rattle.std.proofs.Common.{◌≡◌, ◌∙◌, ℕ, ◌+◌, List, [], ◌∷◌, ◌++◌, length, Option, Some, None, Ok, Err, ap, sym, subst, refl}
 use Rattle.std.specs.Prelude.{true, false, find, bytes_eq}
 use Rattle.record_history.specs.declared.records.Record.{Record}
 use Rattle.voucher_core.specs.declared.line.Line.{Line}
@@ -17,7 +17,9 @@ use Rattle.office_step.specs.Known.{Known, known_of}
 use Rattle.office_step.specs.Made.{record_of, lines_of}
 use Rattle.office_step.specs.Refusals.{first_of, is_request_of, repeated, request_reused, lines_full}
 use Rattle.office_step.specs.Reply.{done_of}
-use Rattle.office_step.specs.Step.{again, refused, appends, unless_repeated, unless_refused, refusal_of, step, act_day, refused_by, rows_for, is_fit_call, IsAppended, IsReached}
+use Rattle.office_step.specs.Step.{again, refused, appends, unless_repeated, unless_refused, refusal_of, step, act_day, rows_for, is_fit_call, IsAppended, IsReached}
+use Rattle.office_step.specs.Against.{tests_of, refused_by}
+use Rattle.office_step.proofs.Passed.{first_of-around}
 use Rattle.office_laws.specs.AtHand.{RepeatedRequests, ReusedRequests}
 use Rattle.office_acts.specs.Judged.{judged_by}
 use Rattle.office_core.specs.Office.{Holding}
@@ -50,12 +52,14 @@ pub record IsNew (book : Book) (call : Call) : Type 0 where
   pub once : repeated book.acts call.clerk call.request (body_of call.command) ≡ None
   pub unused : request_reused book.acts call.clerk call.request (body_of call.command) ≡ None
 
--- of two tried before the last, the first doesn't stand
-second_stands : (x y z : Option Refusal) (r : Refusal) → x ≡ None → y ≡ Some r → first_of (first_of (x ∷ y ∷ []) ∷ z ∷ []) ≡ Some r
-second_stands x y z r e f = rw (e, f) refl
+-- of those before the last, the first that stands
+second_stands : (x : Option Refusal) (tests : List (Option Refusal)) (z : Option Refusal) (r : Refusal) → x ≡ None → first_of tests ≡ Some r →
+    first_of (x ∷ (tests ++ z ∷ [])) ≡ Some r
+second_stands x tests z r e f = first_of-around x tests z ∙ rw (e, f) refl
 
-last_is : (x y z : Option Refusal) → x ≡ None → y ≡ None → first_of (first_of (x ∷ y ∷ []) ∷ z ∷ []) ≡ first_of (z ∷ [])
-last_is x y z e f = rw (e, f) refl
+last_is : (x : Option Refusal) (tests : List (Option Refusal)) (z : Option Refusal) → x ≡ None → first_of tests ≡ None →
+    first_of (x ∷ (tests ++ z ∷ [])) ≡ first_of (z ∷ [])
+last_is x tests z e f = first_of-around x tests z ∙ rw (e, f) refl
 
 alone : (z found : Option Refusal) → z ≡ found → first_of (z ∷ []) ≡ found
 alone z None e = rw e refl
@@ -91,14 +95,14 @@ module _ (book : Book) (capacity : Capacity) (session clock day : ℕ) (call : C
       outcome_refused book (repeated book.acts call.clerk call.request (body_of call.command)) (refusal_of book capacity (act_day book.acts clock) call)
       (rows_for book session (act_day book.acts clock) call) r is_new.once
       (second_stands (request_reused book.acts call.clerk call.request (body_of call.command))
-      (refused_by (known_of book) capacity.acts (act_day book.acts clock) call.command)
+      (tests_of (known_of book) capacity.acts (act_day book.acts clock) call.command)
       (lines_full (length book.lines) (length (lines_of (known_of book) call.command)) capacity.lines) r is_new.unused (by_book (Some r) stands))
 
   tried_last : (lines : List Line) (found : Option Refusal) → refused_by known capacity.acts day call.command ≡ None → lines ≡ lines_of known call.command →
       lines_full (length book.lines) (length lines) capacity.lines ≡ found → refusal_of book capacity (act_day book.acts clock) call ≡ found
   tried_last lines found free made stands =
       last_is (request_reused book.acts call.clerk call.request (body_of call.command))
-      (refused_by (known_of book) capacity.acts (act_day book.acts clock) call.command)
+      (tests_of (known_of book) capacity.acts (act_day book.acts clock) call.command)
       (lines_full (length book.lines) (length (lines_of (known_of book) call.command)) capacity.lines) is_new.unused (by_book None free)
       ∙ alone (lines_full (length book.lines) (length (lines_of (known_of book) call.command)) capacity.lines) found (room_by_book lines found made stands)
 

@@ -11,7 +11,8 @@ use Rattle.office_step.specs.Acts.{name_given}
 use Rattle.office_step.specs.Known.{Known, known_of}
 use Rattle.office_step.specs.Made.{record_of, lines_of}
 use Rattle.office_step.specs.Refusals.{is_request_of, lines_full}
-use Rattle.office_step.specs.Step.{refused, appends, step, last_act_day, day_after, act_day, refused_by, rows_for, is_fit_call, IsReached}
+use Rattle.office_step.specs.Step.{refused, appends, step, last_act_day, day_after, act_day, rows_for, is_fit_call, IsReached}
+use Rattle.office_step.specs.Against.{refused_by}
 use Rattle.office_laws.specs.AtHand.{NewRequests, NextDayStays}
 use Rattle.office_acts.specs.Judged.{judged_by}
 use Rattle.office_core.specs.Office.{Holding}

@@ -56,22 +56,7 @@ impl Office {
             Command::Unit(_) => Made::Unit(self.register.units() + 1),
             Command::Apply(_) => Made::Applicant(self.register.applications().len() as u32 + 1),
             Command::Close(close) => closed(self.lines_planned(step), close.month),
-            Command::Plan(_)
-            | Command::Rents(_)
-            | Command::Limits(_)
-            | Command::Remove(_)
-            | Command::Start(_)
-            | Command::Admit(_)
-            | Command::Annual(_)
-            | Command::Interim(_)
-            | Command::Resume(_)
-            | Command::Gross(_)
-            | Command::Correct(_)
-            | Command::AskTransfer(_)
-            | Command::Transfer(_)
-            | Command::MoveOut(_)
-            | Command::Terminate(_)
-            | Command::Withdraw(_) => certified_by(step.batch.made.as_ref()),
+            _ => certified_by(step.batch.made.as_ref()),
         }
     }
 

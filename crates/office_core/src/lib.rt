@@ -17,3 +17,4 @@ pub use office_answers::{
 };
 pub use office_step::{Application, Call, Capacity, Closed, Done, Fault, Made, Named, Refusal};
 pub use opening::OpenFault;
+

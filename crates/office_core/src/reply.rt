@@ -11,7 +11,8 @@ use days_core::Month;
 use office_laws::{
     applicant_replies, books_are_kept, requests_are_once, unit_replies, within_room,
 };
-use office_step::{Application, Call, Done, Made, Refusal, certified};
+use office_refusals::certified;
+use office_step::{Application, Call, Done, Made, Refusal};
 use plain_data::Text;
 use record_history::{Dates, Record};
 use voucher_core::{Line, total};
@@ -72,22 +73,7 @@ impl Office {
             Command::Unit(unit) => Made::Unit(self.units_up_to(row, unit)),
             Command::Apply(_) => Made::Applicant(self.applicants_up_to(row.n)),
             Command::Close(close) => closed(self.lines_of(row.n), close.month),
-            Command::Plan(_)
-            | Command::Rents(_)
-            | Command::Limits(_)
-            | Command::Remove(_)
-            | Command::Start(_)
-            | Command::Admit(_)
-            | Command::Annual(_)
-            | Command::Interim(_)
-            | Command::Resume(_)
-            | Command::Gross(_)
-            | Command::Correct(_)
-            | Command::AskTransfer(_)
-            | Command::Transfer(_)
-            | Command::MoveOut(_)
-            | Command::Terminate(_)
-            | Command::Withdraw(_) => certified_by(self.record_of(row.n)),
+            _ => certified_by(self.record_of(row.n)),
         }
     }
 

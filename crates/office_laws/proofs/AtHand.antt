@@ -6,7 +6,8 @@ use Rattle.office_step.specs.Made.{record_of}
 use Rattle.office_laws.specs.Kept.{IsOneOf}
 use Rattle.office_laws.specs.AtHand.{LastDayIsLived, NextDayIsLived, NextDayStays, NextRecords, ActsAreWithinRoom, LinesAreWithinRoom}
 use Rattle.office_laws.proofs.Rows.{last_within}
-use Rattle.office_laws.proofs.Heading.{made_within, own_free}
+use Rattle.office_step.proofs.Passed.{passed}
+use Rattle.office_laws.proofs.Heading.{made_within}
 use Rattle.office_laws.proofs.Reached.{books_are_kept}
 
 -- ---- days
@@ -27,7 +28,7 @@ at_most_one None = omega arith
 at_most_one (Some x) = omega arith
 
 pub next_records : NextRecords
-next_records known most today asked allowed = by_made (record_of known asked) (λ r is. made_within known today asked r (own_free known most today asked allowed) is)
+next_records known most today asked allowed = by_made (record_of known asked) (λ r is. made_within known asked r (passed known most today asked allowed).no_such is)
   where
     by_made : (made : Option Record) →
         ((r : Record) → made ≡ Some r → IsOneOf (length known.households + length (option_to_list (name_given known.applications asked))) r.household) →

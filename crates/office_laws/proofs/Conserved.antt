@@ -25,13 +25,15 @@ use Rattle.office_step.specs.Acts.{plan_in, month_in}
 use Rattle.office_step.specs.Known.{Known, known_of, own_in}
 use Rattle.office_step.specs.Made.{record_of, last_close, lines_of}
 use Rattle.office_step.specs.After.{known_after, households_after}
-use Rattle.office_step.specs.Refusals.{first_of, month_after, next_to_close, wrong_month}
-use Rattle.office_step.specs.Step.{is_plan, of_close, refusals_of, IsReached, reached_empty, reached_more}
+use Rattle.office_step.specs.Refusals as test
+use Rattle.office_step.specs.Refusals.{month_after, next_to_close}
+use Rattle.office_step.specs.Against.{is_plan, no_such, wrong_month}
+use Rattle.office_step.proofs.Passed.{Passed}
+use Rattle.office_step.specs.Step.{IsReached, reached_empty, reached_more}
 use Rattle.office_laws.specs.Accepted.{Accepted}
 use Rattle.office_laws.specs.Kept.{IsOneOf}
 use Rattle.office_laws.specs.Conserved.{AreSettled, LinesAreSettled, due_for, LinesTotalWhatIsDue}
-use Rattle.office_laws.proofs.Inversion.{none_at, accepted}
-use Rattle.office_laws.proofs.Heading.{own_free}
+use Rattle.office_laws.proofs.Inversion.{accepted, passes}
 use Rattle.office_laws.proofs.Planned.{plan_there}
 use Rattle.office_laws.proofs.Makes.{record_names_act}
 use Rattle.office_laws.proofs.Known.{known_after_each}
@@ -67,23 +69,23 @@ abbrev pub more_of : Option Record → ℕ → List Record
 more_of None household = []
 more_of (Some r) household = if household == r.household then r ∷ [] else []
 
-pub own_more : (known : Known) (today : ℕ) (asked : Command) → first_of (refusals_of known today asked) ≡ None → (made : Option Record) →
+pub own_more : (known : Known) (asked : Command) → no_such known asked ≡ None → (made : Option Record) →
     record_of known asked ≡ made → (household : ℕ) → own_in known household ++ more_of made household ≡ records_of (households_after known asked made) household
-own_more known today asked free None is household =
+own_more known asked named None is household =
     append-nil (own_in known household) ∙ sym (own_after_none known asked household)
-own_more known today asked free (Some r) is household = by_household (cases_eq household r.household)
+own_more known asked named (Some r) is household = by_household (cases_eq household r.household)
   where
     by_household : (household ≡ r.household) ⊎ (household ≡ r.household → ⊥) →
         own_in known household ++ more_of (Some r) household ≡ records_of (households_after known asked (Some r)) household
     by_household (inl same) =
         ap (λ (is : Bool). own_in known household ++ (if is then r ∷ [] else [])) (eq-eqb household r.household same)
         ∙ ap (λ (own : ℕ). own_in known own ++ r ∷ []) same
-        ∙ sym (own_after_made known asked r (made_held known today asked r free is))
+        ∙ sym (own_after_made known asked r (made_held known asked r named is))
         ∙ ap (records_of (households_after known asked (Some r))) (sym same)
     by_household (inr other) =
         ap (λ (is : Bool). own_in known household ++ (if is then r ∷ [] else [])) (ne_eqb household r.household other)
         ∙ append-nil (own_in known household)
-        ∙ sym (own_after_other known asked r household (made_held known today asked r free is) other)
+        ∙ sym (own_after_other known asked r household (made_held known asked r named is) other)
 
 pub later_than : (known : Known) (asked : Command) (act : ℕ) → act ≤ known.count → (made : Option Record) → record_of known asked ≡ made →
     (household : ℕ) → All (λ r. act < r.act) (more_of made household)
@@ -94,7 +96,7 @@ later_than known asked act by (Some r) is household = by_test (household == r.ho
     by_test false = All-nil (λ r. act < r.act)
     by_test true = All-cons (λ r. act < r.act) r [] (let last = record_names_act known asked r is in omega arith) (All-nil (λ r. act < r.act))
 
-module _ (known : Known) (today : ℕ) (asked : Command) (free : first_of (refusals_of known today asked) ≡ None) (made : Option Record)
+module _ (known : Known) (asked : Command) (named : no_such known asked ≡ None) (made : Option Record)
     (is : record_of known asked ≡ made) (lines : List Line) where
   -- what is settled stays so
   quiet : (given plan : Option Plan) (closing : Option Closed) → IfSome closing (λ closing. IsOneOf known.count closing.act) →
@@ -106,14 +108,14 @@ module _ (known : Known) (today : ℕ) (asked : Command) (free : first_of (refus
     settled.0,
     subst (λ (all : List Line). IsSettled (records_of (households_after known asked made)) plan.first (closing.month + 1) closing.act all) (sym (append-nil lines))
         (subst (λ (own : ℕ → List Record). IsSettled own plan.first (closing.month + 1) closing.act lines)
-        (λ i household. own_more known today asked free made is household i)
+        (λ i household. own_more known asked named made is household i)
         (settled_stays (own_in known) (more_of made) lines plan.first (closing.month + 1) closing.act
         (λ household. later_than known asked closing.act there.most made is household) settled.1)),
   )
 
 -- ---- a closing
 
-next_month : (next : Option ℕ) (month : ℕ) → wrong_month next month ≡ None → next ≡ Some month
+next_month : (next : Option ℕ) (month : ℕ) → test.wrong_month next month ≡ None → next ≡ Some month
 next_month None month none = absurd (cc)
 next_month (Some next) month none = ap (λ (m : ℕ). Some m) (eqb-true next month (passes (next == month) none))
   where
@@ -130,7 +132,7 @@ month_next closed month is = by_test (nat_lt closed 2639) is
 
 close_settles : (own : ℕ → List Record) (count : ℕ) → ((household : ℕ) → count < household → own household ≡ []) →
     (plan : Plan) (closing : Option Closed) (acts : ℕ) → IfSome closing (λ closing. IsOneOf acts closing.act) → (month act : ℕ) (lines : List Line) →
-    wrong_month (next_to_close plan.first (option_map (λ closing. closing.month) closing)) month ≡ None →
+    test.wrong_month (next_to_close plan.first (option_map (λ closing. closing.month) closing)) month ≡ None →
     AreSettled (Some plan) closing own lines →
     (plan.first ≤ month)
     × IsSettled own plan.first (month + 1) act (lines ++ placed 1 (closing_lines own count month plan.first (option_map_or (λ closing. closing.act) closing 0) act))
@@ -157,11 +159,11 @@ none_past known household past =
     ap (λ (is_zero : Bool). if is_zero then [] else get_or known.households (household - 1) []) (ne_eqb household 0 (λ zero. absurd (omega arith)))
     ∙ get_or_past known.households (household - 1) [] (omega arith)
 
-closed_more : (known : Known) (today : ℕ) (close : CloseAct) → (plan : Plan) × (known.plan ≡ Some plan) →
-    first_of (refusals_of known today (command.Close close)) ≡ None → (lines : List Line) → IsThere known → AreSettled known.plan known.closing (own_in known) lines →
+closed_more : (known : Known) (close : CloseAct) → (plan : Plan) × (known.plan ≡ Some plan) →
+    wrong_month known (command.Close close) ≡ None → (lines : List Line) → IsThere known → AreSettled known.plan known.closing (own_in known) lines →
     AreSettled (option_or known.plan None) (Some (record { act = known.count + 1; month = close.month }))
     (records_of (households_after known (command.Close close) None)) (lines ++ lines_of known (command.Close close))
-closed_more known today close (plan, has) free lines there settled =
+closed_more known close (plan, has) right lines there settled =
     subst (λ (found : Option Plan).
     AreSettled (option_or found None) (Some (record { act = known.count + 1; month = close.month }))
     (records_of (households_after known (command.Close close) None))
@@ -173,21 +175,21 @@ closed_more known today close (plan, has) free lines there settled =
     (lines ++ placed 1 (closing_lines (own_in known) (length known.households) close.month plan.first (last_close known) (known.count + 1))))
     (λ i household. sym (own_after_none known (command.Close close) household) i)
     (close_settles (own_in known) (length known.households) (none_past known) plan known.closing known.count there close.month (known.count + 1) lines
-    (subst (λ (found : Option Plan). wrong_month (option_and_then (λ (plan : Plan). next_to_close plan.first (option_map (λ (closing : Closed). closing.month) known.closing)) found) close.month ≡ None) has
-    (none_at (of_close known close) 0 free))
+    (subst (λ (found : Option Plan). test.wrong_month (option_and_then (λ (plan : Plan). next_to_close plan.first (option_map (λ (closing : Closed). closing.month) known.closing)) found) close.month ≡ None) has
+    right)
     (subst (λ (found : Option Plan). AreSettled found known.closing (own_in known) lines) has settled)))
 
-settled_more : (known : Known) (today : ℕ) (asked : Command) → (is_plan asked ≡ false → (plan : Plan) × (known.plan ≡ Some plan)) →
-    first_of (refusals_of known today asked) ≡ None → (made : Option Record) → record_of known asked ≡ made → (lines : List Line) →
+settled_more : (known : Known) (most today : ℕ) (asked : Command) → (is_plan asked ≡ false → (plan : Plan) × (known.plan ≡ Some plan)) →
+    Passed known most today asked → (made : Option Record) → record_of known asked ≡ made → (lines : List Line) →
     IsThere known → AreSettled known.plan known.closing (own_in known) lines →
     AreSettled (known_after known asked made).plan (known_after known asked made).closing (own_in (known_after known asked made)) (lines ++ lines_of known asked)
-settled_more known today (command.Close close) planned free made is lines there settled =
+settled_more known most today (command.Close close) planned free made is lines there settled =
     subst (λ (made : Option Record).
     AreSettled (known_after known (command.Close close) made).plan (known_after known (command.Close close) made).closing
     (own_in (known_after known (command.Close close) made)) (lines ++ lines_of known (command.Close close))) is
-    (closed_more known today close (planned refl) free lines there settled)
-settled_more known today asked planned free made is lines there settled =
-    quiet known today asked free made is lines (plan_in asked) known.plan known.closing there settled
+    (closed_more known close (planned refl) free.wrong_month lines there settled)
+settled_more known most today asked planned free made is lines there settled =
+    quiet known asked free.no_such made is lines (plan_in asked) known.plan known.closing there settled
 
 pub lines_are_settled : LinesAreSettled
 lines_are_settled capacity _ reached_empty = refl
@@ -197,8 +199,8 @@ lines_are_settled capacity _ (reached_more {book} {rows} reached appends) =
     (subst (λ (lines : List Line).
     AreSettled (known_after (known_of book) appends.call.command rows.made).plan (known_after (known_of book) appends.call.command rows.made).closing
     (own_in (known_after (known_of book) appends.call.command rows.made)) (book.lines ++ lines)) (sym is.lines)
-    (settled_more (known_of book) rows.act.day appends.call.command (plan_there capacity book rows reached appends)
-    (own_free (known_of book) capacity.acts rows.act.day appends.call.command is.is_allowed) rows.made (sym is.made) book.lines
+    (settled_more (known_of book) capacity.acts rows.act.day appends.call.command (plan_there capacity book rows reached appends)
+    (passes capacity book rows appends) rows.made (sym is.made) book.lines
     (closing_there capacity book reached) (lines_are_settled capacity book reached)))
 
 -- ---- each household and month

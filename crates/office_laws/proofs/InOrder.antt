@@ -17,18 +17,19 @@ use Rattle.tenancy_rules.proofs.LiveLaws.{change_is_what_lives}
 use Rattle.book_rows.specs.declared.command.Command.{Command}
 use Rattle.office_step.specs.declared.refusal.Refusal.TheVariants as refusal
 use Rattle.office_step.specs.Known.{Known, known_of, own_in}
-use Rattle.office_step.specs.Households.{adding, dropping}
+use Rattle.office_step.specs.Households.{change_by}
 use Rattle.office_step.specs.Made.{record_of}
 use Rattle.office_step.specs.After.{households_after, names_given}
-use Rattle.office_step.specs.Refusals.{first_of, disorder}
-use Rattle.office_step.specs.Step.{refusals_of, reached_empty, reached_more}
+use Rattle.office_step.specs.Refusals.{disorder}
+use Rattle.office_step.specs.Step.{reached_empty, reached_more}
 use Rattle.office_laws.specs.Accepted.{Accepted}
 use Rattle.office_laws.specs.Tenancy.{IsInOrder, HouseholdsAreInOrder}
-use Rattle.office_laws.proofs.Inversion.{accepted}
-use Rattle.office_laws.proofs.Heading.{IsHeaded, made_is_headed, own_free}
+use Rattle.office_laws.proofs.Inversion.{accepted, passes}
+use Rattle.office_step.proofs.Passed.{Passed}
+use Rattle.office_step.proofs.Headed.{IsHeaded, made_is_headed}
 use Rattle.office_laws.proofs.Known.{known_after_each}
 use Rattle.office_laws.proofs.Own.{own-longer}
-use Rattle.office_laws.proofs.Tried.{Ordered, begins, added, dropped, Names, names_none, names_one, Tried, tried, find_holds}
+use Rattle.office_laws.proofs.Tried.{Ordered, begins, judged, Names, names_none, names_one, Tried, tried, find_holds}
 
 in_order_none : IsInOrder []
 in_order_none = record {
@@ -84,10 +85,10 @@ no_fault own change none = by_fault (first_out_of_order (changed_records own cha
 
 -- ---- one record more of a household
 
-module _ (known : Known) (today : ℕ) (asked : Command) (r : Record) (free : first_of (refusals_of known today asked) ≡ None)
+module _ (known : Known) (most today : ℕ) (asked : Command) (r : Record) (free : Passed known most today asked)
     (is : record_of known asked ≡ Some r) (own : IsInOrder (own_in known r.household)) where
   tries : Tried known r
-  tries = tried known today asked r free is
+  tries = tried known most today asked r free is
 
   pub number_next : r.number ≡ newest_number (own_in known r.household) + 1
   number_next =
@@ -116,26 +117,19 @@ module _ (known : Known) (today : ℕ) (asked : Command) (r : Record) (free : fi
       omega arith)
 
   -- what lives then was judged
-  pub live_added : is_withdrawal r.kind ≡ false → live_records (own_in known r.household ++ r ∷ []) ≡ changed_records (own_in known r.household) (adding r)
-  live_added kind =
-      change_is_what_lives (own_in known r.household) r all_smaller smaller
-      ∙ ap (λ (withdraws : Bool). changed_records (own_in known r.household) (record { «drop» = r.corrects; add = if withdraws then None else Some r })) kind
-
-  pub live_dropped : is_withdrawal r.kind ≡ true → live_records (own_in known r.household ++ r ∷ []) ≡ changed_records (own_in known r.household) (dropping r.corrects)
-  live_dropped kind =
-      change_is_what_lives (own_in known r.household) r all_smaller smaller
-      ∙ ap (λ (withdraws : Bool). changed_records (own_in known r.household) (record { «drop» = r.corrects; add = if withdraws then None else Some r })) kind
+  pub live_changed : live_records (own_in known r.household ++ r ∷ []) ≡ changed_records (own_in known r.household) (change_by r)
+  live_changed = change_is_what_lives (own_in known r.household) r all_smaller smaller
 
   live_in_order : first_out_of_order (live_records (own_in known r.household ++ r ∷ [])) ≡ None
   live_in_order = by_ordered tries.ordered
     where
       by_ordered : Ordered known r → first_out_of_order (live_records (own_in known r.household ++ r ∷ [])) ≡ None
-      by_ordered (begins none may zero kind) =
-          ap first_out_of_order (live_added kind)
-          ∙ ap (λ (own : List Record). first_out_of_order (changed_records own (adding r))) none
+      by_ordered (begins none may zero counts) =
+          ap first_out_of_order live_changed
+          ∙ ap (λ (withdraws : Bool). first_out_of_order (changed_records (own_in known r.household) (record { «drop» = r.corrects; add = if withdraws then None else Some r }))) counts
+          ∙ ap (λ (own : List Record). first_out_of_order (changed_records own (record { «drop» = r.corrects; add = Some r }))) none
           ∙ alone_in_order r may
-      by_ordered (added kind none) = ap first_out_of_order (live_added kind) ∙ no_fault (own_in known r.household) (adding r) none
-      by_ordered (dropped kind none) = ap first_out_of_order (live_dropped kind) ∙ no_fault (own_in known r.household) (dropping r.corrects) none
+      by_ordered (judged none) = ap first_out_of_order live_changed ∙ no_fault (own_in known r.household) (change_by r) none
 
   pub in_order_more : IsInOrder (own_in known r.household ++ r ∷ [])
   in_order_more = record {
@@ -164,13 +158,13 @@ all_longer known asked all =
     All-append IsInOrder known.households (map (λ name. []) (names_given known asked)) all
     (All-map IsInOrder (λ (name : List ℕ). []) (names_given known asked) (λ k d within. in_order_none))
 
-all_in_order_more : (known : Known) (today : ℕ) (asked : Command) → first_of (refusals_of known today asked) ≡ None → All IsInOrder known.households →
+all_in_order_more : (known : Known) (most today : ℕ) (asked : Command) → Passed known most today asked → All IsInOrder known.households →
     (made : Option Record) → record_of known asked ≡ made → All IsInOrder (households_after known asked made)
-all_in_order_more known today asked free all None is = all_longer known asked all
-all_in_order_more known today asked free all (Some r) is =
+all_in_order_more known most today asked free all None is = all_longer known asked all
+all_in_order_more known most today asked free all (Some r) is =
     All-set IsInOrder (known.households ++ map (λ name. []) (names_given known asked)) (r.household - 1) _
     (subst IsInOrder (ap (λ (own : List Record). own ++ r ∷ []) (sym (own-longer known.households (names_given known asked) r.household)))
-    (in_order_more known today asked r free is (own_in_order known.households all r.household)))
+    (in_order_more known most today asked r free is (own_in_order known.households all r.household)))
     (all_longer known asked all)
 
 pub households_are_in_order : HouseholdsAreInOrder
@@ -178,6 +172,5 @@ households_are_in_order capacity _ reached_empty = All-nil IsInOrder
 households_are_in_order capacity _ (reached_more {book} {rows} reached appends) =
     let is : Accepted capacity book appends.call rows = accepted capacity book rows appends in
     subst (λ (known : Known). All IsInOrder known.households) (sym (known_after_each capacity book rows reached appends))
-    (all_in_order_more (known_of book) rows.act.day appends.call.command
-    (own_free (known_of book) capacity.acts rows.act.day appends.call.command is.is_allowed)
+    (all_in_order_more (known_of book) capacity.acts rows.act.day appends.call.command (passes capacity book rows appends)
     (households_are_in_order capacity book reached) rows.made (sym is.made))

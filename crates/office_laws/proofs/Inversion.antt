@@ -1,5 +1,5 @@
 -- What it comes to that rows are appended.
-use Rattle.std.proofs.Common.{◌≡◌, ◌∙◌, sym, ap, ap₂, refl, subst, ℕ, arith, true, ◌&&◌, nat_le, List, [], ◌∷◌, Option, Some, None, length, slice_index_or, zero, suc}
+use Rattle.std.proofs.Common.{◌≡◌, ◌∙◌, sym, ap, ap₂, refl, subst, ℕ, arith, true, ◌&&◌, nat_le, List, [], ◌∷◌, Option, Some, None, length, slice_index_or}
 use Rattle.voucher_core.specs.declared.line.Line.{Line}
 use Rattle.book_rows.specs.declared.rows.ActRow.{ActRow}
 use Rattle.book_rows.specs.declared.rows.Batch.{Batch}
@@ -14,15 +14,10 @@ use Rattle.office_step.specs.declared.refusal.Refusal.{Refusal}
 use Rattle.office_step.specs.Known.{known_of}
 use Rattle.office_step.specs.Made.{lines_of}
 use Rattle.office_step.specs.Refusals.{first_of, repeated, request_reused, lines_full}
-use Rattle.office_step.specs.Step.{last_act_day, day_after, act_day, refused_by, refusal_of, rows_for, step, appends, unless_refused, unless_repeated, is_fit_call, IsAppended}
+use Rattle.office_step.specs.Against.{tests_of, refused_by}
+use Rattle.office_step.proofs.Passed.{none_at, first_of-around, Passed, passed}
+use Rattle.office_step.specs.Step.{last_act_day, day_after, act_day, refusal_of, rows_for, step, appends, unless_refused, unless_repeated, is_fit_call, IsAppended}
 use Rattle.office_laws.specs.Accepted.{Accepted, AppendedIsAccepted, NewIsAppended}
-
--- where none of the refusals stands, the one at that place doesn't
-pub none_at : (refusals : List (Option Refusal)) (place : ℕ) → first_of refusals ≡ None → slice_index_or refusals place None ≡ None
-none_at [] place none = refl
-none_at (Some r ∷ rest) place none = absurd (cc)
-none_at (None ∷ rest) zero none = refl
-none_at (None ∷ rest) (suc place) none = none_at rest place none
 
 -- what is appended is neither a repeat nor refused
 not_refused : (book : Book) (found : Option ActRow) (refused : Option Refusal) (own rows : Batch) →
@@ -40,20 +35,21 @@ accepted capacity book rows is =
         × (rows_for book rows.act.session (act_day book.acts rows.act.day) is.call ≡ rows) →
         Accepted capacity book is.call rows
     by_parts (found, free, same) =
-        let early_ones : List (Option Refusal) =
-        request_reused book.acts is.call.clerk is.call.request (body_of is.call.command)
-        ∷ refused_by (known_of book) capacity.acts (act_day book.acts rows.act.day) is.call.command ∷ [] in
         let all : List (Option Refusal) =
-        first_of early_ones
+        request_reused book.acts is.call.clerk is.call.request (body_of is.call.command)
+        ∷ refused_by (known_of book) capacity.acts (act_day book.acts rows.act.day) is.call.command
         ∷ lines_full (length book.lines) (length (lines_of (known_of book) is.call.command)) capacity.lines ∷ [] in
-        let early : first_of early_ones ≡ None = none_at all 0 free in
-        let allowed : refused_by (known_of book) capacity.acts (act_day book.acts rows.act.day) is.call.command ≡ None = none_at early_ones 1 early in
-        let room : lines_full (length book.lines) (length (lines_of (known_of book) is.call.command)) capacity.lines ≡ None = none_at all 1 free in
+        let none : first_of all ≡ None =
+        sym (first_of-around (request_reused book.acts is.call.clerk is.call.request (body_of is.call.command))
+        (tests_of (known_of book) capacity.acts (act_day book.acts rows.act.day) is.call.command)
+        (lines_full (length book.lines) (length (lines_of (known_of book) is.call.command)) capacity.lines)) ∙ free in
+        let allowed : refused_by (known_of book) capacity.acts (act_day book.acts rows.act.day) is.call.command ≡ None = none_at all 1 none in
+        let room : lines_full (length book.lines) (length (lines_of (known_of book) is.call.command)) capacity.lines ≡ None = none_at all 2 none in
         let today : act_day book.acts rows.act.day ≡ rows.act.day = ap (λ (r : Batch). r.act.day) same in
         let lines : lines_of (known_of book) is.call.command ≡ rows.lines = ap (λ (r : Batch). r.lines) same in
         record {
           is_new = found;
-          is_unused = none_at early_ones 0 early;
+          is_unused = none_at all 0 none;
           is_allowed = subst (λ (day : ℕ). refused_by (known_of book) capacity.acts day is.call.command ≡ None) today allowed;
           has_room = subst (λ (made : List Line). lines_full (length book.lines) (length made) capacity.lines ≡ None) lines room;
           n = sym (ap (λ (r : Batch). r.act.n) same);
@@ -64,6 +60,12 @@ accepted capacity book rows is =
           made = sym (ap (λ (r : Batch). r.made) same);
           lines = sym lines;
         }
+
+-- nothing stood against the call
+pub passes : (capacity : Capacity) (book : Book) (rows : Batch) → (is : IsAppended capacity book rows) →
+    Passed (known_of book) capacity.acts rows.act.day is.call.command
+passes capacity book rows is =
+    passed (known_of book) capacity.acts rows.act.day is.call.command (accepted capacity book rows is).is_allowed
 
 -- the day of an act is that of the next act on it
 same_day : (last clock : ℕ) → day_after last (day_after last clock) ≡ day_after last clock

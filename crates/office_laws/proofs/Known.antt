@@ -15,14 +15,14 @@ use Rattle.office_step.specs.Known.{Known, known_by, known_of}
 use Rattle.office_step.specs.Made.{record_of}
 use Rattle.office_step.specs.After.{known_after, waiting_after, requests_after, households_after}
 use Rattle.office_step.specs.Refusals.{plan_given}
-use Rattle.office_step.specs.Step.{is_plan, refused_by}
+use Rattle.office_step.specs.Against.{is_plan, refused_by}
 use Rattle.office_laws.specs.Accepted.{Accepted}
 use Rattle.office_laws.specs.After.{KnownAfter}
 use Rattle.office_laws.specs.Kept.{IsOneOf, NamesOnlyThose}
 use Rattle.office_laws.proofs.Lists.{option_or-none}
 use Rattle.office_laws.proofs.Inversion.{accepted}
 use Rattle.office_laws.proofs.Grown.{plan-more, plan_act-more, units-more, rents-more, limits-more, applications-more, closing-more}
-use Rattle.office_laws.proofs.Heading.{plan_free}
+use Rattle.office_step.proofs.Passed.{passed}
 use Rattle.office_laws.proofs.Naming.{asked_there, held_there}
 use Rattle.office_laws.proofs.Names.{names-more, count-more}
 use Rattle.office_laws.proofs.Changed.{waiting-more, households-longer, households-held, requests-longer, requests-said}
@@ -66,7 +66,7 @@ module _ (count : ℕ) (acts : List Act) (records : List Record) (only : NamesOn
       empty : (plan : Plan) → command.Plan plan ≡ asked → acts ≡ []
       empty plan is =
           only.planned (unplanned acts (none_given (plan_act acts)
-          (subst (λ (asked : Command). plan_given (plan_act acts) (is_plan asked) ≡ None) (sym is) (plan_free known most today asked allowed).1)))
+          (subst (λ (asked : Command). plan_given (plan_act acts) (is_plan asked) ≡ None) (sym is) (passed known most today asked allowed).plan_given)))
         where
           none_given : (given : Option ℕ) → plan_given given true ≡ None → given ≡ None
           none_given None free = refl

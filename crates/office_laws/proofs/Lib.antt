@@ -28,3 +28,4 @@ pub mod RentsDone
 pub mod History
 pub mod Pairs
 pub mod Replay
+pub mod InTurn

@@ -13,7 +13,7 @@ use Rattle.book_rows.specs.declared.command.Command.{Command}
 use Rattle.book_rows.specs.declared.command.Command.TheVariants as command
 use Rattle.office_step.specs.Known.{Known, own_in}
 use Rattle.office_step.specs.Made.{record_of, last_close, lines_of}
-use Rattle.office_laws.proofs.Heading.{made_is_headed}
+use Rattle.office_step.proofs.Headed.{made_is_headed}
 
 pub record_names_act : (known : Known) (asked : Command) (r : Record) → record_of known asked ≡ Some r → r.act ≡ known.count + 1
 record_names_act known asked r is = ap (λ (r : Record). r.act) (made_is_headed known asked r is).under.is

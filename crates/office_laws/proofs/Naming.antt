@@ -21,12 +21,12 @@ use Rattle.office_step.specs.Acts.{Act, plan_in, plan_of, plan_act, apply_in, ap
 use Rattle.office_step.specs.Households.{own_of}
 use Rattle.office_step.specs.Known.{Known, known_by}
 use Rattle.office_step.specs.Made.{record_of}
-use Rattle.office_step.specs.Refusals.{first_of, no_plan, no_applicant}
-use Rattle.office_step.specs.Step.{is_plan, refused_by, refusals_of, of_admit_first}
+use Rattle.office_step.specs.Refusals.{no_plan, no_applicant, no_unit}
+use Rattle.office_step.specs.Against.{is_plan, no_such, refused_by}
 use Rattle.office_laws.specs.Kept.{IsOneOf, NamesOnlyThose}
-use Rattle.office_laws.proofs.Inversion.{none_at}
 use Rattle.office_laws.proofs.Grown.{plan-more, applications-more}
-use Rattle.office_laws.proofs.Heading.{own_free, plan_free, made_within, household_there}
+use Rattle.office_step.proofs.Passed.{passed, or_none, household_there}
+use Rattle.office_laws.proofs.Heading.{made_within}
 use Rattle.office_laws.proofs.Names.{count-more}
 
 -- ---- applicants
@@ -92,35 +92,38 @@ module _ (count : ℕ) (acts : List Act) (records : List Record) (only : NamesOn
       by_plans : (plan given : Option Plan) → plan_of acts ≡ plan → plan_in asked ≡ given → option_or plan given ≡ None → acts ++ act ∷ [] ≡ []
       by_plans None None unplanned ungiven none =
           let empty : plan_act acts ≡ None = ap plan_act (only.planned unplanned) in
-          not_plan asked (subst (λ (given : Option ℕ). no_plan given (is_plan asked) ≡ None) empty (plan_free known most today asked allowed).0) ungiven
+          not_plan asked (subst (λ (given : Option ℕ). no_plan given (is_plan asked) ≡ None) empty (passed known most today asked allowed).no_plan) ungiven
       by_plans None (Some plan) unplanned given none = absurd (cc)
       by_plans (Some plan) given planned is none = absurd (cc)
 
   off_there : (number : ℕ) → takes_off_list number asked ≡ true → IsOneOf (length (applications_of acts)) number
-  off_there number takes = by_command asked (own_free known most today asked allowed) takes
+  off_there number takes = by_command asked (passed known most today asked allowed).no_such takes
     where
-      by_command : (asked : Command) → first_of (refusals_of known today asked) ≡ None → takes_off_list number asked ≡ true →
+      by_command : (asked : Command) → no_such known asked ≡ None → takes_off_list number asked ≡ true →
           IsOneOf (length (applications_of acts)) number
       by_command (command.Remove remove) free takes =
           subst (λ (number : ℕ). IsOneOf (length (applications_of acts)) number) (eqb-true remove.applicant number takes)
-          (listed_there (ranks_of known.plan) acts remove.applicant (none_at (refusals_of known today (command.Remove remove)) 0 free))
+          (listed_there (ranks_of known.plan) acts remove.applicant free)
       by_command (command.Admit admit) free takes =
           subst (λ (number : ℕ). IsOneOf (length (applications_of acts)) number) (eqb-true admit.applicant number takes)
           (listed_there (ranks_of known.plan) acts admit.applicant
-          (none_at (of_admit_first known admit) 0 (none_at (refusals_of known today (command.Admit admit)) 0 free)))
+          (or_none (no_applicant known.waiting admit.applicant) (no_unit known.units admit.unit) free).0)
       by_command _ free takes = absurd (cc)
 
   households_counted : length known.households ≡ household_count acts
   households_counted = length-map-range_with_len (own_of records) 1 (household_count acts)
 
+  one_of : {count number : ℕ} → (1 ≤ number) × (number ≤ count) → IsOneOf count number
+  one_of there = record { least = there.0; most = there.1 }
+
   pub asked_there : IfSome (ask_in asked) (λ ask. IsOneOf (household_count acts) ask.household)
-  asked_there = by_command asked (own_free known most today asked allowed)
+  asked_there = by_command asked (passed known most today asked allowed).no_such
     where
-      by_command : (asked : Command) → first_of (refusals_of known today asked) ≡ None →
+      by_command : (asked : Command) → no_such known asked ≡ None →
           IfSome (ask_in asked) (λ ask. IsOneOf (household_count acts) ask.household)
       by_command (command.AskTransfer ask) free =
           subst (λ (count : ℕ). IsOneOf count ask.household) households_counted
-          (household_there (length known.households) ask.household (none_at (refusals_of known today (command.AskTransfer ask)) 0 free))
+          (one_of (household_there (length known.households) ask.household free))
       by_command _ free = tt
 
   pub held_there : (r : Record) → record_of known asked ≡ Some r → IsOneOf (household_count (acts ++ act ∷ [])) r.household
@@ -128,7 +131,7 @@ module _ (count : ℕ) (acts : List Act) (records : List Record) (only : NamesOn
       subst (λ (count : ℕ). IsOneOf count r.household)
       (ap (λ (count : ℕ). count + length (option_to_list (name_given (applications_of acts) asked))) households_counted
       ∙ sym (count-more acts records act only))
-      (made_within known today asked r (own_free known most today asked allowed) is)
+      (made_within known asked r (passed known most today asked allowed).no_such is)
 
   longer : (earlier now more number : ℕ) → now ≡ earlier + more → IsOneOf earlier number → IsOneOf now number
   longer earlier now more number is there = record { least = there.least; most = omega (arith, there.most) }

@@ -8,8 +8,7 @@ use Rattle.book_rows.specs.declared.command.Command.{Command}
 use Rattle.office_step.specs.Known.{Known, own_in}
 use Rattle.office_step.specs.After.{households_after, names_given}
 use Rattle.office_step.specs.Made.{record_of}
-use Rattle.office_step.specs.Refusals.{first_of}
-use Rattle.office_step.specs.Step.{refusals_of}
+use Rattle.office_step.specs.Against.{no_such}
 use Rattle.office_laws.specs.Kept.{IsOneOf}
 use Rattle.office_laws.proofs.Heading.{made_within}
 
@@ -57,13 +56,13 @@ own-other households r household there other = by_zero (cases_eq household 0)
         ∙ sym (own_at households household not_zero)
 
 -- the household of the record that an act makes is one of those that are there after it
-pub made_held : (known : Known) (today : ℕ) (asked : Command) (r : Record) → first_of (refusals_of known today asked) ≡ None → record_of known asked ≡ Some r →
+pub made_held : (known : Known) (asked : Command) (r : Record) → no_such known asked ≡ None → record_of known asked ≡ Some r →
     IsOneOf (length (known.households ++ map (λ name. nobody) (names_given known asked))) r.household
-made_held known today asked r free is =
+made_held known asked r named is =
     subst (λ (count : ℕ). IsOneOf count r.household)
     (ap (λ (more : ℕ). length known.households + more) (sym (length-map (names_given known asked) (λ (name : List ℕ). nobody)))
     ∙ sym (length-append known.households (map (λ name. nobody) (names_given known asked))))
-    (made_within known today asked r free is)
+    (made_within known asked r named is)
 
 -- what a household has after an act that makes no record
 pub own_after_none : (known : Known) (asked : Command) (household : ℕ) → records_of (households_after known asked None) household ≡ own_in known household

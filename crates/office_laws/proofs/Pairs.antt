@@ -22,14 +22,14 @@ use Rattle.office_step.specs.declared.known.Closed.{Closed}
 use Rattle.office_step.specs.Known.{Known, known_of, own_in}
 use Rattle.office_step.specs.Made.{record_of, last_close, lines_of}
 use Rattle.office_step.specs.After.{households_after}
-use Rattle.office_step.specs.Step.{is_plan, IsAppended, IsReached, reached_more}
+use Rattle.office_step.specs.Step.{IsAppended, IsReached, reached_more}
+use Rattle.office_step.specs.Against.{is_plan}
 use Rattle.office_laws.specs.Accepted.{Accepted}
 use Rattle.office_laws.specs.Kept.{IsOneOf}
 use Rattle.office_laws.specs.History.{IsLater, later_same, later_more}
 use Rattle.office_laws.specs.Closing.{KnownAsOfStays, ClosingsNameTheirPairs}
 use Rattle.office_laws.proofs.Lists.{filter_none}
-use Rattle.office_laws.proofs.Inversion.{accepted}
-use Rattle.office_laws.proofs.Heading.{own_free}
+use Rattle.office_laws.proofs.Inversion.{accepted, passes}
 use Rattle.office_laws.proofs.Known.{known_after_each}
 use Rattle.office_laws.proofs.Own.{own_after_none}
 use Rattle.office_laws.proofs.Planned.{plan_there}
@@ -52,8 +52,7 @@ as_of_stays : (capacity : Capacity) (book : Book) (rows : Batch) → IsReached c
 as_of_stays capacity book rows reached appends act household by =
     let is : Accepted capacity book appends.call rows = accepted capacity book rows appends in
     ap (λ (known : Known). as_of act (own_in known household)) (known_after_each capacity book rows reached appends)
-    ∙ ap (as_of act) (sym (own_more (known_of book) rows.act.day appends.call.command
-    (own_free (known_of book) capacity.acts rows.act.day appends.call.command is.is_allowed) rows.made (sym is.made) household))
+    ∙ ap (as_of act) (sym (own_more (known_of book) appends.call.command (passes capacity book rows appends).no_such rows.made (sym is.made) household))
     ∙ as_of-more act (own_in (known_of book) household) (more_of rows.made household)
     (later_than (known_of book) appends.call.command act by rows.made (sym is.made) household)
 

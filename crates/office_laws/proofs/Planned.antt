@@ -7,9 +7,9 @@ use Rattle.office_step.specs.declared.call.Capacity.{Capacity}
 use Rattle.office_step.specs.Acts.{Act, acts_of, plan_of, plan_act}
 use Rattle.office_step.specs.Known.{known_of}
 use Rattle.office_step.specs.Refusals.{no_plan}
-use Rattle.office_step.specs.Step.{is_plan, IsAppended, IsReached}
-use Rattle.office_laws.proofs.Inversion.{accepted}
-use Rattle.office_laws.proofs.Heading.{plan_free}
+use Rattle.office_step.specs.Step.{IsAppended, IsReached}
+use Rattle.office_step.specs.Against.{is_plan}
+use Rattle.office_laws.proofs.Inversion.{passes}
 use Rattle.office_laws.proofs.Reached.{books_are_kept}
 
 planned : (acts : List Act) → (plan_of acts ≡ None → acts ≡ []) → no_plan (plan_act acts) false ≡ None → (plan : Plan) × (plan_of acts ≡ Some plan)
@@ -26,4 +26,4 @@ pub plan_there : (capacity : Capacity) (book : Book) (rows : Batch) → IsReache
 plan_there capacity book rows reached appends other =
     planned (acts_of book.acts) (books_are_kept capacity book reached).names.planned
     (subst (λ (plan : Bool). no_plan (plan_act (acts_of book.acts)) plan ≡ None) other
-    (plan_free (known_of book) capacity.acts rows.act.day appends.call.command (accepted capacity book rows appends).is_allowed).0)
+    (passes capacity book rows appends).no_plan)

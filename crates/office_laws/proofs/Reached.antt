@@ -17,9 +17,8 @@ use Rattle.office_step.specs.Step.{IsAppended, reached_empty, reached_more}
 use Rattle.office_laws.specs.Accepted.{Accepted}
 use Rattle.office_laws.specs.Kept.{IsOneOf, IsOfOffice, AreActs, AreOfActs, NamesOnlyThose, FitsIn, Kept, BooksAreKept, BatchesFollow}
 use Rattle.office_laws.proofs.Lists.{All-option, AllPairs-append, AllPairs-option}
-use Rattle.office_laws.proofs.Inversion.{accepted}
+use Rattle.office_laws.proofs.Inversion.{accepted, passes}
 use Rattle.office_laws.proofs.Grown.{acts-more}
-use Rattle.office_laws.proofs.Heading.{plan_free}
 use Rattle.office_laws.proofs.Naming.{names_only_more}
 use Rattle.office_laws.proofs.Rows.{acts_more}
 use Rattle.office_laws.proofs.Makes.{record_names_act, lines_name_act, lines_have_places}
@@ -109,7 +108,7 @@ module _ (capacity : Capacity) (book : Book) (rows : Batch) (kept : Kept capacit
       arith,
       length_push book.acts rows.act,
       leb-false capacity.acts (length book.acts)
-          (not_full (nat_le capacity.acts (length book.acts)) (plan_free (known_of book) capacity.acts rows.act.day appends.call.command is.is_allowed).2),
+          (not_full (nat_le capacity.acts (length book.acts)) (passes capacity book rows appends).book_full),
     );
     lines = omega (
       arith,

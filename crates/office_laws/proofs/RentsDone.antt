@@ -22,11 +22,10 @@ use Rattle.office_step.specs.declared.refusal.Refusal.{Refusal}
 use Rattle.office_step.specs.declared.refusal.Refusal.TheVariants as refusal
 use Rattle.office_step.specs.Known.{Known, known_of, own_in}
 use Rattle.office_step.specs.Refusals.{first_of, household_rent_due, first_household}
-use Rattle.office_step.specs.Step.{is_plan, plan_day, rent_due_in, of_close, refusals_of}
+use Rattle.office_step.specs.Against.{is_plan, plan_day, rent_due}
 use Rattle.office_laws.specs.Accepted.{Accepted}
 use Rattle.office_laws.specs.Closing.{HasItsRents, RentsAreDoneAtClosings}
-use Rattle.office_laws.proofs.Inversion.{none_at, accepted}
-use Rattle.office_laws.proofs.Heading.{own_free}
+use Rattle.office_laws.proofs.Inversion.{passes}
 use Rattle.office_laws.proofs.Planned.{plan_there}
 use Rattle.office_laws.proofs.RentsStand.{BeganWithRents, all_of, rents-later, began_with_rents}
 use Rattle.row_choice.proofs.LatestLemmas.{latest-among}
@@ -98,7 +97,7 @@ abbrev HasNoOther : Known → List Record → ℕ → Type 0
 HasNoOther known own day =
     IfSome (in_force own day) (λ r. ends_assistance r.kind ≡ false → IfSome (unit_rents_on known.units known.rents r.unit day) (λ rents. r.rents ≡ rents))
 
-no_other : (known : Known) (close : CloseAct) (plan : Plan) → known.plan ≡ Some plan → rent_due_in known close ≡ None →
+no_other : (known : Known) (close : CloseAct) (plan : Plan) → known.plan ≡ Some plan → rent_due known (command.Close close) ≡ None →
     (household day : ℕ) → first_day_of plan.first ≤ day → day ≤ last_day_of close.month → HasNoOther known (own_in known household) day
 no_other known close plan has none household day from to = by_place (cases_eq household 0) (cases_lt (length known.households) household)
   where
@@ -151,7 +150,7 @@ its_rents known day (Some r) (began, from, certifying) same = λ ends.
     by_rents (Some rents) some same = ap (λ (rents : Rents). Some rents) (sym same)
 
 rents_done : (known : Known) (close : CloseAct) (plan : Plan) → All (All (BeganWithRents known)) known.households → known.plan ≡ Some plan →
-    rent_due_in known close ≡ None → HasItsRents known close.month plan
+    rent_due known (command.Close close) ≡ None → HasItsRents known close.month plan
 rents_done known close plan began has none household day from to =
     its_rents known day (in_force (own_in known household) day)
     (in_force_begun known (own_in known household) day (all_of known known.households began household))
@@ -162,9 +161,7 @@ rents_are_done_at_closings capacity book rows reached appends close closes = by_
   where
     by_plan : (plan : Plan) × ((known_of book).plan ≡ Some plan) → IfSome (known_of book).plan (HasItsRents (known_of book) close.month)
     by_plan (plan, has) =
-        let is : Accepted capacity book appends.call rows = accepted capacity book rows appends in
-        let free : first_of (refusals_of (known_of book) rows.act.day (command.Close close)) ≡ None =
-        subst (λ (asked : Command). first_of (refusals_of (known_of book) rows.act.day asked) ≡ None) closes
-        (own_free (known_of book) capacity.acts rows.act.day appends.call.command is.is_allowed) in
+        let free : rent_due (known_of book) (command.Close close) ≡ None =
+        subst (λ (asked : Command). rent_due (known_of book) asked ≡ None) closes (passes capacity book rows appends).rent_due in
         subst (λ (found : Option Plan). IfSome found (HasItsRents (known_of book) close.month)) (sym has)
-        (rents_done (known_of book) close plan (began_with_rents capacity book reached) has (none_at (of_close (known_of book) close) 1 free))
+        (rents_done (known_of book) close plan (began_with_rents capacity book reached) has free)

@@ -3,7 +3,7 @@ use Rattle.std.proofs.Common.{◌≡◌, ◌∙◌, sym, ap, refl, subst, ℕ, �
 use Rattle.std.specs.Option.{option_map, option_or}
 use Rattle.std.specs.List.{list_any}
 use Rattle.std.proofs.lemmas.Bool.{both_ways, cases_lt, or_cases, or_left, or_right, le-leb, leb-true, and_parts, and_from}
-use Rattle.std.proofs.lemmas.Option.{option_and_then_some}
+use Rattle.std.proofs.lemmas.Option.{option_and_then_some, same_Some}
 use Rattle.std.proofs.lemmas.List.{get_or_past}
 use Rattle.std.proofs.lemmas.List.Elements.{All-nil, All-push, All-append, All-map, All-set, All-weaker}
 use Rattle.std.proofs.lemmas.List.Folds.{find-append, list_any-append}
@@ -23,16 +23,18 @@ use Rattle.book_rows.specs.Book.{Book, empty_book}
 use Rattle.book_rows.specs.declared.command.Command.{Command}
 use Rattle.book_rows.specs.declared.command.Command.TheVariants as command
 use Rattle.office_step.specs.declared.call.Capacity.{Capacity}
-use Rattle.office_step.specs.declared.made.Heading.{Heading}
+use Rattle.office_step.specs.declared.heading.Heading.{Heading}
 use Rattle.office_step.specs.Known.{Known, known_of, own_in}
 use Rattle.office_step.specs.Households.{record_at, continued}
-use Rattle.office_step.specs.Made.{rents_in_unit, made_of_facts, made_of_carried, further_heading, correction_heading, transfer_heading, withdrawal_heading, record_of}
+use Rattle.office_step.specs.Made.{rents_in_unit, withdrawal_heading, Basis, from_facts, carried, nothing, certifies, basis_for, basis_of, made_on, heading_for, heading_of, record_of}
 use Rattle.office_step.specs.After.{known_after, households_after, names_given}
 use Rattle.office_step.specs.Step.{IsReached, reached_empty, reached_more}
 use Rattle.office_laws.proofs.Lists.{option_map_some}
 use Rattle.office_laws.proofs.Inversion.{accepted}
 use Rattle.office_laws.proofs.Known.{known_after_each}
-use Rattle.office_laws.proofs.Tried.{under_own}
+use Rattle.office_step.proofs.Headed.{under_own}
+use Rattle.book_rows.specs.declared.household.HouseholdChange.{HouseholdChange}
+use Rattle.book_rows.specs.declared.household.HouseholdChange.TheVariants as change
 
 -- ---- rents that stand once stand on
 
@@ -107,50 +109,57 @@ rents-more units more_units rents more_rents unit day has =
 
 -- ---- the record that an act makes
 
-of_facts_stood : (known : Known) (heading : Heading) (facts : Facts) (r : Record) → made_of_facts known heading facts ≡ Some r →
+stood : (known : Known) (basis : Basis) (heading : Heading) (r : Record) → certifies basis ≡ true → made_on known basis heading ≡ Some r →
     has_rents known.units known.rents r.unit r.from ≡ true
-of_facts_stood known heading facts r is =
+stood known (from_facts facts) heading r some is =
     option_and_then_some _ known.plan r is (λ plan given of_plan.
     option_map_some _ (rents_in_unit known heading.unit heading.from) r of_plan (λ rents stand same.
     subst (λ (r : Record). has_rents known.units known.rents r.unit r.from ≡ true) same
     (ap (λ (found : Option Rents). is_some found) stand)))
-
-of_carried_stood : (known : Known) (heading : Heading) (r : Record) → made_of_carried known heading ≡ Some r →
-    has_rents known.units known.rents r.unit r.from ≡ true
-of_carried_stood known heading r is =
+stood known carried heading r some is =
     option_and_then_some _ (continued (own_in known heading.household) heading.from) r is (λ held continues of_held.
     option_map_some _ (rents_in_unit known heading.unit heading.from) r of_held (λ rents stand same.
     subst (λ (r : Record). has_rents known.units known.rents r.unit r.from ≡ true) same
     (ap (λ (found : Option Rents). is_some found) stand)))
+stood known nothing heading r some is = absurd (cc)
 
 -- it certifies something
-abbrev pub certifies : Kind → Bool
-certifies kind = not (ends_assistance kind) && not (is_withdrawal kind)
+abbrev pub is_certifying : Kind → Bool
+is_certifying kind = not (ends_assistance kind) && not (is_withdrawal kind)
 
 abbrev pub BeganWithRents : Known → Record → Type 0
-BeganWithRents known r = certifies r.kind ≡ true → has_rents known.units known.rents r.unit r.from ≡ true
+BeganWithRents known r = is_certifying r.kind ≡ true → has_rents known.units known.rents r.unit r.from ≡ true
+
+-- a record of a kind that certifies something rests on something
+on_basis : (known : Known) (household : ℕ) (done : HouseholdChange) (heading : Heading) → heading_for known household done ≡ Some heading →
+    is_certifying heading.kind ≡ true → certifies (basis_for done) ≡ true
+on_basis known household (change.MoveOut move_out) heading is some =
+    absurd (both_ways (is_certifying heading.kind) (ap is_certifying (sym (ap (λ (h : Heading). h.kind) (same_Some _ heading is)))) some)
+on_basis known household (change.Terminate terminate) heading is some =
+    absurd (both_ways (is_certifying heading.kind) (ap is_certifying (sym (ap (λ (h : Heading). h.kind) (same_Some _ heading is)))) some)
+on_basis known household (change.Withdraw withdraw) heading is some =
+    option_map_some (λ target. withdrawal_heading household target) (record_at (own_in known household) withdraw.target) heading is
+    (λ target found same. absurd (both_ways (is_certifying heading.kind) (ap is_certifying (sym (ap (λ (h : Heading). h.kind) same))) some))
+on_basis known household (change.Annual annual) heading is some = refl
+on_basis known household (change.Interim interim) heading is some = refl
+on_basis known household (change.Resume resume) heading is some = refl
+on_basis known household (change.Correct correct) heading is some = refl
+on_basis known household (change.Gross gross) heading is some = refl
+on_basis known household (change.Transfer transfer) heading is some = refl
+
+basis_there : (known : Known) (asked : Command) (heading : Heading) → heading_of known asked ≡ Some heading → is_certifying heading.kind ≡ true →
+    certifies (basis_of asked) ≡ true
+basis_there known (command.Start start) heading is some = refl
+basis_there known (command.Admit admit) heading is some = refl
+basis_there known (command.Household act) heading is some = on_basis known act.household act.change heading is some
+basis_there known _ heading is some = absurd (cc)
 
 made_with_rents : (known : Known) (asked : Command) (r : Record) → record_of known asked ≡ Some r → BeganWithRents known r
-made_with_rents known (command.Start start) r is _ = of_facts_stood known _ start.facts r is
-made_with_rents known (command.Admit admit) r is _ = of_facts_stood known _ admit.facts r is
-made_with_rents known (command.Annual annual) r is _ = of_facts_stood known _ annual.facts r is
-made_with_rents known (command.Interim interim) r is _ = of_facts_stood known _ interim.facts r is
-made_with_rents known (command.Resume resume) r is _ = of_facts_stood known _ resume.facts r is
-made_with_rents known (command.Gross gross) r is _ = of_carried_stood known (further_heading known gross.household kind.GR gross.from None) r is
-made_with_rents known (command.Correct correct) r is _ =
-    option_and_then_some _ (record_at (own_in known correct.household) correct.target) r is (λ target found made.
-    of_facts_stood known (correction_heading correct.household target correct.from) correct.facts r made)
-made_with_rents known (command.Transfer transfer) r is _ = of_carried_stood known (transfer_heading transfer.household transfer.unit transfer.from) r is
-made_with_rents known (command.MoveOut move_out) r is certifying =
-    absurd (both_ways (certifies r.kind) (ap certifies (ap (λ (r : Record). r.kind) (under_own known (command.MoveOut move_out) r is _ refl).is)) certifying)
-made_with_rents known (command.Terminate terminate) r is certifying =
-    absurd (both_ways (certifies r.kind) (ap certifies (ap (λ (r : Record). r.kind) (under_own known (command.Terminate terminate) r is _ refl).is)) certifying)
-made_with_rents known (command.Withdraw withdraw) r is certifying =
-    option_map_some _ (record_at (own_in known withdraw.household) withdraw.target) r is (λ target found made.
-    absurd (both_ways (certifies r.kind) (ap certifies (ap (λ (r : Record). r.kind)
-    (under_own known (command.Withdraw withdraw) r is (withdrawal_heading withdraw.household target)
-    (ap (option_map (λ target. withdrawal_heading withdraw.household target)) found)).is)) certifying))
-made_with_rents known _ r is _ = absurd (cc)
+made_with_rents known asked r is some =
+    option_and_then_some (made_on known (basis_of asked)) (heading_of known asked) r is (λ heading found made.
+    let own = under_own known asked r is heading found in
+    stood known (basis_of asked) heading r
+    (basis_there known asked heading found (ap is_certifying (sym (ap (λ (r : Record). r.kind) own.is)) ∙ some)) made)
 
 -- ---- every record
 

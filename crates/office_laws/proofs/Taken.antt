@@ -13,12 +13,16 @@ use Rattle.office_step.specs.declared.refusal.Refusal.TheVariants as refusal
 use Rattle.office_step.specs.declared.refusal.Named.TheVariants as named
 use Rattle.office_step.specs.Known.{Known, known_of}
 use Rattle.office_step.specs.Candidates.{asked_of}
-use Rattle.office_step.specs.Refusals.{first_of, no_unit, is_same_candidate, not_next}
-use Rattle.office_step.specs.Step.{is_plan, not_next_in, of_admit_first, of_admit_then, of_transfer_first, of_transfer_then, refusals_of}
+use Rattle.office_step.specs.Refusals as test
+use Rattle.office_step.specs.Refusals.{no_unit, is_same_candidate, not_next}
+use Rattle.book_rows.specs.declared.household.HouseholdChange.{HouseholdChange}
+use Rattle.book_rows.specs.declared.household.HouseholdChange.TheVariants as change
+use Rattle.office_step.specs.declared.moving.MoveIn.{MoveIn}
+use Rattle.office_step.proofs.Passed.{Passed, or_none}
+use Rattle.office_step.specs.Against.{is_plan, no_household, no_such_in, move_in_for, of_move_in, out_of_turn}
 use Rattle.office_laws.specs.Accepted.{Accepted}
-use Rattle.office_laws.specs.Taken.{IsNextFor, TakesNext, NextIsTaken}
-use Rattle.office_laws.proofs.Inversion.{none_at, accepted}
-use Rattle.office_laws.proofs.Heading.{own_free}
+use Rattle.office_laws.specs.Taken.{TakesNextBy, IsNextFor, TakesNext, NextIsTaken}
+use Rattle.office_laws.proofs.Inversion.{passes}
 use Rattle.office_laws.proofs.Planned.{plan_there}
 
 unit_there : (units : List UnitRow) (unit : ℕ) → no_unit units unit ≡ None → (row : UnitRow) × (unit_at units unit ≡ Some row)
@@ -45,41 +49,35 @@ is_the_next (Some c) asked none = ap (λ (c : Candidate). Some c) (same_candidat
     passes true none = refl
     passes false none = absurd (cc)
 
-next_for : (known : Known) (unit day : ℕ) (asked : Candidate) → (plan : Plan) × (known.plan ≡ Some plan) → no_unit known.units unit ≡ None →
-    not_next_in known unit day asked ≡ None → IsNextFor known unit day asked
-next_for known unit day asked (plan, is_plan) there none = by_unit (unit_there known.units unit there)
+next_for : (known : Known) (mover : MoveIn) → (plan : Plan) × (known.plan ≡ Some plan) → test.no_unit known.units mover.unit ≡ None →
+    of_move_in known (Some mover) (out_of_turn known) ≡ None → IsNextFor known mover.unit mover.from mover.candidate
+next_for known mover (plan, is_plan) there none = by_unit (unit_there known.units mover.unit there)
   where
-    by_unit : (row : UnitRow) × (unit_at known.units unit ≡ Some row) → IsNextFor known unit day asked
+    by_unit : (row : UnitRow) × (unit_at known.units mover.unit ≡ Some row) → IsNextFor known mover.unit mover.from mover.candidate
     by_unit (row, is_unit) =
-        let of_plan : option_and_then (λ (row : UnitRow). not_next (next_candidate (asked_of plan row day (limits_on known.limits day) known.requests known.households) known.waiting) asked) (unit_at known.units unit) ≡ None =
-        subst (λ (found : Option Plan). option_and_then (λ (plan : Plan).
-        option_and_then (λ (row : UnitRow). not_next (next_candidate (asked_of plan row day (limits_on known.limits day) known.requests known.households) known.waiting) asked) (unit_at known.units unit)) found ≡ None) is_plan none in
-        let of_unit : not_next (next_candidate (asked_of plan row day (limits_on known.limits day) known.requests known.households) known.waiting) asked ≡ None =
-        subst (λ (found : Option UnitRow).
-        option_and_then (λ (row : UnitRow). not_next (next_candidate (asked_of plan row day (limits_on known.limits day) known.requests known.households) known.waiting) asked) found ≡ None) is_unit of_plan in
+        let of_plan : option_and_then (λ (row : UnitRow). out_of_turn known plan row mover) (unit_at known.units mover.unit) ≡ None =
+        subst (λ (found : Option Plan). option_and_then (λ (plan : Plan). option_and_then (λ (row : UnitRow). out_of_turn known plan row mover) (unit_at known.units mover.unit)) found ≡ None) is_plan none in
         record {
           plan = plan;
           row = row;
           is_plan = is_plan;
           is_unit = is_unit;
-          is_next = is_the_next _ asked of_unit;
+          is_next = is_the_next _ mover.candidate (subst (λ (found : Option UnitRow). option_and_then (λ (row : UnitRow). out_of_turn known plan row mover) found ≡ None) is_unit of_plan);
         }
 
-takes_next : (known : Known) (today : ℕ) (asked : Command) → (is_plan asked ≡ false → (plan : Plan) × (known.plan ≡ Some plan)) →
-    first_of (refusals_of known today asked) ≡ None → TakesNext known asked
-takes_next known today (command.Admit admit) plan free =
-    next_for known admit.unit admit.from (candidate.Applicant admit.applicant) (plan refl)
-    (none_at (of_admit_first known admit) 1 (none_at (refusals_of known today (command.Admit admit)) 0 free))
-    (none_at (of_admit_then known admit) 2 (none_at (refusals_of known today (command.Admit admit)) 1 free))
-takes_next known today (command.Transfer transfer) plan free =
-    next_for known transfer.unit transfer.from (candidate.Household transfer.household) (plan refl)
-    (none_at (of_transfer_first known transfer) 1 (none_at (refusals_of known today (command.Transfer transfer)) 0 free))
-    (none_at (of_transfer_then known transfer) 3 (none_at (refusals_of known today (command.Transfer transfer)) 1 free))
-takes_next known today _ plan free = tt
+takes_next : (known : Known) (most today : ℕ) (asked : Command) → (is_plan asked ≡ false → (plan : Plan) × (known.plan ≡ Some plan)) →
+    Passed known most today asked → TakesNext known asked
+takes_next known most today (command.Admit admit) plan free =
+    next_for known _ (plan refl) (or_none (test.no_applicant known.waiting admit.applicant) (test.no_unit known.units admit.unit) free.no_such).1 free.not_next
+takes_next known most today (command.Household act) plan free = by_change act.change (or_none (no_household known act.household) (no_such_in known act.household act.change) free.no_such).1 free.not_next
+  where
+    by_change : (done : HouseholdChange) → no_such_in known act.household done ≡ None → of_move_in known (move_in_for act.household done) (out_of_turn known) ≡ None →
+        TakesNextBy known act.household done
+    by_change (change.Transfer transfer) named none = next_for known _ (plan refl) named none
+    by_change _ named none = tt
+takes_next known most today _ plan free = tt
 
 pub next_is_taken : NextIsTaken
 next_is_taken capacity book rows reached appends =
-    let is : Accepted capacity book appends.call rows = accepted capacity book rows appends in
-    takes_next (known_of book) rows.act.day appends.call.command
-    (plan_there capacity book rows reached appends)
-    (own_free (known_of book) capacity.acts rows.act.day appends.call.command is.is_allowed)
+    takes_next (known_of book) capacity.acts rows.act.day appends.call.command (plan_there capacity book rows reached appends)
+    (passes capacity book rows appends)

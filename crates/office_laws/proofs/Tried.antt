@@ -3,38 +3,35 @@ use Rattle.std.proofs.Common.{◌≡◌, ◌∙◌, sym, ap, refl, subst, subst�
 use Rattle.std.specs.Option.{option_map, option_map_or}
 use Rattle.std.proofs.lemmas.Bool.{eqb-true, ne_eqb}
 use Rattle.std.proofs.lemmas.List.{get_or_past}
-use Rattle.std.proofs.lemmas.Option.{same_Some, option_and_then_some}
+use Rattle.std.proofs.lemmas.Option.{same_Some}
 use Rattle.std.proofs.lemmas.List.Elements.{All-head, All-tail}
-use Rattle.record_history.specs.declared.records.Kind.{Kind}
 use Rattle.record_history.specs.declared.records.Kind.TheVariants as kind
 use Rattle.record_history.specs.declared.records.Record.{Record}
 use Rattle.record_history.specs.Records.{is_withdrawal}
 use Rattle.tenancy_rules.specs.Order.{may_begin, is_transfer, is_move_out}
 use Rattle.book_rows.specs.declared.command.Command.{Command}
 use Rattle.book_rows.specs.declared.command.Command.TheVariants as command
-use Rattle.office_step.specs.declared.made.Heading.{Heading}
+use Rattle.book_rows.specs.declared.household.HouseholdAct.{HouseholdAct}
+use Rattle.book_rows.specs.declared.household.HouseholdChange.{HouseholdChange}
+use Rattle.book_rows.specs.declared.household.HouseholdChange.TheVariants as change
+use Rattle.office_step.specs.declared.heading.Heading.{Heading}
 use Rattle.office_step.specs.declared.refusal.Refusal.{Refusal}
-use Rattle.office_step.specs.declared.refusal.Refusal.TheVariants as refusal
-use Rattle.office_step.specs.declared.refusal.Named.TheVariants as named
 use Rattle.office_step.specs.Known.{Known, own_in}
-use Rattle.office_step.specs.Households.{record_at, rests_on_facts, adding, dropping}
-use Rattle.office_step.specs.Made.{correction_heading, withdrawal_heading, record_of}
-use Rattle.office_step.specs.Refusals.{first_of, no_target, disorder, unit_taken}
-use Rattle.office_step.specs.Step.{disorder_in, unit_taken_in, of_start, of_admit_then, of_annual, of_interim_then, of_resume_then, of_gross, of_correct_first, of_correct_then, of_transfer_then, refusals_of}
-use Rattle.office_laws.proofs.Lists.{option_map_some}
-use Rattle.office_laws.proofs.Inversion.{none_at}
-use Rattle.office_laws.proofs.Heading.{heading_of, IsUnder, IsHeaded, made_is_headed}
+use Rattle.office_step.specs.Households.{record_at, change_by}
+use Rattle.office_step.specs.Made.{correction_heading, withdrawal_heading, heading_for, heading_of, record_of}
+use Rattle.office_step.specs.Refusals.{disorder, unit_taken}
+use Rattle.office_step.specs.Against.{of_made, may_collide_in}
+use Rattle.office_step.proofs.Passed.{Passed}
+use Rattle.office_step.proofs.Headed.{option_map_some, under_own, IsHeaded, made_is_headed, of_household}
 
 -- the record is the household's first, or was judged among its records
 pub data Ordered (known : Known) (r : Record) : Type 0 where
   begins : own_in known r.household ≡ [] → may_begin r.kind ≡ true → r.corrects ≡ 0 → is_withdrawal r.kind ≡ false → Ordered known r
-  added : is_withdrawal r.kind ≡ false → disorder (own_in known r.household) (adding r) ≡ None → Ordered known r
-  dropped : is_withdrawal r.kind ≡ true → disorder (own_in known r.household) (dropping r.corrects) ≡ None → Ordered known r
+  judged : disorder (own_in known r.household) (change_by r) ≡ None → Ordered known r
 
 -- nobody else would have its unit, or it is for the unit of the record before it, or a move-out
 pub data Placed (known : Known) (r : Record) : Type 0 where
-  taken_by_none : is_withdrawal r.kind ≡ false → unit_taken known.households r.household (adding r) ≡ None → Placed known r
-  left_to_none : is_withdrawal r.kind ≡ true → unit_taken known.households r.household (dropping r.corrects) ≡ None → Placed known r
+  taken_by_none : unit_taken known.households r.household (change_by r) ≡ None → Placed known r
   moved_out : is_withdrawal r.kind ≡ false → is_move_out r.kind ≡ true → r.corrects ≡ 0 → Placed known r
   kept : is_withdrawal r.kind ≡ false → may_begin r.kind ≡ false → is_transfer r.kind ≡ false → r.corrects ≡ 0 → Placed known r
 
@@ -48,23 +45,17 @@ pub record Tried (known : Known) (r : Record) : Type 0 where
   pub placed : Placed known r
   pub names : Names known r
 
--- the record under its act's own heading
-pub under_own : (known : Known) (asked : Command) (r : Record) → record_of known asked ≡ Some r → (own : Heading) → heading_of known asked ≡ Some own →
-    IsUnder known own r
-under_own known asked r is own is_own =
-    let headed : IsHeaded known asked r = made_is_headed known asked r is in
-    subst (λ (heading : Heading). IsUnder known heading r) (same_Some headed.heading own (sym headed.is_its ∙ is_own)) headed.under
+of_one : (known : Known) (asked : Command) (refused : Record → Option Refusal) (r : Record) → record_of known asked ≡ Some r → of_made known asked refused ≡ None →
+    refused r ≡ None
+of_one known asked refused r is none = subst (λ (made : Option Record). option_and_then refused made ≡ None) is none
 
-of_one : (made : Option Record) (refused : Record → Option Refusal) (r : Record) → made ≡ Some r → option_and_then refused made ≡ None → refused r ≡ None
-of_one made refused r is none = subst (λ (made : Option Record). option_and_then refused made ≡ None) is none
+taken_of : (known : Known) (asked : Command) (r : Record) → record_of known asked ≡ Some r →
+    of_made known asked (λ made. unit_taken known.households made.household (change_by made)) ≡ None → unit_taken known.households r.household (change_by r) ≡ None
+taken_of known asked = of_one known asked (λ made. unit_taken known.households made.household (change_by made))
 
-order_of : (known : Known) (asked : Command) (r : Record) → record_of known asked ≡ Some r → disorder_in known asked ≡ None →
-    disorder (own_in known r.household) (adding r) ≡ None
-order_of known asked r is none = of_one (record_of known asked) (λ made. disorder (own_in known made.household) (adding made)) r is none
-
-taken_of : (known : Known) (asked : Command) (r : Record) → record_of known asked ≡ Some r → unit_taken_in known asked ≡ None →
-    unit_taken known.households r.household (adding r) ≡ None
-taken_of known asked r is none = of_one (record_of known asked) (λ made. unit_taken known.households made.household (adding made)) r is none
+order_of : (known : Known) (asked : Command) (r : Record) → record_of known asked ≡ Some r →
+    of_made known asked (λ made. disorder (own_in known made.household) (change_by made)) ≡ None → disorder (own_in known r.household) (change_by r) ≡ None
+order_of known asked = of_one known asked (λ made. disorder (own_in known made.household) (change_by made))
 
 -- the household that comes next has no records
 none_yet : (known : Known) (household : ℕ) → household ≡ length known.households + 1 → own_in known household ≡ []
@@ -85,135 +76,92 @@ find_holds {X} p P (y ∷ ys) x is all = by_test (find_holds p P ys x) (p y) ref
 find_passes : {X : Type 0} (p : X → Bool) (xs : List X) (x : X) → find p xs ≡ Some x → p x ≡ true
 find_passes p xs x is = (find_holds p (λ x. Unit {0}) xs x is (λ k d within. tt)).1
 
-on_facts : (kind : Kind) → rests_on_facts kind ≡ true → is_withdrawal kind ≡ false
-on_facts kind.WD rests = absurd (cc)
-on_facts _ rests = refl
+-- ---- the first record of a household
 
-pub tried : (known : Known) (today : ℕ) (asked : Command) (r : Record) → first_of (refusals_of known today asked) ≡ None → record_of known asked ≡ Some r →
-    Tried known r
-tried known today (command.Start start) r none is =
-    let under = under_own known (command.Start start) r is _ refl in
-    let kind : r.kind ≡ kind.IC = ap (λ (r : Record). r.kind) under.is in
-    let new : r.household ≡ length known.households + 1 = ap (λ (r : Record). r.household) under.is in
+first_tried : (known : Known) (asked : Command) (r : Record) (heading : Heading) → record_of known asked ≡ Some r → heading_of known asked ≡ Some heading →
+    heading.household ≡ length known.households + 1 → may_begin heading.kind ≡ true → heading.corrects ≡ 0 → is_withdrawal heading.kind ≡ false →
+    unit_taken known.households r.household (change_by r) ≡ None → Tried known r
+first_tried known asked r heading is own new may zero counts free =
+    let under = under_own known asked r is heading own in
+    let kind : r.kind ≡ heading.kind = ap (λ (r : Record). r.kind) under.is in
+    let corrects : r.corrects ≡ 0 = ap (λ (r : Record). r.corrects) under.is ∙ zero in
     record {
-      ordered = begins (none_yet known r.household new) (ap may_begin kind) (ap (λ (r : Record). r.corrects) under.is) (ap is_withdrawal kind);
-      placed = taken_by_none (ap is_withdrawal kind) (taken_of known (command.Start start) r is (none_at (of_start known start) 4 none));
-      names = names_none (ap (λ (r : Record). r.corrects) under.is);
+      ordered = begins (none_yet known r.household (ap (λ (r : Record). r.household) under.is ∙ new)) (ap may_begin kind ∙ may) corrects (ap is_withdrawal kind ∙ counts);
+      placed = taken_by_none free;
+      names = names_none corrects;
     }
-tried known today (command.Admit admit) r none is =
-    let under = under_own known (command.Admit admit) r is _ refl in
-    let kind : r.kind ≡ kind.MI = ap (λ (r : Record). r.kind) under.is in
-    let new : r.household ≡ length known.households + 1 = ap (λ (r : Record). r.household) under.is in
-    record {
-      ordered = begins (none_yet known r.household new) (ap may_begin kind) (ap (λ (r : Record). r.corrects) under.is) (ap is_withdrawal kind);
-      placed = taken_by_none (ap is_withdrawal kind)
-          (taken_of known (command.Admit admit) r is (none_at (of_admit_then known admit) 1 (none_at (refusals_of known today (command.Admit admit)) 1 none)));
-      names = names_none (ap (λ (r : Record). r.corrects) under.is);
-    }
-tried known today (command.Annual annual) r none is =
-    let under = under_own known (command.Annual annual) r is _ refl in
-    let kind : r.kind ≡ kind.AR = ap (λ (r : Record). r.kind) under.is in
-    let order : disorder (own_in known r.household) (adding r) ≡ None = order_of known (command.Annual annual) r is (none_at (of_annual known annual) 7 none) in
-    record {
-      ordered = added (ap is_withdrawal kind) order;
-      placed = kept (ap is_withdrawal kind) (ap may_begin kind) (ap is_transfer kind) (ap (λ (r : Record). r.corrects) under.is);
-      names = names_none (ap (λ (r : Record). r.corrects) under.is);
-    }
-tried known today (command.Interim interim) r none is =
-    let under = under_own known (command.Interim interim) r is _ refl in
-    let kind : r.kind ≡ kind.IR = ap (λ (r : Record). r.kind) under.is in
-    let order : disorder (own_in known r.household) (adding r) ≡ None = order_of known (command.Interim interim) r is (none_at (of_interim_then known interim) 2 (none_at (refusals_of known today (command.Interim interim)) 1 none)) in
-    record {
-      ordered = added (ap is_withdrawal kind) order;
-      placed = kept (ap is_withdrawal kind) (ap may_begin kind) (ap is_transfer kind) (ap (λ (r : Record). r.corrects) under.is);
-      names = names_none (ap (λ (r : Record). r.corrects) under.is);
-    }
-tried known today (command.Resume resume) r none is =
-    let under = under_own known (command.Resume resume) r is _ refl in
-    let kind : r.kind ≡ kind.IC = ap (λ (r : Record). r.kind) under.is in
-    let order : disorder (own_in known r.household) (adding r) ≡ None = order_of known (command.Resume resume) r is (none_at (of_resume_then known resume) 2 (none_at (refusals_of known today (command.Resume resume)) 1 none)) in
-    record {
-      ordered = added (ap is_withdrawal kind) order;
-      placed = taken_by_none (ap is_withdrawal kind) (taken_of known (command.Resume resume) r is (none_at (of_resume_then known resume) 3 (none_at (refusals_of known today (command.Resume resume)) 1 none)));
-      names = names_none (ap (λ (r : Record). r.corrects) under.is);
-    }
-tried known today (command.Gross gross) r none is =
-    let under = under_own known (command.Gross gross) r is _ refl in
-    let kind : r.kind ≡ kind.GR = ap (λ (r : Record). r.kind) under.is in
-    let order : disorder (own_in known r.household) (adding r) ≡ None = order_of known (command.Gross gross) r is (none_at (of_gross known gross) 6 none) in
-    record {
-      ordered = added (ap is_withdrawal kind) order;
-      placed = kept (ap is_withdrawal kind) (ap may_begin kind) (ap is_transfer kind) (ap (λ (r : Record). r.corrects) under.is);
-      names = names_none (ap (λ (r : Record). r.corrects) under.is);
-    }
-tried known today (command.Correct correct) r none is =
-    option_and_then_some _ (record_at (own_in known correct.household) correct.target) r is (λ target found made.
-    let under = under_own known (command.Correct correct) r is (correction_heading correct.household target correct.from)
-    (ap (option_map (λ target. correction_heading correct.household target correct.from)) found) in
-    let rests : rests_on_facts target.kind ≡ true =
-    rests_on found (none_at (of_correct_first known correct) 1 (none_at (refusals_of known today (command.Correct correct)) 0 none)) in
-    let kind : is_withdrawal r.kind ≡ false = ap is_withdrawal (ap (λ (r : Record). r.kind) under.is) ∙ on_facts target.kind rests in
-    record {
-      ordered = added kind (order_of known (command.Correct correct) r is (none_at (of_correct_then known correct) 4 (none_at (refusals_of known today (command.Correct correct)) 1 none)));
-      placed = taken_by_none kind (taken_of known (command.Correct correct) r is (none_at (of_correct_then known correct) 5 (none_at (refusals_of known today (command.Correct correct)) 1 none)));
-      names = names_one target (subst₂ (λ (household target_number : ℕ). record_at (own_in known household) target_number ≡ Some target)
-          (sym (ap (λ (r : Record). r.household) under.is)) (sym (ap (λ (r : Record). r.corrects) under.is
-          ∙ eqb-true target.number correct.target (find_passes (λ (r : Record). r.number == correct.target) (own_in known correct.household) target found))) found);
-    })
-  where
-    rests_on : {target : Record} → record_at (own_in known correct.household) correct.target ≡ Some target →
-        no_target (own_in known correct.household) correct.target ≡ None → rests_on_facts target.kind ≡ true
-    rests_on {target} found none =
-        passes (rests_on_facts target.kind)
-        (subst (λ (found : Option Record). (if option_map_or (λ r. rests_on_facts r.kind) found false then None else Some (refusal.NoSuch named.Record correct.target)) ≡ None) found none)
-      where
-        passes : (b : Bool) → (if b then None else Some (refusal.NoSuch named.Record correct.target)) ≡ None → b ≡ true
-        passes true none = refl
-        passes false none = absurd (cc)
-tried known today (command.Transfer transfer) r none is =
-    let under = under_own known (command.Transfer transfer) r is _ refl in
-    let kind : r.kind ≡ kind.UT = ap (λ (r : Record). r.kind) under.is in
-    let order : disorder (own_in known r.household) (adding r) ≡ None = order_of known (command.Transfer transfer) r is (none_at (of_transfer_then known transfer) 0 (none_at (refusals_of known today (command.Transfer transfer)) 1 none)) in
-    record {
-      ordered = added (ap is_withdrawal kind) order;
-      placed = taken_by_none (ap is_withdrawal kind) (taken_of known (command.Transfer transfer) r is (none_at (of_transfer_then known transfer) 2 (none_at (refusals_of known today (command.Transfer transfer)) 1 none)));
-      names = names_none (ap (λ (r : Record). r.corrects) under.is);
-    }
-tried known today (command.MoveOut move_out) r none is =
-    let under = under_own known (command.MoveOut move_out) r is _ refl in
-    let kind : r.kind ≡ kind.MO = ap (λ (r : Record). r.kind) under.is in
-    let order : disorder (own_in known r.household) (adding r) ≡ None = order_of known (command.MoveOut move_out) r is (none_at (refusals_of known today (command.MoveOut move_out)) 4 none) in
-    record {
-      ordered = added (ap is_withdrawal kind) order;
-      placed = moved_out (ap is_withdrawal kind) (ap is_move_out kind) (ap (λ (r : Record). r.corrects) under.is);
-      names = names_none (ap (λ (r : Record). r.corrects) under.is);
-    }
-tried known today (command.Terminate terminate) r none is =
-    let under = under_own known (command.Terminate terminate) r is _ refl in
-    let kind : r.kind ≡ kind.TM = ap (λ (r : Record). r.kind) under.is in
-    let order : disorder (own_in known r.household) (adding r) ≡ None = order_of known (command.Terminate terminate) r is (none_at (refusals_of known today (command.Terminate terminate)) 4 none) in
-    record {
-      ordered = added (ap is_withdrawal kind) order;
-      placed = kept (ap is_withdrawal kind) (ap may_begin kind) (ap is_transfer kind) (ap (λ (r : Record). r.corrects) under.is);
-      names = names_none (ap (λ (r : Record). r.corrects) under.is);
-    }
-tried known today (command.Withdraw withdraw) r none is =
-    option_map_some _ (record_at (own_in known withdraw.household) withdraw.target) r is (λ target found made.
-    let under = under_own known (command.Withdraw withdraw) r is (withdrawal_heading withdraw.household target)
-    (ap (option_map (λ target. withdrawal_heading withdraw.household target)) found) in
-    let kind : is_withdrawal r.kind ≡ true = ap is_withdrawal (ap (λ (r : Record). r.kind) under.is) in
-    let household : withdraw.household ≡ r.household = sym (ap (λ (r : Record). r.household) under.is) in
-    let number : target.number ≡ withdraw.target =
-    eqb-true target.number withdraw.target (find_passes (λ (r : Record). r.number == withdraw.target) (own_in known withdraw.household) target found) in
-    let corrects : withdraw.target ≡ r.corrects = sym (ap (λ (r : Record). r.corrects) under.is ∙ number) in
-    record {
-      ordered = dropped kind
-          (subst₂ (λ (household target : ℕ). disorder (own_in known household) (dropping target) ≡ None) household corrects
-          (none_at (refusals_of known today (command.Withdraw withdraw)) 5 none));
-      placed = left_to_none kind
-          (subst₂ (λ (household target : ℕ). unit_taken known.households household (dropping target) ≡ None) household corrects
-          (none_at (refusals_of known today (command.Withdraw withdraw)) 6 none));
-      names = names_one target
-          (subst₂ (λ (household target_number : ℕ). record_at (own_in known household) target_number ≡ Some target) household corrects found);
-    })
-tried known today _ r none is = absurd (cc)
+
+-- ---- a further one
+
+-- of a heading by which a record may be judged to stay where its household was
+its_kind : {own heading : Heading} → Some own ≡ Some heading → own.kind ≡ heading.kind
+its_kind same = ap (λ (h : Heading). h.kind) (same_Some _ _ same)
+
+its_corrects : {own heading : Heading} → Some own ≡ Some heading → own.corrects ≡ heading.corrects
+its_corrects same = ap (λ (h : Heading). h.corrects) (same_Some _ _ same)
+
+module _ (known : Known) (act : HouseholdAct) (r : Record) (is : record_of known (command.Household act) ≡ Some r) where
+  headed : IsHeaded known (command.Household act) r
+  headed = made_is_headed known (command.Household act) r is
+
+  kind_is : r.kind ≡ headed.heading.kind
+  kind_is = ap (λ (r : Record). r.kind) headed.under.is
+
+  corrects : r.corrects ≡ headed.heading.corrects
+  corrects = ap (λ (r : Record). r.corrects) headed.under.is
+
+  household : r.household ≡ act.household
+  household = ap (λ (r : Record). r.household) headed.under.is ∙ of_household known act.household act.change headed.heading headed.is_its
+
+  one_of : (number : ℕ) (target : Record) → record_at (own_in known act.household) number ≡ Some target → target.number ≡ headed.heading.corrects → Names known r
+  one_of number target found same =
+      let passes : target.number ≡ number = eqb-true target.number number (find_passes (λ (r : Record). r.number == number) (own_in known act.household) target found) in
+      names_one target (subst₂ (λ (household number : ℕ). record_at (own_in known household) number ≡ Some target) (sym household) (sym passes ∙ same ∙ sym corrects) found)
+
+  names_by : (done : HouseholdChange) → heading_for known act.household done ≡ Some headed.heading → Names known r
+  names_by (change.Correct correct) own =
+      option_map_some (λ target. correction_heading act.household target correct.from) (record_at (own_in known act.household) correct.target) headed.heading own
+      (λ target found same. one_of correct.target target found (ap (λ (h : Heading). h.corrects) same))
+  names_by (change.Withdraw withdraw) own =
+      option_map_some (λ target. withdrawal_heading act.household target) (record_at (own_in known act.household) withdraw.target) headed.heading own
+      (λ target found same. one_of withdraw.target target found (ap (λ (h : Heading). h.corrects) same))
+  names_by (change.Annual annual) own = names_none (corrects ∙ sym (its_corrects own))
+  names_by (change.Interim interim) own = names_none (corrects ∙ sym (its_corrects own))
+  names_by (change.Resume resume) own = names_none (corrects ∙ sym (its_corrects own))
+  names_by (change.Gross gross) own = names_none (corrects ∙ sym (its_corrects own))
+  names_by (change.Transfer transfer) own = names_none (corrects ∙ sym (its_corrects own))
+  names_by (change.MoveOut move_out) own = names_none (corrects ∙ sym (its_corrects own))
+  names_by (change.Terminate terminate) own = names_none (corrects ∙ sym (its_corrects own))
+
+  -- it stays, by a kind that neither begins a tenancy, nor moves or withdraws
+  stays : {own : Heading} → is_withdrawal own.kind ≡ false → may_begin own.kind ≡ false → is_transfer own.kind ≡ false → own.corrects ≡ 0 → Some own ≡ Some headed.heading → Placed known r
+  stays counts later_one transfers zero own =
+      let same = kind_is ∙ sym (its_kind own) in
+      kept (ap is_withdrawal same ∙ counts) (ap may_begin same ∙ later_one) (ap is_transfer same ∙ transfers) (corrects ∙ sym (its_corrects own) ∙ zero)
+
+  placed_by : (done : HouseholdChange) → heading_for known act.household done ≡ Some headed.heading →
+      (if may_collide_in done then of_made known (command.Household act) (λ made. unit_taken known.households made.household (change_by made)) else None) ≡ None →
+      Placed known r
+  placed_by (change.Annual annual) own free = stays refl refl refl refl own
+  placed_by (change.Interim interim) own free = stays refl refl refl refl own
+  placed_by (change.Gross gross) own free = stays refl refl refl refl own
+  placed_by (change.Terminate terminate) own free = stays refl refl refl refl own
+  placed_by (change.MoveOut move_out) own free =
+      let same = kind_is ∙ sym (its_kind own) in
+      moved_out (ap is_withdrawal same) (ap is_move_out same) (corrects ∙ sym (its_corrects own))
+  placed_by (change.Resume resume) own free = taken_by_none (taken_of known (command.Household act) r is free)
+  placed_by (change.Correct correct) own free = taken_by_none (taken_of known (command.Household act) r is free)
+  placed_by (change.Transfer transfer) own free = taken_by_none (taken_of known (command.Household act) r is free)
+  placed_by (change.Withdraw withdraw) own free = taken_by_none (taken_of known (command.Household act) r is free)
+
+pub tried : (known : Known) (most today : ℕ) (asked : Command) (r : Record) → Passed known most today asked → record_of known asked ≡ Some r → Tried known r
+tried known most today (command.Start start) r free is =
+    first_tried known (command.Start start) r _ is refl refl refl refl refl (taken_of known (command.Start start) r is free.unit_taken)
+tried known most today (command.Admit admit) r free is =
+    first_tried known (command.Admit admit) r _ is refl refl refl refl refl (taken_of known (command.Admit admit) r is free.unit_taken)
+tried known most today (command.Household act) r free is = record {
+  ordered = judged (order_of known (command.Household act) r is free.disorder);
+  placed = placed_by known act r is act.change (headed known act r is).is_its free.unit_taken;
+  names = names_by known act r is act.change (headed known act r is).is_its;
+}
+tried known most today _ r free is = absurd (cc)

@@ -19,12 +19,12 @@ use Rattle.office_step.specs.declared.call.Capacity.{Capacity}
 use Rattle.office_step.specs.declared.refusal.Refusal.TheVariants as refusal
 use Rattle.office_step.specs.Acts.{Act, acts_of, unit_in, unit_row, units_of}
 use Rattle.office_step.specs.Known.{known_of}
-use Rattle.office_step.specs.Refusals.{first_of, name_taken}
+use Rattle.office_step.specs.Refusals.{name_taken}
+use Rattle.office_step.specs.Against as against
 use Rattle.office_step.specs.Reply.{acts_up_to}
-use Rattle.office_step.specs.Step.{refusals_of, IsAppended, IsReached, reached_empty, reached_more}
+use Rattle.office_step.specs.Step.{IsAppended, IsReached, reached_empty, reached_more}
 use Rattle.office_laws.specs.AtHand.{UnitReplies}
-use Rattle.office_laws.proofs.Inversion.{none_at, accepted}
-use Rattle.office_laws.proofs.Heading.{own_free}
+use Rattle.office_laws.proofs.Inversion.{passes}
 use Rattle.office_laws.proofs.Grown.{units-more}
 use Rattle.office_laws.proofs.Reached.{act_made, acts_appended, books_are_kept}
 use Rattle.office_laws.proofs.Replies.{acts_stay, numbered_there}
@@ -76,7 +76,7 @@ module _ (capacity : Capacity) (book : Book) (rows : Batch) (reached : IsReached
   new_is_named unit is =
       ap (λ (acts : List Act). unit_named (units_of acts) unit.name) (acts_appended appends)
       ∙ ap (λ (units : List UnitRow). unit_named units unit.name) more
-      ∙ named_next units (unit_row (length units + 1) unit) (untaken units unit.name (none_at (refusals_of (known_of book) rows.act.day (command.Unit unit)) 0 free))
+      ∙ named_next units (unit_row (length units + 1) unit) (untaken units unit.name free)
       ∙ sym (ap (λ (acts : List Act). Some (length (units_of acts))) (whole capacity book rows reached appends)
       ∙ ap (λ (units : List UnitRow). Some (length units)) more
       ∙ ap (λ (count : ℕ). Some count) (length_push units (unit_row (length units + 1) unit)))
@@ -84,10 +84,8 @@ module _ (capacity : Capacity) (book : Book) (rows : Batch) (reached : IsReached
       more : units_of (acts_of book.acts ++ act_made appends ∷ []) ≡ units ++ unit_row (length units + 1) unit ∷ []
       more = one_unit_more (acts_of book.acts) (act_made appends) unit (ap unit_in is)
 
-      free : first_of (refusals_of (known_of book) rows.act.day (command.Unit unit)) ≡ None
-      free =
-          subst (λ (asked : Command). first_of (refusals_of (known_of book) rows.act.day asked) ≡ None) is
-          (own_free (known_of book) capacity.acts rows.act.day appends.call.command (accepted capacity book rows appends).is_allowed)
+      free : against.name_taken (known_of book) (command.Unit unit) ≡ None
+      free = subst (λ (asked : Command). against.name_taken (known_of book) asked ≡ None) is (passes capacity book rows appends).name_taken
 
 pub unit_replies : UnitReplies
 unit_replies capacity _ reached_empty row there unit is = absurd (omega (arith, there.1))

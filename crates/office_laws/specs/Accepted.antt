@@ -9,7 +9,8 @@ use Rattle.office_step.specs.declared.call.Capacity.{Capacity}
 use Rattle.office_step.specs.Known.{known_of}
 use Rattle.office_step.specs.Made.{record_of, lines_of}
 use Rattle.office_step.specs.Refusals.{repeated, request_reused, lines_full}
-use Rattle.office_step.specs.Step.{act_day, refused_by, step, appends, is_fit_call, IsAppended}
+use Rattle.office_step.specs.Step.{act_day, step, appends, is_fit_call, IsAppended}
+use Rattle.office_step.specs.Against.{refused_by}
 
 -- the call is no repeat, nothing refuses it, and the rows are those of its act
 pub record Accepted (capacity : Capacity) (book : Book) (call : Call) (rows : Batch) : Type 0 where

@@ -19,7 +19,8 @@ use Rattle.office_step.specs.Known.{Known, known_of}
 use Rattle.office_step.specs.Made.{record_of}
 use Rattle.office_step.specs.Refusals.{is_request_of, repeated, request_reused}
 use Rattle.office_step.specs.Reply.{acts_up_to, certified, closed, done_of}
-use Rattle.office_step.specs.Step.{last_day, last_act_day, act_day, refused_by, IsAppended, IsReached}
+use Rattle.office_step.specs.Step.{last_act_day, act_day, IsAppended, IsReached}
+use Rattle.office_step.specs.Against.{last_day, refused_by}
 
 -- ---- requests
 

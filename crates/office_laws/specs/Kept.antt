@@ -10,7 +10,8 @@ use Rattle.command_forms.specs.Commands.{command_in}
 use Rattle.office_step.specs.declared.call.Capacity.{Capacity}
 use Rattle.office_step.specs.Acts.{Act, acts_of, plan_of, applications_of, takes_off_list, household_count, ask_in}
 use Rattle.office_step.specs.Refusals.{is_request_of}
-use Rattle.office_step.specs.Step.{first_day, last_day, IsAppended, IsReached}
+use Rattle.office_step.specs.Step.{IsAppended, IsReached}
+use Rattle.office_step.specs.Against.{first_day, last_day}
 
 -- the number of one of so many
 pub record IsOneOf (count number : ℕ) : Type 0 where

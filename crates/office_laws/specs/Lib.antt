@@ -9,3 +9,4 @@ pub mod Taken
 pub mod Conserved
 pub mod Closing
 pub mod Replay
+pub mod InTurn

@@ -9,6 +9,8 @@ use Rattle.wait_list.specs.Next.{next_candidate}
 use Rattle.book_rows.specs.declared.rows.Batch.{Batch}
 use Rattle.book_rows.specs.declared.command.Command.{Command}
 use Rattle.book_rows.specs.declared.command.Command.TheVariants as command
+use Rattle.book_rows.specs.declared.household.HouseholdChange.{HouseholdChange}
+use Rattle.book_rows.specs.declared.household.HouseholdChange.TheVariants as change
 use Rattle.book_rows.specs.Book.{Book}
 use Rattle.office_step.specs.declared.call.Capacity.{Capacity}
 use Rattle.office_step.specs.Known.{Known, known_of}
@@ -24,9 +26,13 @@ pub record IsNextFor (known : Known) (unit day : ℕ) (candidate : Candidate) : 
   pub is_next : next_candidate (asked_of plan row day (limits_on known.limits day) known.requests known.households) known.waiting ≡ Some candidate
 
 -- an admission takes the applicant, and a transfer the household, that is next for its unit on its first day
+abbrev pub TakesNextBy : Known → ℕ → HouseholdChange → Type 0
+TakesNextBy known household (change.Transfer transfer) = IsNextFor known transfer.unit transfer.from (candidate.Household household)
+TakesNextBy known household _ = ⊤
+
 abbrev pub TakesNext : Known → Command → Type 0
 TakesNext known (command.Admit admit) = IsNextFor known admit.unit admit.from (candidate.Applicant admit.applicant)
-TakesNext known (command.Transfer transfer) = IsNextFor known transfer.unit transfer.from (candidate.Household transfer.household)
+TakesNext known (command.Household act) = TakesNextBy known act.household act.change
 TakesNext known _ = ⊤
 
 abbrev pub NextIsTaken : Type 0

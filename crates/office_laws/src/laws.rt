@@ -8,6 +8,7 @@ ghost use Rattle.office_laws.specs.Taken.{NextIsTaken};
 ghost use Rattle.office_laws.specs.Conserved.{LinesAreSettled, LinesTotalWhatIsDue};
 ghost use Rattle.office_laws.specs.Closing.{KnownAsOfStays, ClosingsNameTheirPairs, RentsAreDoneAtClosings};
 ghost use Rattle.office_laws.specs.After.{KnownAfter};
+ghost use Rattle.office_laws.specs.InTurn.{TestsAreNumbered, LeastIsTold};
 
 /// What is appended to a book is what its call asks for, and nothing refuses it; and what the office appends for a call is
 /// so appended. It does nothing.
@@ -79,4 +80,11 @@ pub fn rows_came_by_acts()
 pub fn acts_give_the_book()
     ensures whole { ActsGiveTheBook }
     ensures each { RedoneIsAppended }
+{}
+
+/// The refusal of a call is the one of the least number that stands: each test refuses under the number of its place. It
+/// does nothing.
+pub fn refusals_stand_in_order()
+    ensures numbered { TestsAreNumbered }
+    ensures least { LeastIsTold }
 {}

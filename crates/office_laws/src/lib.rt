@@ -11,5 +11,6 @@ pub use at_hand::{
 pub use laws::{
     acts_give_the_book, appended_is_accepted, batches_follow, books_are_kept,
     closings_are_in_order, households_are_in_order, known_after_each_act, lines_total_what_is_due,
-    next_is_taken, no_unit_is_shared, repeats_are_answered, rows_came_by_acts,
+    next_is_taken, no_unit_is_shared, refusals_stand_in_order, repeats_are_answered,
+    rows_came_by_acts,
 };

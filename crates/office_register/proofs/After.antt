@@ -17,10 +17,11 @@ use Rattle.book_rows.specs.declared.certifications.StartAct.{StartAct}
 use Rattle.book_rows.specs.declared.certifications.AdmitAct.{AdmitAct}
 use Rattle.book_rows.specs.declared.command.Command.{Command}
 use Rattle.book_rows.specs.declared.command.Command.TheVariants as command
+use Rattle.book_rows.specs.declared.household.HouseholdAct.{HouseholdAct}
 use Rattle.office_step.specs.Acts.{unit_row, rent_row, limit_row, application_by, request_by}
 use Rattle.office_step.specs.Known.{Known}
 use Rattle.office_step.specs.After.{applying, known_after}
-use Rattle.office_register.specs.Accepted.{applicant_name, is_further, with_household, with_further}
+use Rattle.office_register.specs.Accepted.{applicant_name, with_household, with_further}
 use Rattle.office_register.proofs.Lists.{filter_whole, filter-same, same_number, or_none}
 
 pub after_unit : (known : Known) (unit : UnitAct) → known_after known (command.Unit unit) None ≡
@@ -81,27 +82,9 @@ after_admission known admit r =
     ) refl
 
 -- a record more of a household that there is
-pub after_record : (known : Known) (asked : Command) (r : Record) → is_further asked ≡ true → known_after known asked (Some r) ≡ with_further known r
-after_record known (command.Annual annual) r is = simp (append-nil, filter_whole, or_none) refl
-after_record known (command.Interim interim) r is = simp (append-nil, filter_whole, or_none) refl
-after_record known (command.Resume resume) r is = simp (append-nil, filter_whole, or_none) refl
-after_record known (command.Gross gross) r is = simp (append-nil, filter_whole, or_none) refl
-after_record known (command.Correct correct) r is = simp (append-nil, filter_whole, or_none) refl
-after_record known (command.Transfer transfer) r is = simp (append-nil, filter_whole, or_none) refl
-after_record known (command.MoveOut move_out) r is = simp (append-nil, filter_whole, or_none) refl
-after_record known (command.Terminate terminate) r is = simp (append-nil, filter_whole, or_none) refl
-after_record known (command.Withdraw withdraw) r is = simp (append-nil, filter_whole, or_none) refl
-after_record known _ r is = absurd (false≢true is)
+pub after_record : (known : Known) (act : HouseholdAct) (r : Record) → known_after known (command.Household act) (Some r) ≡ with_further known r
+after_record known act r = simp (append-nil, filter_whole, or_none) refl
 
 -- nothing more
-pub after_nothing : (known : Known) (asked : Command) → is_further asked ≡ true → known_after known asked None ≡ record known { count = known.count + 1 }
-after_nothing known (command.Annual annual) is = simp (append-nil, filter_whole, or_none) refl
-after_nothing known (command.Interim interim) is = simp (append-nil, filter_whole, or_none) refl
-after_nothing known (command.Resume resume) is = simp (append-nil, filter_whole, or_none) refl
-after_nothing known (command.Gross gross) is = simp (append-nil, filter_whole, or_none) refl
-after_nothing known (command.Correct correct) is = simp (append-nil, filter_whole, or_none) refl
-after_nothing known (command.Transfer transfer) is = simp (append-nil, filter_whole, or_none) refl
-after_nothing known (command.MoveOut move_out) is = simp (append-nil, filter_whole, or_none) refl
-after_nothing known (command.Terminate terminate) is = simp (append-nil, filter_whole, or_none) refl
-after_nothing known (command.Withdraw withdraw) is = simp (append-nil, filter_whole, or_none) refl
-after_nothing known _ is = absurd (false≢true is)
+pub after_nothing : (known : Known) (act : HouseholdAct) → known_after known (command.Household act) None ≡ record known { count = known.count + 1 }
+after_nothing known act = simp (append-nil, filter_whole, or_none) refl

@@ -20,20 +20,13 @@ use Rattle.book_rows.specs.Fit.{is_fit, are_rents}
 use Rattle.office_step.specs.declared.refusal.Refusal.{Refusal}
 use Rattle.office_step.specs.declared.refusal.Refusal.TheVariants as refusal
 use Rattle.office_step.specs.Known.{Known}
-use Rattle.office_step.specs.Refusals.{first_of, no_plan, plan_given, book_full}
-use Rattle.office_step.specs.Step.{is_plan, refusals_of}
+use Rattle.office_step.specs.Refusals.{plan_given, book_full}
+use Rattle.office_step.proofs.Passed.{Passed, passed}
 use Rattle.office_register.specs.Accepted.{IsAccepted}
 use Rattle.office_register.proofs.Lists.{find_none}
 
--- none of the refusals stands
-abbrev pub AllNone : List (Option Refusal) → Type 0
-AllNone [] = Unit {0}
-AllNone (refused ∷ rest) = (refused ≡ None) × AllNone rest
-
-pub all_none : (refused : List (Option Refusal)) → first_of refused ≡ None → AllNone refused
-all_none [] none = tt
-all_none (None ∷ rest) none = (refl, all_none rest none)
-all_none (Some first ∷ rest) none = absurd (none-some first (sym none))
+pub passes : {known : Known} {asked : Command} {made : Option Record} → (a : IsAccepted known asked made) → Passed known a.most a.today asked
+passes {known} {asked} {made} a = passed known a.most a.today asked a.free
 
 has_room : (held capacity : ℕ) → book_full held capacity ≡ None → held < capacity
 has_room held capacity none = by_test (nat_le capacity held) refl
@@ -42,23 +35,8 @@ has_room held capacity none = by_test (nat_le capacity held) refl
     by_test true is = absurd (none-some (refusal.BookFull held) (sym (rw is at none)))
     by_test false is = grind (arith, nat_tests)
 
--- what holds of every accepted act
-pub record IsFree (known : Known) (today : ℕ) (asked : Command) : Type 0 where
-  pub planned : no_plan known.plan_act (is_plan asked) ≡ None
-  pub given : plan_given known.plan_act (is_plan asked) ≡ None
-  pub few : known.count < 100000
-  pub own : AllNone (refusals_of known today asked)
-
-pub is_free : {known : Known} {asked : Command} {made : Option Record} → (a : IsAccepted known asked made) → IsFree known a.today asked
-is_free {known} {asked} {made} a =
-    let free : AllNone (no_plan known.plan_act (is_plan asked) ∷ plan_given known.plan_act (is_plan asked) ∷ book_full known.count a.most ∷ first_of (refusals_of known a.today asked) ∷ []) =
-    all_none (no_plan known.plan_act (is_plan asked) ∷ plan_given known.plan_act (is_plan asked) ∷ book_full known.count a.most ∷ first_of (refusals_of known a.today asked) ∷ []) a.free in
-    record {
-      planned = free.0;
-      given = free.1.0;
-      few = omega (arith, has_room known.count a.most free.1.1.0, a.few);
-      own = all_none (refusals_of known a.today asked) free.1.1.1.0;
-    }
+pub few : {known : Known} {asked : Command} {made : Option Record} → (a : IsAccepted known asked made) → known.count < 100000
+few {known} {asked} {made} a = omega (arith, has_room known.count a.most (passes a).book_full, a.few)
 
 -- ---- single refusals
 

@@ -12,7 +12,7 @@ use Rattle.office_step.specs.Acts.{at_number}
 use Rattle.office_step.specs.Known.{Known, own_in}
 use Rattle.office_step.specs.After.{next_act}
 use Rattle.office_step.specs.Made.{record_of}
-use Rattle.office_step.specs.Step.{refused_by}
+use Rattle.office_step.specs.Against.{refused_by}
 
 -- The command is fit, nothing stands against it in an office of at most 100,000 acts on a day up to 2099-12-31, and this
 -- is the record that it makes, if it makes one.
@@ -33,19 +33,6 @@ applicant_name applications number = unwrap_or (option_map (λ application. appl
 pub record IsNext (known : Known) (r : Record) : Type 0 where
   pub number : r.number ≡ newest_number (own_in known r.household) + 1
   pub act : r.act ≡ next_act known
-
--- the act goes on with a household that there is, by a record or without one
-abbrev pub is_further : Command → Bool
-is_further (command.Annual annual) = true
-is_further (command.Interim interim) = true
-is_further (command.Resume resume) = true
-is_further (command.Gross gross) = true
-is_further (command.Correct correct) = true
-is_further (command.Transfer transfer) = true
-is_further (command.MoveOut move_out) = true
-is_further (command.Terminate terminate) = true
-is_further (command.Withdraw withdraw) = true
-is_further _ = false
 
 -- what is known with a household more, of that name and first record
 abbrev pub with_household : Known → List ℕ → Record → Known

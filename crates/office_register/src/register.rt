@@ -3,8 +3,8 @@ ghost use Rattle.wait_list.specs.Rank.{best_rank};
 ghost use Rattle.office_step.specs.Acts.{ranks_of};
 
 use book_rows::{
-    AdmitAct, ApplyAct, AskTransferAct, CloseAct, Command, LimitsAct, RemoveAct, RentsAct,
-    StartAct, UnitAct,
+    AdmitAct, ApplyAct, AskTransferAct, CloseAct, Command, HouseholdAct, LimitsAct, RemoveAct,
+    RentsAct, StartAct, UnitAct,
 };
 use days_core::Month;
 use office_step::{Application, Closed, Request};
@@ -55,7 +55,7 @@ impl Register {
     ghost use Rattle.office_step.specs.Known.{known_of};
     ghost use Rattle.office_step.specs.After.{next_act, known_after};
     ghost use Rattle.office_register.specs.Registered.{HasDates};
-    ghost use Rattle.office_register.specs.Accepted.{IsAccepted, IsNext, is_further, with_household, with_further};
+    ghost use Rattle.office_register.specs.Accepted.{IsAccepted, IsNext, with_household, with_further};
 
     pub fn new(alloc: Global) -> Result<Register, NoMemory>
         ensures { IfOk result (λ register. register.known ≡ known_of empty_book) }
@@ -200,7 +200,7 @@ impl Register {
             Command::Admit(admit) => self.note_admission(admit, name, made),
             Command::AskTransfer(ask) => self.note_request(ask),
             Command::Close(close) => self.note_closing(close),
-            further => self.note_further(&further, made),
+            Command::Household(act) => self.note_further(&act, made),
         }
     }
 
@@ -442,13 +442,12 @@ impl Register {
         self.history.push(held);
     }
 
-    fn note_further(&mut self, asked: &Command, made: Option<Record>)
+    fn note_further(&mut self, act: &HouseholdAct, made: Option<Record>)
         requires record_room { IfSome made (λ r. 1 ≤ room_of self.old.record_room r.household) }
-        requires further { is_further asked.now ≡ true }
-        requires accepted { IsAccepted self.old.known asked.now made }
+        requires accepted { IsAccepted self.old.known (command.Household act.now) made }
         requires within { IfSome made IsWithin }
         requires dates { IfSome made HasDates }
-        ensures { self.new.known ≡ known_after self.old.known asked.now made }
+        ensures { self.new.known ≡ known_after self.old.known (command.Household act.now) made }
     {
         match made {
             Some(held) => self.hold(held),

@@ -1,2 +1,2 @@
-pub mod FirstOf
-pub mod Begins
+pub mod Passed
+pub mod Headed

@@ -1,12 +1,12 @@
 -- What the records of households say, on a day or after a change.
-use Rattle.std.specs.Prelude.{ℕ, ◌≤◌, ◌==◌, nat_le, Bool, true, false, Option, Some, None, List, map, filter, find}
+use Rattle.std.specs.Prelude.{ℕ, ◌≤◌, ◌==◌, nat_le, if◌then◌else◌, Bool, true, false, Option, Some, None, List, map, filter, find}
 use Rattle.std.specs.List.{range_with_len}
 use Rattle.std.specs.Option.{option_map_or, option_or}
 use Rattle.record_history.specs.declared.records.Kind.{Kind}
 use Rattle.record_history.specs.declared.records.Kind.TheVariants as kind
 use Rattle.record_history.specs.declared.records.Record.{Record}
 use Rattle.record_history.specs.declared.records.Dates.{Dates}
-use Rattle.record_history.specs.Records.{in_force, latest}
+use Rattle.record_history.specs.Records.{in_force, latest, is_withdrawal}
 use Rattle.tenancy_rules.specs.declared.change.Change.{Change}
 
 -- the records of one household
@@ -56,10 +56,6 @@ pub record AreBy (day : ℕ) (dates : Dates) : Type 0 where
 
 -- ---- changes
 
--- the change of an act that makes a record: it counts, and the one that it corrects no longer does
-abbrev pub adding : Record → Change
-adding made = record { drop = made.corrects; add = Some made }
-
--- the change of a withdrawal
-abbrev pub dropping : ℕ → Change
-dropping target = record { drop = target; add = None }
+-- the change of a record: the one that it names no longer counts, and unless it withdraws that one it counts itself
+abbrev pub change_by : Record → Change
+change_by made = record { «drop» = made.corrects; add = if is_withdrawal made.kind then None else Some made }

@@ -5,6 +5,8 @@ pub mod After
 pub mod Candidates
 pub mod Made
 pub mod Refusals
+pub mod Numbers
+pub mod Against
 pub mod Reply
 pub mod Step
 pub mod Valid

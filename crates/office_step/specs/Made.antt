@@ -1,5 +1,5 @@
 -- The record that an act makes, and the lines of a closing.
-use Rattle.std.specs.Prelude.{ℕ, ◌+◌, if◌then◌else◌, Bool, false, Option, Some, None, option_and_then, List, [], length}
+use Rattle.std.specs.Prelude.{ℕ, ◌+◌, if◌then◌else◌, Bool, true, false, Option, Some, None, option_and_then, List, [], length}
 use Rattle.std.specs.Option.{option_map, option_map_or}
 use Rattle.days_core.specs.declared.rents.Rents.{Rents}
 use Rattle.record_history.specs.declared.records.Dates.{Dates}
@@ -19,8 +19,10 @@ use Rattle.certified_figures.specs.declared.figures.Figures.{Figures}
 use Rattle.certified_figures.specs.Figures.{figures_of, carried_figures, no_figures}
 use Rattle.book_rows.specs.declared.command.Command.{Command}
 use Rattle.book_rows.specs.declared.command.Command.TheVariants as command
+use Rattle.book_rows.specs.declared.household.HouseholdChange.{HouseholdChange}
+use Rattle.book_rows.specs.declared.household.HouseholdChange.TheVariants as change
 use Rattle.book_rows.specs.declared.closings.CloseAct.{CloseAct}
-use Rattle.office_step.specs.declared.made.Heading.{Heading}
+use Rattle.office_step.specs.declared.heading.Heading.{Heading}
 use Rattle.office_step.specs.Known.{Known, own_in}
 use Rattle.office_step.specs.Households.{record_at, continued, unit_continued}
 
@@ -120,37 +122,60 @@ withdrawal_heading household target =
 abbrev pub resumed_dates : ℕ → Option Dates
 resumed_dates done = Some (record { event = done; notice = done; done = done })
 
+-- the heading of the record of a change, if it makes one
+abbrev pub heading_for : Known → ℕ → HouseholdChange → Option Heading
+heading_for known household (change.Annual annual) = Some (further_heading known household kind.AR annual.from None)
+heading_for known household (change.Interim interim) = Some (further_heading known household kind.IR interim.from (Some interim.dates))
+heading_for known household (change.Resume resume) = Some (further_heading known household kind.IC resume.from (resumed_dates resume.done))
+heading_for known household (change.Gross gross) = Some (further_heading known household kind.GR gross.from None)
+heading_for known household (change.Correct correct) =
+    option_map (λ target. correction_heading household target correct.from) (record_at (own_in known household) correct.target)
+heading_for known household (change.Transfer transfer) = Some (transfer_heading household transfer.unit transfer.from)
+heading_for known household (change.MoveOut move_out) = Some (further_heading known household kind.MO (move_out.last + 1) None)
+heading_for known household (change.Terminate terminate) = Some (further_heading known household kind.TM terminate.from None)
+heading_for known household (change.Withdraw withdraw) =
+    option_map (λ target. withdrawal_heading household target) (record_at (own_in known household) withdraw.target)
+
+-- the heading of the record that the next act makes, if it makes one
+abbrev pub heading_of : Known → Command → Option Heading
+heading_of known (command.Start start) = Some (new_heading known kind.IC start.unit start.from)
+heading_of known (command.Admit admit) = Some (new_heading known kind.MI admit.unit admit.from)
+heading_of known (command.Household act) = heading_for known act.household act.change
+heading_of known _ = None
+
+-- what a record certifies comes of facts, or of what was certified before, or it certifies nothing
+pub data Basis : Type 0 where
+  from_facts : Facts → Basis
+  carried : Basis
+  nothing : Basis
+
+abbrev pub certifies : Basis → Bool
+certifies nothing = false
+certifies _ = true
+
+abbrev pub basis_for : HouseholdChange → Basis
+basis_for (change.Annual annual) = from_facts annual.facts
+basis_for (change.Interim interim) = from_facts interim.facts
+basis_for (change.Resume resume) = from_facts resume.facts
+basis_for (change.Correct correct) = from_facts correct.facts
+basis_for (change.Gross gross) = carried
+basis_for (change.Transfer transfer) = carried
+basis_for _ = nothing
+
+abbrev pub basis_of : Command → Basis
+basis_of (command.Start start) = from_facts start.facts
+basis_of (command.Admit admit) = from_facts admit.facts
+basis_of (command.Household act) = basis_for act.change
+basis_of _ = nothing
+
+abbrev pub made_on : Known → Basis → Heading → Option Record
+made_on known (from_facts facts) heading = made_of_facts known heading facts
+made_on known carried heading = made_of_carried known heading
+made_on known nothing heading = Some (made_of_nothing known heading)
+
 -- the record that the next act makes, if it makes one
 abbrev pub record_of : Known → Command → Option Record
-record_of known (command.Plan plan) = None
-record_of known (command.Unit unit) = None
-record_of known (command.Rents rents) = None
-record_of known (command.Limits limits) = None
-record_of known (command.Apply apply) = None
-record_of known (command.Remove remove) = None
-record_of known (command.Start start) = made_of_facts known (new_heading known kind.IC start.unit start.from) start.facts
-record_of known (command.Admit admit) = made_of_facts known (new_heading known kind.MI admit.unit admit.from) admit.facts
-record_of known (command.Annual annual) =
-    made_of_facts known (further_heading known annual.household kind.AR annual.from None) annual.facts
-record_of known (command.Interim interim) =
-    made_of_facts known (further_heading known interim.household kind.IR interim.from (Some interim.dates)) interim.facts
-record_of known (command.Resume resume) =
-    made_of_facts known (further_heading known resume.household kind.IC resume.from (resumed_dates resume.done)) resume.facts
-record_of known (command.Gross gross) = made_of_carried known (further_heading known gross.household kind.GR gross.from None)
-record_of known (command.Correct correct) =
-    option_and_then (λ target. made_of_facts known (correction_heading correct.household target correct.from) correct.facts)
-    (record_at (own_in known correct.household) correct.target)
-record_of known (command.AskTransfer ask) = None
-record_of known (command.Transfer transfer) =
-    made_of_carried known (transfer_heading transfer.household transfer.unit transfer.from)
-record_of known (command.MoveOut move_out) =
-    Some (made_of_nothing known (further_heading known move_out.household kind.MO (move_out.last + 1) None))
-record_of known (command.Terminate terminate) =
-    Some (made_of_nothing known (further_heading known terminate.household kind.TM terminate.from None))
-record_of known (command.Withdraw withdraw) =
-    option_map (λ target. made_of_nothing known (withdrawal_heading withdraw.household target))
-    (record_at (own_in known withdraw.household) withdraw.target)
-record_of known (command.Close close) = None
+record_of known asked = option_and_then (made_on known (basis_of asked)) (heading_of known asked)
 
 -- ---- the lines of a closing
 

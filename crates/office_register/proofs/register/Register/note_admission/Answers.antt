@@ -1,4 +1,4 @@
-use Rattle.std.proofs.Common.{◌≡◌, ◌∙◌, ◌+◌, ap, sym, subst, Option, length}
+use Rattle.std.proofs.Common.{◌≡◌, ◌∙◌, ◌+◌, ap, sym, refl, subst, Option, length}
 use Rattle.std.specs.Prelude.{is_some}
 use Rattle.record_history.specs.declared.records.Record.{Record}
 use Rattle.book_rows.specs.declared.command.Command.TheVariants as command
@@ -6,9 +6,9 @@ use Rattle.office_step.specs.After.{known_after}
 use Rattle.office_step.specs.Known.{Known}
 use Rattle.office_register.specs.Registered.{Registered}
 use Rattle.office_register.specs.Accepted.{applicant_name, with_household}
-use Rattle.office_register.proofs.Standing.{is_free}
+use Rattle.office_register.proofs.Standing.{few}
 use Rattle.office_register.proofs.After.{after_admission}
-use Rattle.office_register.proofs.Next.{IsOf, accepted_admission, admission_makes}
+use Rattle.office_register.proofs.Next.{IsOf, accepted_new, admission_makes}
 use Rattle.office_register.proofs.register.Register.note_admission.Goals as goal
 
 pub record_in-requires : goal.record_in-requires
@@ -16,16 +16,16 @@ record_in-requires c =
     let same : is_some c.args.self.now.known.plan_act ≡ is_some c.args.self.now.known.plan =
     subst (λ (held : Registered). is_some held.known.plan_act ≡ is_some held.known.plan) c.self.view_is c.self.invariant.plan_act in
     rw c.requires.accepted.is_made
-    (admission_makes c.args.self.now.known c.requires.accepted.today c.args.admit same (is_free c.requires.accepted))
+    (admission_makes c.args.self.now.known c.args.admit c.args.made same c.requires.accepted)
 
 pub add_household-requires-clause-household : goal.add_household-requires-clause-household
 add_household-requires-clause-household c =
-    rw c.take_off.ensures.known (accepted_admission c.args.self.now.known c.args.admit c.args.made c.record_in.result c.requires.accepted c.record_in.ensures).household_is
+    rw c.take_off.ensures.known (accepted_new c.args.self.now.known (command.Admit c.args.admit) _ c.args.made c.record_in.result refl c.requires.accepted c.record_in.ensures).household_is
 
 pub add_household-requires-clause-next : goal.add_household-requires-clause-next
 add_household-requires-clause-next c =
     let is : IsOf c.args.self.now.known (length c.args.self.now.known.households + 1) c.record_in.result =
-    accepted_admission c.args.self.now.known c.args.admit c.args.made c.record_in.result c.requires.accepted c.record_in.ensures in
+    accepted_new c.args.self.now.known (command.Admit c.args.admit) _ c.args.made c.record_in.result refl c.requires.accepted c.record_in.ensures in
     rw c.take_off.ensures.known (record { number = is.next.number; act = is.next.act })
 
 pub returns : goal.returns

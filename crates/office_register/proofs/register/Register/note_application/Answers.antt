@@ -9,7 +9,7 @@ use Rattle.office_register.specs.View.{known_in}
 use Rattle.office_register.specs.Accepted.{IsAccepted}
 use Rattle.office_register.proofs.After.{after_application}
 use Rattle.office_register.proofs.Sound.{sound_application}
-use Rattle.office_register.proofs.Standing.{is_free, unlisted}
+use Rattle.office_register.proofs.Standing.{few, unlisted}
 use Rattle.office_register.proofs.register.Register.note_application.Goals as goal
 
 pub push-requires-clause-number : goal.push-requires-clause-number
@@ -24,7 +24,7 @@ invariant_of-self c =
     let long : c.len.result ≡ length c.self.inside.applications.items = omega arith in
     rw (c.push.ensures.applicants, c.push_reserved.ensures.items, c.rank_by.ensures, long)
     (sound_application (known_in c.self.inside) (application_by (c.self.inside.count + 1) c.args.apply) (applying (known_in c.self.inside) c.args.apply)
-    c.self.invariant (is_free accepted).few refl refl)
+    c.self.invariant (few accepted) refl refl)
 
 pub returns : goal.returns
 returns c =

@@ -7,7 +7,7 @@ use Rattle.office_register.specs.View.{known_in}
 use Rattle.office_register.specs.Accepted.{IsAccepted}
 use Rattle.office_register.proofs.After.{after_rents}
 use Rattle.office_register.proofs.Sound.{sound_rents}
-use Rattle.office_register.proofs.Standing.{is_free, rents_fit}
+use Rattle.office_register.proofs.Standing.{few, rents_fit}
 use Rattle.office_register.proofs.register.Register.note_rents.Goals as goal
 
 pub invariant_of-self : goal.invariant_of-self
@@ -15,7 +15,7 @@ invariant_of-self c =
     let accepted : IsAccepted (known_in c.self.inside) (command.Rents c.args.rents) None =
     subst (λ (held : Registered). IsAccepted held.known (command.Rents c.args.rents) None) (sym c.self.view_is) c.requires.accepted in
     rw (c.push_rents.ensures.units, c.push_rents.ensures.rents, c.push_rents.ensures.limits)
-    (sound_rents (known_in c.self.inside) (rent_row (c.self.inside.count + 1) c.args.rents) c.self.invariant (is_free accepted).few refl
+    (sound_rents (known_in c.self.inside) (rent_row (c.self.inside.count + 1) c.args.rents) c.self.invariant (few accepted) refl
     (rents_fit c.args.rents accepted.fit))
 
 pub returns : goal.returns

@@ -1,12 +1,12 @@
-use Rattle.std.proofs.Common.{◌≡◌, ◌∙◌, ap, sym, subst, Option}
+use Rattle.std.proofs.Common.{◌≡◌, ◌∙◌, ap, sym, refl, subst, Option}
 use Rattle.std.specs.Prelude.{is_some}
 use Rattle.record_history.specs.declared.records.Record.{Record}
 use Rattle.book_rows.specs.declared.command.Command.TheVariants as command
 use Rattle.office_step.specs.After.{known_after}
 use Rattle.office_register.specs.Registered.{Registered}
-use Rattle.office_register.proofs.Standing.{is_free}
+use Rattle.office_register.proofs.Standing.{few}
 use Rattle.office_register.proofs.After.{after_start}
-use Rattle.office_register.proofs.Next.{accepted_start, start_makes}
+use Rattle.office_register.proofs.Next.{accepted_new, start_makes}
 use Rattle.office_register.proofs.register.Register.note_start.Goals as goal
 
 pub record_in-requires : goal.record_in-requires
@@ -14,18 +14,18 @@ record_in-requires c =
     let same : is_some c.args.self.now.known.plan_act ≡ is_some c.args.self.now.known.plan =
     subst (λ (held : Registered). is_some held.known.plan_act ≡ is_some held.known.plan) c.self.view_is c.self.invariant.plan_act in
     rw c.requires.accepted.is_made
-    (start_makes c.args.self.now.known c.requires.accepted.today c.args.start same (is_free c.requires.accepted))
+    (start_makes c.args.self.now.known c.args.start c.args.made same c.requires.accepted)
 
 pub add_household-requires-clause-few : goal.add_household-requires-clause-few
-add_household-requires-clause-few c = (is_free c.requires.accepted).few
+add_household-requires-clause-few c = few c.requires.accepted
 
 pub add_household-requires-clause-household : goal.add_household-requires-clause-household
 add_household-requires-clause-household c =
-    (accepted_start c.args.self.now.known c.args.start c.args.made c.record_in.result c.requires.accepted c.record_in.ensures).household_is
+    (accepted_new c.args.self.now.known (command.Start c.args.start) _ c.args.made c.record_in.result refl c.requires.accepted c.record_in.ensures).household_is
 
 pub add_household-requires-clause-next : goal.add_household-requires-clause-next
 add_household-requires-clause-next c =
-    (accepted_start c.args.self.now.known c.args.start c.args.made c.record_in.result c.requires.accepted c.record_in.ensures).next
+    (accepted_new c.args.self.now.known (command.Start c.args.start) _ c.args.made c.record_in.result refl c.requires.accepted c.record_in.ensures).next
 
 pub returns : goal.returns
 returns c =

@@ -8,7 +8,7 @@ use Rattle.office_register.specs.View.{known_in}
 use Rattle.office_register.specs.Accepted.{IsAccepted}
 use Rattle.office_register.proofs.After.{after_unit}
 use Rattle.office_register.proofs.Sound.{sound_unit}
-use Rattle.office_register.proofs.Standing.{is_free, bedrooms_fit, no_unit_at}
+use Rattle.office_register.proofs.Standing.{few, bedrooms_fit, no_unit_at}
 use Rattle.office_register.proofs.register.Register.note_unit.Goals as goal
 
 pub push_unit-requires-clause-number : goal.push_unit-requires-clause-number
@@ -21,7 +21,7 @@ invariant_of-self c =
     let accepted : IsAccepted (known_in c.self.inside) (command.Unit c.args.unit) None =
     subst (λ (held : Registered). IsAccepted held.known (command.Unit c.args.unit) None) (sym c.self.view_is) c.requires.accepted in
     rw (c.push_unit.ensures.units, c.push_unit.ensures.rents, c.push_unit.ensures.limits, c.unit_rows.ensures.rows)
-    (sound_unit (known_in c.self.inside) (unit_row (length c.self.inside.table.units + 1) c.args.unit) c.self.invariant (is_free accepted).few refl
+    (sound_unit (known_in c.self.inside) (unit_row (length c.self.inside.table.units + 1) c.args.unit) c.self.invariant (few accepted) refl
     (bedrooms_fit c.args.unit accepted.fit))
 
 pub returns : goal.returns

@@ -1,0 +1,90 @@
+ghost use Rattle.std.specs.Prelude.{◌≡◌};
+ghost use Rattle.std.specs.Option.{option_or};
+ghost use Rattle.record_history.specs.Held.{records_of};
+ghost use Rattle.office_step.specs.Refusals.{month_after, next_to_close, wrong_month, household_rent_due, rent_due};
+
+use days_core::{Day, Month};
+use due_dates::rent_due_day;
+use office_step::Refusal;
+use record_history::{Dates, History, Record};
+use rent_table::RentTable;
+
+/// 2099-12, the last month that is closed.
+const LAST_MONTH: u32 = 2639;
+
+/// The next month to close: the plan's first, or the one after that which was closed last.
+pub fn next_to_close(first: Month, closed: Option<Month>) -> Option<Month>
+    ensures { result ≡ next_to_close first closed }
+{
+    match closed {
+        Some(closed) => month_after(closed),
+        None => Some(first),
+    }
+}
+
+fn month_after(month: Month) -> Option<Month>
+    ensures { result ≡ month_after month }
+{
+    if month.number() < LAST_MONTH {
+        Month::from_number(month.number() + 1)
+    } else {
+        None
+    }
+}
+
+/// Refused where the month isn't the next to close.
+pub fn wrong_month(next: Option<Month>, month: Month) -> Option<Refusal>
+    ensures { result ≡ wrong_month next month }
+{
+    if next == Some(month) {
+        return None;
+    }
+    Some(Refusal::WrongMonth { next })
+}
+
+/// Refused where a household's record in force, neither a move-out nor a termination, has other rents than its unit on
+/// a day of the span: the least such household, and its least day.
+pub fn rent_due(history: &History, table: &RentTable, first: Day, last: Day) -> Option<Refusal>
+    ensures { result ≡ rent_due history.now.households table.now.units table.now.rents first last }
+{
+    let mut due = None;
+    for place in 0..history.households() {
+        due = due_so_far(due, history, table, first, last, place + 1);
+    }
+    due
+}
+
+/// What was found before, or else that of the household.
+fn due_so_far(
+    found: Option<Refusal>,
+    history: &History,
+    table: &RentTable,
+    first: Day,
+    last: Day,
+    household: u32,
+) -> Option<Refusal>
+    ensures { result ≡ option_or found (household_rent_due (records_of history.now.households household) table.now.units table.now.rents first last household) }
+{
+    match found {
+        Some(_) => found,
+        None => household_rent_due(history, table, first, last, household),
+    }
+}
+
+fn household_rent_due(
+    history: &History,
+    table: &RentTable,
+    first: Day,
+    last: Day,
+    household: u32,
+) -> Option<Refusal>
+    ensures { result ≡ household_rent_due (records_of history.now.households household) table.now.units table.now.rents first last household }
+{
+    let day = rent_due_day(history, table, household, first, last)?;
+    let held = history.in_force(household, day)?;
+    Some(Refusal::RentDue {
+        household,
+        target: held.number,
+        day,
+    })
+}

@@ -1,0 +1,80 @@
+ghost use Rattle.std.specs.Prelude.{◌≡◌, ◌≤◌, ◌+◌};
+ghost use Rattle.std.specs.Option.{option_or};
+ghost use Rattle.days_core.specs.Calendar.{last_of};
+ghost use Rattle.record_history.specs.Held.{records_of};
+ghost use Rattle.tenancy_rules.specs.Order.{earliest};
+ghost use Rattle.office_step.specs.Refusals.{others_of, base_before, overdue_day, is_unpaid, household_overdue, overdue};
+
+use crate::live::{base, opening};
+use crate::rightful::anniversary;
+use days_core::{Day, Month, last_of};
+use due_dates::overdue as is_overdue;
+use office_step::Refusal;
+use record_history::History;
+use voucher_core::certified_amount;
+
+/// Refused where a household is to be paid for the month by a certification of fifteen or more months before: the least
+/// such household, and the anniversary on which it should have been certified.
+pub fn overdue(history: &History, month: Month) -> Option<Refusal>
+    requires { month ≤ 2639 }
+    ensures { result ≡ overdue history.now.households month }
+{
+    let mut late = None;
+    for place in 0..history.households() {
+        late = late_so_far(late, history, month, place + 1);
+    }
+    late
+}
+
+/// What was found before, or else that of the household.
+fn late_so_far(
+    found: Option<Refusal>,
+    history: &History,
+    month: Month,
+    household: u32,
+) -> Option<Refusal>
+    requires { month ≤ 2639 }
+    ensures { result ≡ option_or found (household_overdue (records_of history.now.households household) month household) }
+{
+    match found {
+        Some(_) => found,
+        None => household_overdue(history, month, household),
+    }
+}
+
+fn household_overdue(history: &History, month: Month, household: u32) -> Option<Refusal>
+    requires { month ≤ 2639 }
+    ensures { result ≡ household_overdue (records_of history.now.households household) month household }
+{
+    if is_unpaid(history, household, month) {
+        return None;
+    }
+    let anniversary = overdue_day(history, month, household)?;
+    Some(Refusal::Overdue {
+        household,
+        anniversary,
+    })
+}
+
+fn overdue_day(history: &History, month: Month, household: u32) -> Option<Day>
+    requires { month ≤ 2639 }
+    ensures { let own = records_of history.now.households household in
+        result ≡ overdue_day month (earliest (others_of own 0)) (base_before (others_of own 0) (last_of month + 1) 0) }
+{
+    let records = history.records(household);
+    let opening = opening(records, 0)?;
+    let base = base(records, 0, last_of(month).number() + 1, 0)?;
+    if is_overdue(base.from, month) {
+        Some(anniversary(opening.from, base.from))
+    } else {
+        None
+    }
+}
+
+/// Whether nothing is to be paid for the month.
+#[tactic(auto, unfolding(office_step::specs::Refusals::is_unpaid))]
+fn is_unpaid(history: &History, household: u32, month: Month) -> bool
+    ensures { result ≡ is_unpaid (records_of history.now.households household) month }
+{
+    certified_amount(history, household, month) == 0
+}
