@@ -1,7 +1,8 @@
 -- What an assess object is answered with, from its bytes to a line of JSON.
 use Rattle.std.specs.Prelude.{ℕ, List, [], ◌∷◌, ◌++◌, Option, Some, None, Result, Ok, Err, codes}
-use Rattle.serde_json.specs.Data.{Data, object, number, string, unsigned, member, no_members}
+use Rattle.serde_json.specs.Data.{Data, object, string, member, no_members}
 use Rattle.serde_json.specs.Written.{compact_text}
+use Rattle.json_form.specs.Written.{number_data, refused, bad_form_data}
 use Rattle.facts_core.specs.Rules.{broken_rule}
 use Rattle.income_rules.specs.Annual.{annual_income_of}
 use Rattle.deduction_rules.specs.Deductions.{adjusted_income_of}
@@ -30,28 +31,19 @@ household_payment h = payment_of (household_annual h) (household_adjusted h) h.f
 
 abbrev pub figures : ℕ → ℕ → Payment → Data
 figures annual adjusted payment = object (
-    member (codes "adjusted") (number (unsigned adjusted)) (
-    member (codes "annual") (number (unsigned annual)) (
-    member (codes "assistance") (number (unsigned payment.assistance)) (
-    member (codes "reimbursement") (number (unsigned payment.reimbursement)) (
-    member (codes "tenant_rent") (number (unsigned payment.tenant_rent)) (
-    member (codes "ttp") (number (unsigned payment.ttp)) no_members))))))
-
-abbrev pub refusal : Data → Data
-refusal reason = object (member (codes "refused") reason no_members)
-
--- the first place that isn't of the form
-abbrev pub bad_form : List ℕ → Data
-bad_form path = refusal (object (
-    member (codes "kind") (string (codes "Form")) (
-    member (codes "path") (string path) no_members)))
+    member (codes "adjusted") (number_data adjusted) (
+    member (codes "annual") (number_data annual) (
+    member (codes "assistance") (number_data payment.assistance) (
+    member (codes "reimbursement") (number_data payment.reimbursement) (
+    member (codes "tenant_rent") (number_data payment.tenant_rent) (
+    member (codes "ttp") (number_data payment.ttp) no_members))))))
 
 -- the rule that the facts break, under the number of this refusal
 abbrev pub bad_facts : ℕ → Data
-bad_facts rule = refusal (object (
+bad_facts rule = refused (object (
     member (codes "kind") (string (codes "FactsRule")) (
-    member (codes "number") (number (unsigned 8)) (
-    member (codes "rule") (number (unsigned rule)) no_members))))
+    member (codes "number") (number_data 8) (
+    member (codes "rule") (number_data rule) no_members))))
 
 -- ---- the answer
 
@@ -65,7 +57,7 @@ answer_by_rule h (Some rule) = Refused (line (bad_facts rule))
 
 abbrev pub answer_to : Result Household (List ℕ) → Assessed
 answer_to (Ok h) = answer_by_rule h (broken_rule h.facts h.day)
-answer_to (Err path) = Refused (line (bad_form path))
+answer_to (Err path) = Refused (line (bad_form_data path))
 
 -- What the bytes are answered with: the payment of the household that they are, or the refusal by the first bad path or
 -- by the least rule that is broken.

@@ -5,11 +5,11 @@ ghost use Rattle.assess_command.specs.Household.{household_from};
 ghost use Rattle.json_form.specs.Gives.{Gives};
 
 use crate::household::{Household, household_of};
-use crate::text::{bad_facts, bad_form, figures, line_of};
+use crate::text::{bad_facts, figures, line_of};
 use deduction_rules::adjusted_income;
 use facts_core::broken_rule;
 use income_rules::annual_income;
-use json_form::{FormFault, value_of_bytes};
+use json_form::{FormFault, bad_form, value_of_bytes};
 use payment_rules::payment;
 use plain_data::{NoMemory, Text};
 use std::alloc::Global;

@@ -5,12 +5,12 @@ ghost use Rattle.assess_command.specs.Household.{household_at};
 
 use days_core::{Day, Rents};
 use facts_core::Facts;
-use json_form::{FormFault, field, number_field, object, only};
+use json_form::{FormFault, closed, field, number_field, object};
 use serde_json::Value;
 use std::alloc::Global;
 
 /// A household to assess.
-#[derive(Debug, PartialEq, Eq, Drop)]
+#[derive(Drop)]
 pub struct Household {
     /// The day on which the assessment takes effect.
     pub day: Day,
@@ -34,16 +34,16 @@ pub fn household_of(alloc: Global, value: &Value) -> Result<Household, FormFault
     let contract_rent = number_field(alloc, value, "contract_rent", 0, 99_999)?;
     let utility = number_field(alloc, value, "utility", 0, 9_999)?;
     let facts = field(alloc, value, "facts")?;
-    let names = ["day", "passbook", "contract_rent", "utility", "facts"];
-    only(alloc, value, &names)?;
     let rents = Rents {
         contract_rent,
         utility,
     };
-    Ok(Household {
+    let household = Household {
         day,
         passbook,
         rents,
         facts,
-    })
+    };
+    let names = ["day", "passbook", "contract_rent", "utility", "facts"];
+    closed(alloc, value, &names, household)
 }

@@ -1,21 +1,19 @@
-ghost use Rattle.std.specs.Prelude.{◌≡◌, IfOk, false};
+ghost use Rattle.std.specs.Prelude.{◌≡◌, IfOk};
 ghost use Rattle.serde_json.specs.View.{view};
-ghost use Rattle.serde_json.specs.Written.{has_float};
-ghost use Rattle.assess_command.specs.Assess.{figures, bad_form, bad_facts, line};
+ghost use Rattle.assess_command.specs.Assess.{figures, bad_facts, line};
 
+use json_form::{Exact, Members, refused};
 use payment_rules::Payment;
 use plain_data::{NoMemory, Text};
-use serde_json::{Value, json};
-use std::alloc::{AllocError, Global};
+use std::alloc::Global;
 
 /// A value as a line of JSON.
-pub fn line_of(alloc: Global, value: &Value) -> Result<Text, NoMemory>
-    requires { has_float (view value.now) ≡ false }
-    ensures { IfOk result (λ text. text ≡ line (view value.now)) }
+pub fn line_of(alloc: Global, value: &Exact) -> Result<Text, NoMemory>
+    ensures { IfOk result (λ text. text ≡ line (view value.now.value)) }
 {
-    let mut text = value.to_string(alloc)?;
-    text.push('\n')?;
-    Ok(Text::new(text.into_bytes()))
+    let mut text = value.text(alloc)?.into_bytes();
+    text.push(b'\n')?;
+    Ok(Text::new(text))
 }
 
 /// The figures of a payment.
@@ -24,29 +22,26 @@ pub fn figures(
     annual: u32,
     adjusted: u32,
     payment: &Payment,
-) -> Result<Value, AllocError>
-    ensures { IfOk result (λ value. view value ≡ figures annual adjusted payment.now) }
+) -> Result<Exact, NoMemory>
+    ensures { IfOk result (λ exact. view exact.value ≡ figures annual adjusted payment.now) }
 {
-    json!(in alloc; {
-        "adjusted": adjusted,
-        "annual": annual,
-        "assistance": payment.assistance,
-        "reimbursement": payment.reimbursement,
-        "tenant_rent": payment.tenant_rent,
-        "ttp": payment.ttp
-    })
-}
-
-/// The refusal of what isn't of the form.
-pub fn bad_form(alloc: Global, path: &str) -> Result<Value, AllocError>
-    ensures { IfOk result (λ value. view value ≡ bad_form path.now) }
-{
-    json!(in alloc; {"refused": {"kind": "Form", "path": path}})
+    let members = Members::new(alloc)
+        .with("adjusted", &adjusted)?
+        .with("annual", &annual)?
+        .with("assistance", &payment.assistance)?
+        .with("reimbursement", &payment.reimbursement)?
+        .with("tenant_rent", &payment.tenant_rent)?
+        .with("ttp", &payment.ttp)?;
+    Ok(members.done())
 }
 
 /// The refusal of facts that break a rule.
-pub fn bad_facts(alloc: Global, rule: u8) -> Result<Value, AllocError>
-    ensures { IfOk result (λ value. view value ≡ bad_facts rule) }
+pub fn bad_facts(alloc: Global, rule: u8) -> Result<Exact, NoMemory>
+    ensures { IfOk result (λ exact. view exact.value ≡ bad_facts rule) }
 {
-    json!(in alloc; {"refused": {"kind": "FactsRule", "number": 8, "rule": rule}})
+    let cause = Members::new(alloc)
+        .with("kind", &"FactsRule")?
+        .with("number", &8u32)?
+        .with("rule", &u32::from(rule))?;
+    refused(alloc, cause)
 }

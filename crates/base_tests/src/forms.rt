@@ -1,9 +1,10 @@
 use days_core::{Day, Month};
 use json_form::{
-    FormFault, Formed, array, number_field, object, only, optional_field, put, value_of_bytes,
+    ArrayOf, Form, FormFault, Formed, Members, Within, number_field, object, only, optional_field,
+    value_of_bytes,
 };
 use plain_data::{Listed, NoMemory, Text};
-use serde_json::{Map, Value};
+use serde_json::Value;
 use std::alloc::Global;
 
 fn read<T: Formed>(alloc: Global, text: &str) -> Result<T, FormFault> {
@@ -35,8 +36,11 @@ fn read_flag(alloc: Global, text: &str) -> Result<Option<bool>, FormFault> {
     flag_of(alloc, &value)
 }
 
-fn read_pair(alloc: Global, text: &str) -> Result<Listed<u32>, FormFault> {
-    array(alloc, &value_of_bytes(alloc, text.as_bytes())?, 2)
+fn read_pair(alloc: Global, text: &str) -> Result<[u32; 2], FormFault> {
+    let pair = ArrayOf {
+        each: Within { least: 1, most: 9 },
+    };
+    pair.read(alloc, &value_of_bytes(alloc, text.as_bytes())?)
 }
 
 #[test]
@@ -87,27 +91,22 @@ fn tells_the_first_bad_path(rt: HostRuntime) {
     assert!(rt; is_bad_at(read_pair(alloc, "[5]"), ""));
 }
 
-fn put_each_kind(alloc: Global, object: &mut Map<String, Value>) -> Result<(), NoMemory> {
-    put(alloc, object, "open", &true)?;
-    put(alloc, object, "name", &"Ada")?;
-    put(alloc, object, "count", &7u32)?;
-    put(alloc, object, "born", &Day::from_number(0).unwrap())?;
+fn written(alloc: Global) -> Result<Text, NoMemory> {
     let rows = Listed::new([5u32, 6].to_vec(alloc)?);
-    put(alloc, object, "rows", &rows)?;
-    put(alloc, object, "count", &u32::MAX)
-}
-
-fn written(alloc: Global) -> Result<String, NoMemory> {
-    let mut object = Map::new(alloc);
-    put_each_kind(alloc, &mut object)?;
-    Ok(Value::Object(object).to_string(alloc)?)
+    let members = Members::new(alloc)
+        .with("open", &true)?
+        .with("name", &"Ada")?
+        .with("count", &7u32)?
+        .with("born", &Day::from_number(0).unwrap())?
+        .with("rows", &rows)?
+        .with("count", &u32::MAX)?;
+    members.done().text(alloc)
 }
 
 #[test]
 fn writes_each_kind(rt: HostRuntime) {
     let text = written(rt.alloc()).expect(&rt, "memory");
-    assert!(rt;
-        text.as_str()
-            == "{\"born\":\"1880-01-01\",\"count\":4294967295,\"name\":\"Ada\",\"open\":true,\"rows\":[5,6]}"
-    );
+    let wanted =
+        "{\"born\":\"1880-01-01\",\"count\":4294967295,\"name\":\"Ada\",\"open\":true,\"rows\":[5,6]}";
+    assert!(rt; text.as_bytes() == wanted.as_bytes());
 }

@@ -1,11 +1,3 @@
-pub mod Names
-pub mod PlainText
-pub mod FieldsAgain
-pub mod FactsPlain
-pub mod PropertyAgain
-pub mod ApplicantsAgain
-pub mod CertificationsAgain
-pub mod MovesAgain
-pub mod ChangesAgain
+pub mod Fields
+pub mod CommandStands
 pub mod CommandAgain
-pub mod WithoutFloat

@@ -1,57 +1,62 @@
 -- How commands are written in JSON, and the text of a command.
 use Rattle.std.specs.Prelude.{ℕ, if◌then◌else◌, Bool, List, Option, Some, None, option_and_then, Result, Ok, Err, codes, bytes_eq}
-use Rattle.serde_json.specs.Data.{Data}
+use Rattle.serde_json.specs.Data.{Data, string, object, Members, member, no_members, put}
 use Rattle.serde_json.specs.Written.{compact_text}
-use Rattle.json_form.specs.Form.{◌>>=◌, is_object_at, field, data_from}
+use Rattle.json_form.specs.Form.{◌>>=◌, month_at, one_of, is_object_at, field, closed_by, data_from}
+use Rattle.json_form.specs.Written.{month_data}
 use Rattle.book_rows.specs.declared.command.Command.{Command}
 use Rattle.book_rows.specs.declared.command.Command.TheVariants as command
 use Rattle.command_forms.specs.declared.kind.Kind.{Kind}
 use Rattle.command_forms.specs.declared.kind.Kind.TheVariants as kind
-use Rattle.command_forms.specs.Kinds.{kind_at}
-use Rattle.command_forms.specs.Property.{plan_at, unit_at, rents_at, limits_act_at, plan_data, unit_data, rents_data, limits_act_data}
-use Rattle.command_forms.specs.Applicants.{apply_at, remove_at, apply_data, remove_data}
-use Rattle.command_forms.specs.Certifications.{start_at, admit_at, start_data, admit_data}
-use Rattle.command_forms.specs.Moves.{ask_transfer_at, close_at, ask_transfer_data, close_data}
-use Rattle.command_forms.specs.Changes.{household_at, household_data}
+use Rattle.command_forms.specs.Kinds.{kinds, word_of}
+use Rattle.command_forms.specs.Property.{plan_at, plan_members, unit_at, unit_members, rents_at, rents_members, limits_act_at, limits_members}
+use Rattle.command_forms.specs.Applicants.{apply_at, apply_members, remove_at, remove_members, start_at, start_members, admit_at, admit_members}
+use Rattle.command_forms.specs.Changes.{ask_transfer_at, ask_transfer_members, household_at, household_members}
 
--- ---- reading
+-- ---- the value of a command
 
--- the fields behind the kind
-abbrev pub rest_at : Kind → Data → Result Command (List ℕ)
-rest_at kind.Plan d = plan_at d >>= λ plan. Ok (command.Plan plan)
-rest_at kind.Unit d = unit_at d >>= λ unit. Ok (command.Unit unit)
-rest_at kind.Rents d = rents_at d >>= λ rents. Ok (command.Rents rents)
-rest_at kind.Limits d = limits_act_at d >>= λ limits. Ok (command.Limits limits)
-rest_at kind.Apply d = apply_at d >>= λ apply. Ok (command.Apply apply)
-rest_at kind.Remove d = remove_at d >>= λ remove. Ok (command.Remove remove)
-rest_at kind.Start d = start_at d >>= λ start. Ok (command.Start start)
-rest_at kind.Admit d = admit_at d >>= λ admit. Ok (command.Admit admit)
-rest_at kind.AskTransfer d = ask_transfer_at d >>= λ ask. Ok (command.AskTransfer ask)
-rest_at (kind.Household change) d = household_at change d >>= λ act. Ok (command.Household act)
-rest_at kind.Close d = close_at d >>= λ close. Ok (command.Close close)
+-- the fields of a command, behind its kind
+unfoldable pub fields_at : Kind → Data → Result Command (List ℕ)
+fields_at kind.Plan d = plan_at d
+fields_at kind.Unit d = unit_at d
+fields_at kind.Rents d = rents_at d
+fields_at kind.Limits d = limits_act_at d
+fields_at kind.Apply d = apply_at d
+fields_at kind.Remove d = remove_at d
+fields_at kind.Start d = start_at d
+fields_at kind.Admit d = admit_at d
+fields_at kind.AskTransfer d = ask_transfer_at d
+fields_at (kind.Household change) d = household_at change d
+fields_at kind.Close d = field (codes "month") month_at d >>= λ month. Ok (command.Close (record { month = month }))
 
--- a command: its kind first, then the fields of that kind in their order, then no other member
+abbrev pub field_members : Command → Members
+field_members (command.Plan plan) = plan_members plan
+field_members (command.Unit unit) = unit_members unit
+field_members (command.Rents rents) = rents_members rents
+field_members (command.Limits limits) = limits_members limits
+field_members (command.Apply apply) = apply_members apply
+field_members (command.Remove remove) = remove_members remove
+field_members (command.Start start) = start_members start
+field_members (command.Admit admit) = admit_members admit
+field_members (command.AskTransfer ask) = ask_transfer_members ask
+field_members (command.Household act) = household_members act
+field_members (command.Close close) = member (codes "month") (month_data close.month) no_members
+
+-- the kind among them
+unfoldable pub command_members : Command → Members
+command_members asked = put (codes "kind") (string (word_of asked)) (field_members asked)
+
+-- a command: its kind first, then the fields of that kind in their order, then no member but those that it is written with
 unfoldable pub command_at : Data → Result Command (List ℕ)
 command_at d = do
   _ ← is_object_at d
-  kind ← field (codes "kind") kind_at d
-  rest_at kind d
-
--- ---- writing
+  kind ← field (codes "kind") (one_of kinds) d
+  asked ← fields_at kind d
+  closed_by command_members asked d
 
 -- a command as it is written: its members in the byte order of their names
 abbrev pub command_data : Command → Data
-command_data (command.Plan plan) = plan_data plan
-command_data (command.Unit unit) = unit_data unit
-command_data (command.Rents rents) = rents_data rents
-command_data (command.Limits limits) = limits_act_data limits
-command_data (command.Apply apply) = apply_data apply
-command_data (command.Remove remove) = remove_data remove
-command_data (command.Start start) = start_data start
-command_data (command.Admit admit) = admit_data admit
-command_data (command.AskTransfer ask) = ask_transfer_data ask
-command_data (command.Household act) = household_data act
-command_data (command.Close close) = close_data close
+command_data asked = object (command_members asked)
 
 -- the text of a command: compact JSON
 abbrev pub body_of : Command → List ℕ

@@ -2,7 +2,7 @@
 --
 -- The fields that a fit command bounds further are left out.
 use Rattle.std.specs.Prelude.{ℕ, ◌<◌, ◌≤◌, ◌^◌, ⊤}
-use Rattle.facts_core.specs.FactsData.{FactsFit}
+use Rattle.facts_core.specs.Facts.{FactsFit}
 use Rattle.record_history.specs.declared.records.Dates.{Dates}
 use Rattle.book_rows.specs.declared.household.HouseholdChange.{HouseholdChange}
 use Rattle.book_rows.specs.declared.household.HouseholdChange.TheVariants as change

@@ -1,34 +1,27 @@
 -- The words for the kinds of commands.
-use Rattle.std.specs.Prelude.{ℕ, if◌then◌else◌, List, Option, Some, None, option_and_then, Result, codes, bytes_eq}
-use Rattle.serde_json.specs.Data.{Data}
-use Rattle.serde_json.specs.Find.{as_str}
-use Rattle.json_form.specs.Form.{fit}
+use Rattle.std.specs.Prelude.{ℕ, List, ◌∷◌, codes}
+use Rattle.book_rows.specs.declared.command.Command.{Command}
+use Rattle.book_rows.specs.declared.command.Command.TheVariants as command
 use Rattle.command_forms.specs.declared.kind.Kind.{Kind}
 use Rattle.command_forms.specs.declared.kind.Kind.TheVariants as kind
-use Rattle.command_forms.specs.declared.kind.ChangeKind.TheVariants as change
+use Rattle.command_forms.specs.Changes.{change_kinds, change_word}
 
-abbrev pub kind_from : List ℕ → Option Kind
-kind_from text =
-    if bytes_eq text (codes "plan") then Some kind.Plan
-    else (if bytes_eq text (codes "unit") then Some kind.Unit
-    else (if bytes_eq text (codes "rents") then Some kind.Rents
-    else (if bytes_eq text (codes "limits") then Some kind.Limits
-    else (if bytes_eq text (codes "apply") then Some kind.Apply
-    else (if bytes_eq text (codes "remove") then Some kind.Remove
-    else (if bytes_eq text (codes "start") then Some kind.Start
-    else (if bytes_eq text (codes "admit") then Some kind.Admit
-    else (if bytes_eq text (codes "annual") then Some (kind.Household change.Annual)
-    else (if bytes_eq text (codes "interim") then Some (kind.Household change.Interim)
-    else (if bytes_eq text (codes "resume") then Some (kind.Household change.Resume)
-    else (if bytes_eq text (codes "gross") then Some (kind.Household change.Gross)
-    else (if bytes_eq text (codes "correct") then Some (kind.Household change.Correct)
-    else (if bytes_eq text (codes "ask_transfer") then Some kind.AskTransfer
-    else (if bytes_eq text (codes "transfer") then Some (kind.Household change.Transfer)
-    else (if bytes_eq text (codes "move_out") then Some (kind.Household change.MoveOut)
-    else (if bytes_eq text (codes "terminate") then Some (kind.Household change.Terminate)
-    else (if bytes_eq text (codes "withdraw") then Some (kind.Household change.Withdraw)
-    else (if bytes_eq text (codes "close") then Some kind.Close
-    else None))))))))))))))))))
+abbrev pub kinds : List (List ℕ × Kind)
+kinds =
+    (codes "plan", kind.Plan) ∷ (codes "unit", kind.Unit) ∷ (codes "rents", kind.Rents) ∷ (codes "limits", kind.Limits)
+    ∷ (codes "apply", kind.Apply) ∷ (codes "remove", kind.Remove) ∷ (codes "start", kind.Start) ∷ (codes "admit", kind.Admit)
+    ∷ (codes "ask_transfer", kind.AskTransfer) ∷ (codes "close", kind.Close) ∷ change_kinds
 
-abbrev pub kind_at : Data → Result Kind (List ℕ)
-kind_at d = fit (option_and_then kind_from (as_str d))
+-- the word for the kind of a command
+abbrev pub word_of : Command → List ℕ
+word_of (command.Plan plan) = codes "plan"
+word_of (command.Unit unit) = codes "unit"
+word_of (command.Rents rents) = codes "rents"
+word_of (command.Limits limits) = codes "limits"
+word_of (command.Apply apply) = codes "apply"
+word_of (command.Remove remove) = codes "remove"
+word_of (command.Start start) = codes "start"
+word_of (command.Admit admit) = codes "admit"
+word_of (command.AskTransfer ask) = codes "ask_transfer"
+word_of (command.Household act) = change_word act.change
+word_of (command.Close close) = codes "close"

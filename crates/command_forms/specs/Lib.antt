@@ -2,8 +2,6 @@ pub mod Fields
 pub mod Kinds
 pub mod Property
 pub mod Applicants
-pub mod Certifications
-pub mod Moves
 pub mod Changes
 pub mod Commands
 pub mod Holdable

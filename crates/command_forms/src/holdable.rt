@@ -4,7 +4,7 @@
 //! They do nothing.
 
 ghost use Rattle.std.specs.Prelude.{All, ◌≤◌};
-ghost use Rattle.facts_core.specs.FactsData.{FactsFit, IncomeFits, AssetFits, DisposalFits};
+ghost use Rattle.facts_core.specs.Facts.{FactsFit, IncomeFits, AssetFits, DisposalFits};
 ghost use Rattle.command_forms.specs.Holdable.{IsHoldable, IsHoldableChange, IsNumber, IsDay, IsMonth, AreDates};
 
 use book_rows::{Command, HouseholdChange};
@@ -102,52 +102,60 @@ fn held_facts(facts: &Facts)
     held_number(facts.disability);
     held_number(facts.medical);
     held_number(facts.welfare);
-    held_members(facts.members.as_slice());
-    held_incomes(facts.incomes.as_slice());
-    held_assets(facts.assets.as_slice());
-    held_disposals(facts.disposals.as_slice());
+    held_rows(facts.members.as_slice());
+    held_rows(facts.incomes.as_slice());
+    held_rows(facts.assets.as_slice());
+    held_rows(facts.disposals.as_slice());
 }
 
-fn held_members(members: &[Member])
-    ensures { All (λ person. person.born ≤ 116877) members.now }
+/// A row of facts.
+trait Row {
+    ghost fits: { Self → Type 0 };
+
+    fn held(&self)
+        ensures { fits self.now };
+}
+
+fn held_rows<T: Row>(rows: &[T])
+    ensures { All T.fits rows.now }
 {
-    for member in members {
-        held_day(member.born);
+    for row in rows {
+        row.held();
     }
 }
 
-fn held_incomes(incomes: &[Income])
-    ensures { All IncomeFits incomes.now }
-{
-    for income in incomes {
-        held_income(*income);
+impl Row for Member {
+    ghost fits = { λ person. person.born ≤ 116877 };
+
+    fn held(&self) {
+        held_day(self.born);
     }
 }
 
-fn held_income(income: Income)
-    ensures { IncomeFits income }
-{}
+impl Row for Income {
+    ghost fits = { IncomeFits };
 
-fn held_assets(assets: &[Asset])
-    ensures { All AssetFits assets.now }
-{
-    for asset in assets {
-        held_asset(*asset);
+    fn held(&self) {
+        held_number(self.member);
+        held_number(self.annual);
     }
 }
 
-fn held_asset(asset: Asset)
-    ensures { AssetFits asset }
-{}
+impl Row for Asset {
+    ghost fits = { AssetFits };
 
-fn held_disposals(disposals: &[Disposal])
-    ensures { All DisposalFits disposals.now }
-{
-    for disposal in disposals {
-        held_disposal(*disposal);
+    fn held(&self) {
+        held_number(self.value);
+        held_number(self.income);
     }
 }
 
-fn held_disposal(disposal: Disposal)
-    ensures { DisposalFits disposal }
-{}
+impl Row for Disposal {
+    ghost fits = { DisposalFits };
+
+    fn held(&self) {
+        held_day(self.day);
+        held_number(self.value);
+        held_number(self.received);
+    }
+}

@@ -1,12 +1,12 @@
-ghost use Rattle.std.specs.Prelude.{◌≡◌};
-ghost use Rattle.command_forms.specs.Kinds.{kind_from, kind_at};
+ghost use Rattle.json_form.specs.Form.{one_of};
+ghost use Rattle.command_forms.specs.Kinds.{kinds};
 
-use json_form::{FormFault, Formed, text};
+use json_form::{FormFault, Formed, one_of};
 use serde_json::Value;
 use std::alloc::Global;
 
 /// Which command it is.
-#[derive(Clone, Copy, Debug, PartialEq, Eq)]
+#[derive(Clone, Copy)]
 pub enum Kind {
     Plan,
     Unit,
@@ -22,7 +22,7 @@ pub enum Kind {
 }
 
 /// Which change of a household it is.
-#[derive(Clone, Copy, Debug, PartialEq, Eq)]
+#[derive(Clone, Copy)]
 pub enum ChangeKind {
     Annual,
     Interim,
@@ -36,39 +36,30 @@ pub enum ChangeKind {
 }
 
 impl Formed for Kind {
-    ghost form = { kind_at };
+    ghost form = { one_of kinds };
 
     fn of_value(alloc: Global, value: &Value) -> Result<Kind, FormFault> {
-        match kind_of(text(alloc, value)?) {
-            Some(kind) => Ok(kind),
-            None => Err(FormFault::here(alloc)),
-        }
-    }
-}
-
-fn kind_of(text: &str) -> Option<Kind>
-    ensures { result ≡ kind_from text.now }
-{
-    match text {
-        "plan" => Some(Kind::Plan),
-        "unit" => Some(Kind::Unit),
-        "rents" => Some(Kind::Rents),
-        "limits" => Some(Kind::Limits),
-        "apply" => Some(Kind::Apply),
-        "remove" => Some(Kind::Remove),
-        "start" => Some(Kind::Start),
-        "admit" => Some(Kind::Admit),
-        "annual" => Some(Kind::Household(ChangeKind::Annual)),
-        "interim" => Some(Kind::Household(ChangeKind::Interim)),
-        "resume" => Some(Kind::Household(ChangeKind::Resume)),
-        "gross" => Some(Kind::Household(ChangeKind::Gross)),
-        "correct" => Some(Kind::Household(ChangeKind::Correct)),
-        "ask_transfer" => Some(Kind::AskTransfer),
-        "transfer" => Some(Kind::Household(ChangeKind::Transfer)),
-        "move_out" => Some(Kind::Household(ChangeKind::MoveOut)),
-        "terminate" => Some(Kind::Household(ChangeKind::Terminate)),
-        "withdraw" => Some(Kind::Household(ChangeKind::Withdraw)),
-        "close" => Some(Kind::Close),
-        _ => None,
+        let kinds = [
+            ("plan", Kind::Plan),
+            ("unit", Kind::Unit),
+            ("rents", Kind::Rents),
+            ("limits", Kind::Limits),
+            ("apply", Kind::Apply),
+            ("remove", Kind::Remove),
+            ("start", Kind::Start),
+            ("admit", Kind::Admit),
+            ("ask_transfer", Kind::AskTransfer),
+            ("close", Kind::Close),
+            ("annual", Kind::Household(ChangeKind::Annual)),
+            ("interim", Kind::Household(ChangeKind::Interim)),
+            ("resume", Kind::Household(ChangeKind::Resume)),
+            ("gross", Kind::Household(ChangeKind::Gross)),
+            ("correct", Kind::Household(ChangeKind::Correct)),
+            ("transfer", Kind::Household(ChangeKind::Transfer)),
+            ("move_out", Kind::Household(ChangeKind::MoveOut)),
+            ("terminate", Kind::Household(ChangeKind::Terminate)),
+            ("withdraw", Kind::Household(ChangeKind::Withdraw)),
+        ];
+        one_of(alloc, value, &kinds)
     }
 }

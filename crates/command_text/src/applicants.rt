@@ -1,80 +1,122 @@
 ghost use Rattle.std.specs.Prelude.{◌≡◌, true, IfOk};
-ghost use Rattle.serde_json.specs.View.{view};
+ghost use Rattle.serde_json.specs.View.{view, members_view};
 ghost use Rattle.json_form.specs.Gives.{Gives};
-ghost use Rattle.book_rows.specs.Fit.{is_application};
-ghost use Rattle.command_forms.specs.Applicants.{apply_at, remove_at, apply_data, remove_data};
+ghost use Rattle.book_rows.specs.Fit.{is_fit};
+ghost use Rattle.command_forms.specs.Applicants.{apply_at, apply_members, remove_at, remove_members, start_at, start_members, admit_at, admit_members};
 
-use crate::fields::{name_field, put_name};
-use crate::numbers::numbers_field;
-use book_rows::{ApplyAct, RemoveAct};
-use json_form::{FormFault, field, number_field, only, put};
+use crate::forms::Name;
+use book_rows::{AdmitAct, ApplyAct, Command, RemoveAct, StartAct};
+use json_form::{ArrayUpTo, FormFault, Members, Within, field, field_by, number_field};
 use plain_data::NoMemory;
-use serde_json::{Map, Value};
+use serde_json::Value;
 use std::alloc::Global;
 
-/// Reads the command, behind its kind.
 #[tactic(auto, unfolding(command_forms::specs::Applicants::apply_at))]
-pub fn apply_of(alloc: Global, value: &Value) -> Result<ApplyAct, FormFault>
-    ensures exact { Gives (λ apply. apply) result (apply_at (view value.now)) }
-    ensures fit { IfOk result (λ apply. is_application apply ≡ true) }
+pub fn apply_of(alloc: Global, value: &Value) -> Result<Command, FormFault>
+    ensures exact { Gives (λ asked. asked) result (apply_at (view value.now)) }
+    ensures fit { IfOk result (λ asked. is_fit asked ≡ true) }
 {
-    let name = name_field(alloc, value, 40)?;
+    let name = field_by(alloc, value, "name", &Name { most: 40 })?;
     let size = number_field(alloc, value, "size", 1, 12)?;
     let persons = number_field(alloc, value, "persons", size, 16)?;
-    let preferences = numbers_field(alloc, value, "preferences", 16)?;
+    let codes = ArrayUpTo {
+        longest: 16,
+        each: Within { least: 1, most: 16 },
+    };
+    let preferences = field_by(alloc, value, "preferences", &codes)?;
     let accessible = field(alloc, value, "accessible")?;
     let annual = number_field(alloc, value, "annual", 0, 9_999_999)?;
-    let names = [
-        "kind",
-        "name",
-        "size",
-        "persons",
-        "preferences",
-        "accessible",
-        "annual",
-    ];
-    only(alloc, value, &names)?;
-    Ok(ApplyAct {
+    Ok(Command::Apply(ApplyAct {
         name,
         size,
         persons,
         preferences,
         accessible,
         annual,
-    })
+    }))
 }
 
-/// Writes the command.
-pub fn apply_value(alloc: Global, apply: &ApplyAct) -> Result<Value, NoMemory>
-    ensures { IfOk result (λ value. view value ≡ apply_data apply.now) }
+#[tactic(auto, unfolding(command_forms::specs::Applicants::apply_members))]
+pub fn apply_members(alloc: Global, apply: &ApplyAct) -> Result<Members, NoMemory>
+    ensures { IfOk result (λ all. members_view all.members.entries ≡ apply_members apply.now) }
 {
-    let mut object = Map::new(alloc);
-    put(alloc, &mut object, "accessible", &apply.accessible)?;
-    put(alloc, &mut object, "annual", &apply.annual)?;
-    put(alloc, &mut object, "kind", &"apply")?;
-    put_name(alloc, &mut object, &apply.name)?;
-    put(alloc, &mut object, "persons", &apply.persons)?;
-    put(alloc, &mut object, "preferences", &apply.preferences)?;
-    put(alloc, &mut object, "size", &apply.size)?;
-    Ok(Value::Object(object))
+    Members::new(alloc)
+        .with("accessible", &apply.accessible)?
+        .with("annual", &apply.annual)?
+        .with("name", &apply.name)?
+        .with("persons", &apply.persons)?
+        .with("preferences", &apply.preferences)?
+        .with("size", &apply.size)
 }
 
-/// Reads the command, behind its kind.
 #[tactic(auto, unfolding(command_forms::specs::Applicants::remove_at))]
-pub fn remove_of(alloc: Global, value: &Value) -> Result<RemoveAct, FormFault>
-    ensures { Gives (λ remove. remove) result (remove_at (view value.now)) }
+pub fn remove_of(alloc: Global, value: &Value) -> Result<Command, FormFault>
+    ensures exact { Gives (λ asked. asked) result (remove_at (view value.now)) }
+    ensures fit { IfOk result (λ asked. is_fit asked ≡ true) }
 {
     let applicant = field(alloc, value, "applicant")?;
-    only(alloc, value, &["kind", "applicant"])?;
-    Ok(RemoveAct { applicant })
+    Ok(Command::Remove(RemoveAct { applicant }))
 }
 
-/// Writes the command.
-pub fn remove_value(alloc: Global, remove: &RemoveAct) -> Result<Value, NoMemory>
-    ensures { IfOk result (λ value. view value ≡ remove_data remove.now) }
+#[tactic(auto, unfolding(command_forms::specs::Applicants::remove_members))]
+pub fn remove_members(alloc: Global, remove: &RemoveAct) -> Result<Members, NoMemory>
+    ensures { IfOk result (λ all. members_view all.members.entries ≡ remove_members remove.now) }
 {
-    let mut object = Map::new(alloc);
-    put(alloc, &mut object, "applicant", &remove.applicant)?;
-    put(alloc, &mut object, "kind", &"remove")?;
-    Ok(Value::Object(object))
+    Members::new(alloc).with("applicant", &remove.applicant)
+}
+
+#[tactic(auto, unfolding(command_forms::specs::Applicants::start_at))]
+pub fn start_of(alloc: Global, value: &Value) -> Result<Command, FormFault>
+    ensures exact { Gives (λ asked. asked) result (start_at (view value.now)) }
+    ensures fit { IfOk result (λ asked. is_fit asked ≡ true) }
+{
+    let name = field_by(alloc, value, "name", &Name { most: 40 })?;
+    let unit = field(alloc, value, "unit")?;
+    let from = field(alloc, value, "from")?;
+    let facts = field(alloc, value, "facts")?;
+    Ok(Command::Start(StartAct {
+        name,
+        unit,
+        from,
+        facts,
+    }))
+}
+
+#[tactic(auto, unfolding(command_forms::specs::Applicants::start_members))]
+pub fn start_members(alloc: Global, start: &StartAct) -> Result<Members, NoMemory>
+    ensures { IfOk result (λ all. members_view all.members.entries ≡ start_members start.now) }
+{
+    Members::new(alloc)
+        .with("facts", &start.facts)?
+        .with("from", &start.from)?
+        .with("name", &start.name)?
+        .with("unit", &start.unit)
+}
+
+#[tactic(auto, unfolding(command_forms::specs::Applicants::admit_at))]
+pub fn admit_of(alloc: Global, value: &Value) -> Result<Command, FormFault>
+    ensures exact { Gives (λ asked. asked) result (admit_at (view value.now)) }
+    ensures fit { IfOk result (λ asked. is_fit asked ≡ true) }
+{
+    let applicant = field(alloc, value, "applicant")?;
+    let unit = field(alloc, value, "unit")?;
+    let from = field(alloc, value, "from")?;
+    let facts = field(alloc, value, "facts")?;
+    Ok(Command::Admit(AdmitAct {
+        applicant,
+        unit,
+        from,
+        facts,
+    }))
+}
+
+#[tactic(auto, unfolding(command_forms::specs::Applicants::admit_members))]
+pub fn admit_members(alloc: Global, admit: &AdmitAct) -> Result<Members, NoMemory>
+    ensures { IfOk result (λ all. members_view all.members.entries ≡ admit_members admit.now) }
+{
+    Members::new(alloc)
+        .with("applicant", &admit.applicant)?
+        .with("facts", &admit.facts)?
+        .with("from", &admit.from)?
+        .with("unit", &admit.unit)
 }

@@ -5,7 +5,7 @@ ghost use Rattle.book_rows.specs.declared.command.Command.{Command};
 ghost use Rattle.command_forms.specs.Holdable.{IsHoldable};
 ghost use Rattle.command_forms.specs.Commands.{command_at, accepted, command_from, body_of, command_in};
 
-use crate::command::{command_of_value, value_of_command};
+use crate::command::{command_of_value, exact_of};
 use book_rows::Command;
 use command_forms::held_command;
 use json_form::{FormFault, value_of_bytes};
@@ -45,8 +45,7 @@ pub fn body_of_command(alloc: Global, asked: &Command) -> Result<Text, NoMemory>
 fn text_of_command(alloc: Global, asked: &Command) -> Result<Text, NoMemory>
     ensures { IfOk result (λ body. body ≡ body_of asked.now) }
 {
-    let value = value_of_command(alloc, asked)?;
-    Ok(Text::new(value.to_string(alloc)?.into_bytes()))
+    exact_of(alloc, asked)?.text(alloc)
 }
 
 /// The command whose text this is.

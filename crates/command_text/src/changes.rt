@@ -1,104 +1,106 @@
 //! Acts on a household that there is.
 
-ghost use Rattle.std.specs.Prelude.{◌≡◌, map, IfOk};
+ghost use Rattle.std.specs.Prelude.{◌≡◌, true, map, IfOk};
 ghost use Rattle.serde_json.specs.View.{view, members_view};
 ghost use Rattle.json_form.specs.Gives.{Gives};
-ghost use Rattle.command_forms.specs.Changes.{annual_at, interim_at, resume_at, gross_at, correct_at, transfer_at, move_out_at, terminate_at, withdraw_at};
-ghost use Rattle.command_forms.specs.Changes.{annual_members, interim_members, resume_members, gross_members, correct_members, transfer_members, move_out_members, terminate_members, withdraw_members};
-ghost use Rattle.command_forms.specs.Changes.{change_at, household_names, change_members, household_at, household_data};
+ghost use Rattle.book_rows.specs.Fit.{is_fit};
+ghost use Rattle.json_form.specs.Written.{names_of};
+ghost use Rattle.book_rows.specs.declared.command.Command.TheVariants as command;
+ghost use Rattle.command_forms.specs.Commands.{command_members};
+ghost use Rattle.command_forms.specs.Changes.{ask_transfer_at, ask_transfer_members, change_at, change_members, change_word, household_at, household_members};
+ghost use Rattle.command_forms.specs.declared.kind.ChangeKind.TheVariants as kind;
 
 use book_rows::{
-    AnnualAct, CorrectAct, GrossAct, HouseholdAct, HouseholdChange, InterimAct, MoveOutAct,
-    ResumeAct, TerminateAct, TransferAct, WithdrawAct,
+    AnnualAct, AskTransferAct, Command, CorrectAct, GrossAct, HouseholdAct, HouseholdChange,
+    InterimAct, MoveOutAct, ResumeAct, TerminateAct, TransferAct, WithdrawAct,
 };
 use command_forms::ChangeKind;
-use json_form::{FormFault, field, only, put};
+use json_form::{FormFault, Members, field};
 use plain_data::NoMemory;
 use record_history::Dates;
-use serde_json::{Map, Value};
+use serde_json::Value;
 use std::alloc::Global;
 
-/// Reads the act, behind its kind.
+#[tactic(auto, unfolding(command_forms::specs::Changes::ask_transfer_at))]
+pub fn ask_transfer_of(alloc: Global, value: &Value) -> Result<Command, FormFault>
+    ensures exact { Gives (λ asked. asked) result (ask_transfer_at (view value.now)) }
+    ensures fit { IfOk result (λ asked. is_fit asked ≡ true) }
+{
+    let household = field(alloc, value, "household")?;
+    let wanted = field(alloc, value, "wanted")?;
+    let accessible = field(alloc, value, "accessible")?;
+    Ok(Command::AskTransfer(AskTransferAct {
+        household,
+        wanted,
+        accessible,
+    }))
+}
+
+#[tactic(auto, unfolding(command_forms::specs::Changes::ask_transfer_members))]
+pub fn ask_transfer_members(alloc: Global, ask: &AskTransferAct) -> Result<Members, NoMemory>
+    ensures { IfOk result (λ all. members_view all.members.entries ≡ ask_transfer_members ask.now) }
+{
+    Members::new(alloc)
+        .with("accessible", &ask.accessible)?
+        .with("household", &ask.household)?
+        .with("wanted", &ask.wanted)
+}
+
 #[tactic(auto, unfolding(command_forms::specs::Changes::household_at))]
-pub fn household_of(
-    alloc: Global,
-    value: &Value,
-    kind: ChangeKind,
-) -> Result<HouseholdAct, FormFault>
-    ensures { Gives (λ act. act) result (household_at kind (view value.now)) }
+pub fn household_of(alloc: Global, value: &Value, kind: ChangeKind) -> Result<Command, FormFault>
+    ensures exact { Gives (λ asked. asked) result (household_at kind (view value.now)) }
+    ensures fit { IfOk result (λ asked. is_fit asked ≡ true) }
 {
     let household = field(alloc, value, "household")?;
     let seen = field(alloc, value, "seen")?;
     let change = change_of(alloc, value, kind)?;
-    match only(alloc, value, names_of(kind)) {
-        Ok(()) => Ok(HouseholdAct {
-            household,
-            seen,
-            change,
-        }),
-        Err(fault) => {
-            let_go(change);
-            Err(fault)
-        }
-    }
+    Ok(Command::Household(HouseholdAct {
+        household,
+        seen,
+        change,
+    }))
 }
 
-// So that no other proof has a case for each change that goes out of use.
-fn let_go(_change: HouseholdChange) {}
-
+#[tactic(auto, unfolding(command_forms::specs::Changes::change_at))]
 fn change_of(alloc: Global, value: &Value, kind: ChangeKind) -> Result<HouseholdChange, FormFault>
     ensures { Gives (λ change. change) result (change_at kind (view value.now)) }
 {
     match kind {
-        ChangeKind::Annual => annual_of(alloc, value),
+        ChangeKind::Annual => {
+            let from = field(alloc, value, "from")?;
+            let facts = field(alloc, value, "facts")?;
+            Ok(HouseholdChange::Annual(AnnualAct { from, facts }))
+        }
         ChangeKind::Interim => interim_of(alloc, value),
         ChangeKind::Resume => resume_of(alloc, value),
-        ChangeKind::Gross => gross_of(alloc, value),
+        ChangeKind::Gross => {
+            let from = field(alloc, value, "from")?;
+            Ok(HouseholdChange::Gross(GrossAct { from }))
+        }
         ChangeKind::Correct => correct_of(alloc, value),
-        ChangeKind::Transfer => transfer_of(alloc, value),
-        ChangeKind::MoveOut => move_out_of(alloc, value),
-        ChangeKind::Terminate => terminate_of(alloc, value),
-        ChangeKind::Withdraw => withdraw_of(alloc, value),
+        ChangeKind::Transfer => {
+            let unit = field(alloc, value, "unit")?;
+            let from = field(alloc, value, "from")?;
+            Ok(HouseholdChange::Transfer(TransferAct { unit, from }))
+        }
+        ChangeKind::MoveOut => {
+            let last = field(alloc, value, "last")?;
+            Ok(HouseholdChange::MoveOut(MoveOutAct { last }))
+        }
+        ChangeKind::Terminate => {
+            let from = field(alloc, value, "from")?;
+            Ok(HouseholdChange::Terminate(TerminateAct { from }))
+        }
+        ChangeKind::Withdraw => {
+            let target = field(alloc, value, "record")?;
+            Ok(HouseholdChange::Withdraw(WithdrawAct { target }))
+        }
     }
 }
 
-fn names_of(kind: ChangeKind) -> &'static [&'static str]
-    ensures { map (λ name. name.now) result.now ≡ household_names kind }
-{
-    match kind {
-        ChangeKind::Annual => &["kind", "household", "seen", "from", "facts"],
-        ChangeKind::Interim => &[
-            "kind",
-            "household",
-            "seen",
-            "event",
-            "notice",
-            "done",
-            "from",
-            "facts",
-        ],
-        ChangeKind::Resume => &["kind", "household", "seen", "done", "from", "facts"],
-        ChangeKind::Gross => &["kind", "household", "seen", "from"],
-        ChangeKind::Correct => &["kind", "household", "seen", "record", "from", "facts"],
-        ChangeKind::Transfer => &["kind", "household", "seen", "unit", "from"],
-        ChangeKind::MoveOut => &["kind", "household", "seen", "last"],
-        ChangeKind::Terminate => &["kind", "household", "seen", "from"],
-        ChangeKind::Withdraw => &["kind", "household", "seen", "record"],
-    }
-}
-
-#[tactic(auto, unfolding(command_forms::specs::Changes::annual_at))]
-fn annual_of(alloc: Global, value: &Value) -> Result<HouseholdChange, FormFault>
-    ensures { Gives (λ change. change) result (annual_at (view value.now)) }
-{
-    let from = field(alloc, value, "from")?;
-    let facts = field(alloc, value, "facts")?;
-    Ok(HouseholdChange::Annual(AnnualAct { from, facts }))
-}
-
-#[tactic(auto, unfolding(command_forms::specs::Changes::interim_at))]
+#[tactic(auto, unfolding(command_forms::specs::Changes::change_at))]
 fn interim_of(alloc: Global, value: &Value) -> Result<HouseholdChange, FormFault>
-    ensures { Gives (λ change. change) result (interim_at (view value.now)) }
+    ensures { Gives (λ change. change) result (change_at kind.Interim (view value.now)) }
 {
     let event = field(alloc, value, "event")?;
     let notice = field(alloc, value, "notice")?;
@@ -113,9 +115,9 @@ fn interim_of(alloc: Global, value: &Value) -> Result<HouseholdChange, FormFault
     Ok(HouseholdChange::Interim(InterimAct { dates, from, facts }))
 }
 
-#[tactic(auto, unfolding(command_forms::specs::Changes::resume_at))]
+#[tactic(auto, unfolding(command_forms::specs::Changes::change_at))]
 fn resume_of(alloc: Global, value: &Value) -> Result<HouseholdChange, FormFault>
-    ensures { Gives (λ change. change) result (resume_at (view value.now)) }
+    ensures { Gives (λ change. change) result (change_at kind.Resume (view value.now)) }
 {
     let done = field(alloc, value, "done")?;
     let from = field(alloc, value, "from")?;
@@ -123,17 +125,9 @@ fn resume_of(alloc: Global, value: &Value) -> Result<HouseholdChange, FormFault>
     Ok(HouseholdChange::Resume(ResumeAct { done, from, facts }))
 }
 
-#[tactic(auto, unfolding(command_forms::specs::Changes::gross_at))]
-fn gross_of(alloc: Global, value: &Value) -> Result<HouseholdChange, FormFault>
-    ensures { Gives (λ change. change) result (gross_at (view value.now)) }
-{
-    let from = field(alloc, value, "from")?;
-    Ok(HouseholdChange::Gross(GrossAct { from }))
-}
-
-#[tactic(auto, unfolding(command_forms::specs::Changes::correct_at))]
+#[tactic(auto, unfolding(command_forms::specs::Changes::change_at))]
 fn correct_of(alloc: Global, value: &Value) -> Result<HouseholdChange, FormFault>
-    ensures { Gives (λ change. change) result (correct_at (view value.now)) }
+    ensures { Gives (λ change. change) result (change_at kind.Correct (view value.now)) }
 {
     let target = field(alloc, value, "record")?;
     let from = field(alloc, value, "from")?;
@@ -145,155 +139,88 @@ fn correct_of(alloc: Global, value: &Value) -> Result<HouseholdChange, FormFault
     }))
 }
 
-#[tactic(auto, unfolding(command_forms::specs::Changes::transfer_at))]
-fn transfer_of(alloc: Global, value: &Value) -> Result<HouseholdChange, FormFault>
-    ensures { Gives (λ change. change) result (transfer_at (view value.now)) }
+#[tactic(auto, unfolding(command_forms::specs::Changes::household_members))]
+pub fn household_members(alloc: Global, act: &HouseholdAct) -> Result<Members, NoMemory>
+    ensures { IfOk result (λ all. members_view all.members.entries ≡ household_members act.now) }
 {
-    let unit = field(alloc, value, "unit")?;
-    let from = field(alloc, value, "from")?;
-    Ok(HouseholdChange::Transfer(TransferAct { unit, from }))
+    change_members(alloc, &act.change)?
+        .with("seen", &act.seen)?
+        .with("household", &act.household)
 }
 
-#[tactic(auto, unfolding(command_forms::specs::Changes::move_out_at))]
-fn move_out_of(alloc: Global, value: &Value) -> Result<HouseholdChange, FormFault>
-    ensures { Gives (λ change. change) result (move_out_at (view value.now)) }
+#[tactic(auto, unfolding(command_forms::specs::Changes::change_members))]
+fn change_members(alloc: Global, change: &HouseholdChange) -> Result<Members, NoMemory>
+    ensures { IfOk result (λ all. members_view all.members.entries ≡ change_members change.now) }
 {
-    let last = field(alloc, value, "last")?;
-    Ok(HouseholdChange::MoveOut(MoveOutAct { last }))
-}
-
-#[tactic(auto, unfolding(command_forms::specs::Changes::terminate_at))]
-fn terminate_of(alloc: Global, value: &Value) -> Result<HouseholdChange, FormFault>
-    ensures { Gives (λ change. change) result (terminate_at (view value.now)) }
-{
-    let from = field(alloc, value, "from")?;
-    Ok(HouseholdChange::Terminate(TerminateAct { from }))
-}
-
-#[tactic(auto, unfolding(command_forms::specs::Changes::withdraw_at))]
-fn withdraw_of(alloc: Global, value: &Value) -> Result<HouseholdChange, FormFault>
-    ensures { Gives (λ change. change) result (withdraw_at (view value.now)) }
-{
-    let target = field(alloc, value, "record")?;
-    Ok(HouseholdChange::Withdraw(WithdrawAct { target }))
-}
-
-/// Writes the act.
-pub fn household_value(alloc: Global, act: &HouseholdAct) -> Result<Value, NoMemory>
-    ensures { IfOk result (λ value. view value ≡ household_data act.now) }
-{
-    let mut object = members_of(alloc, &act.change)?;
-    put(alloc, &mut object, "seen", &act.seen)?;
-    put(alloc, &mut object, "household", &act.household)?;
-    Ok(Value::Object(object))
-}
-
-fn members_of(alloc: Global, change: &HouseholdChange) -> Result<Map<String, Value>, NoMemory>
-    ensures { IfOk result (λ members. members_view members.entries ≡ change_members change.now) }
-{
+    let none = Members::new(alloc);
     match change {
-        HouseholdChange::Annual(annual) => annual_members(alloc, annual),
-        HouseholdChange::Interim(interim) => interim_members(alloc, interim),
-        HouseholdChange::Resume(resume) => resume_members(alloc, resume),
-        HouseholdChange::Gross(gross) => gross_members(alloc, gross),
-        HouseholdChange::Correct(correct) => correct_members(alloc, correct),
-        HouseholdChange::Transfer(transfer) => transfer_members(alloc, transfer),
-        HouseholdChange::MoveOut(move_out) => move_out_members(alloc, move_out),
-        HouseholdChange::Terminate(terminate) => terminate_members(alloc, terminate),
-        HouseholdChange::Withdraw(withdraw) => withdraw_members(alloc, withdraw),
+        HouseholdChange::Annual(annual) => none
+            .with("facts", &annual.facts)?
+            .with("from", &annual.from),
+        HouseholdChange::Interim(interim) => none
+            .with("done", &interim.dates.done)?
+            .with("event", &interim.dates.event)?
+            .with("facts", &interim.facts)?
+            .with("from", &interim.from)?
+            .with("notice", &interim.dates.notice),
+        HouseholdChange::Resume(resume) => none
+            .with("done", &resume.done)?
+            .with("facts", &resume.facts)?
+            .with("from", &resume.from),
+        HouseholdChange::Gross(gross) => none.with("from", &gross.from),
+        HouseholdChange::Correct(correct) => none
+            .with("facts", &correct.facts)?
+            .with("from", &correct.from)?
+            .with("record", &correct.target),
+        HouseholdChange::Transfer(transfer) => none
+            .with("from", &transfer.from)?
+            .with("unit", &transfer.unit),
+        HouseholdChange::MoveOut(move_out) => none.with("last", &move_out.last),
+        HouseholdChange::Terminate(terminate) => none.with("from", &terminate.from),
+        HouseholdChange::Withdraw(withdraw) => none.with("record", &withdraw.target),
     }
 }
 
-fn annual_members(alloc: Global, annual: &AnnualAct) -> Result<Map<String, Value>, NoMemory>
-    ensures { IfOk result (λ members. members_view members.entries ≡ annual_members annual.now) }
+/// The names of its members, in their byte order.
+#[tactic(auto, unfolding(command_forms::specs::Commands::command_members, command_forms::specs::Changes::household_members, command_forms::specs::Changes::change_members))]
+pub fn household_names(act: &HouseholdAct) -> &'static [&'static str]
+    ensures { map (λ name. name.now) result.now ≡ names_of (command_members (command.Household act.now)) }
 {
-    let mut members = Map::new(alloc);
-    put(alloc, &mut members, "facts", &annual.facts)?;
-    put(alloc, &mut members, "from", &annual.from)?;
-    put(alloc, &mut members, "kind", &"annual")?;
-    Ok(members)
+    match &act.change {
+        HouseholdChange::Annual(_) => &["facts", "from", "household", "kind", "seen"],
+        HouseholdChange::Interim(_) => &[
+            "done",
+            "event",
+            "facts",
+            "from",
+            "household",
+            "kind",
+            "notice",
+            "seen",
+        ],
+        HouseholdChange::Resume(_) => { &["done", "facts", "from", "household", "kind", "seen"] }
+        HouseholdChange::Gross(_) => &["from", "household", "kind", "seen"],
+        HouseholdChange::Correct(_) => { &["facts", "from", "household", "kind", "record", "seen"] }
+        HouseholdChange::Transfer(_) => &["from", "household", "kind", "seen", "unit"],
+        HouseholdChange::MoveOut(_) => &["household", "kind", "last", "seen"],
+        HouseholdChange::Terminate(_) => &["from", "household", "kind", "seen"],
+        HouseholdChange::Withdraw(_) => &["household", "kind", "record", "seen"],
+    }
 }
 
-fn interim_members(alloc: Global, interim: &InterimAct) -> Result<Map<String, Value>, NoMemory>
-    ensures { IfOk result (λ members. members_view members.entries ≡ interim_members interim.now) }
+/// The word for its kind.
+pub fn change_word(change: &HouseholdChange) -> &'static str
+    ensures { result.now ≡ change_word change.now }
 {
-    let mut members = Map::new(alloc);
-    put(alloc, &mut members, "done", &interim.dates.done)?;
-    put(alloc, &mut members, "event", &interim.dates.event)?;
-    put(alloc, &mut members, "facts", &interim.facts)?;
-    put(alloc, &mut members, "from", &interim.from)?;
-    put(alloc, &mut members, "kind", &"interim")?;
-    put(alloc, &mut members, "notice", &interim.dates.notice)?;
-    Ok(members)
-}
-
-fn resume_members(alloc: Global, resume: &ResumeAct) -> Result<Map<String, Value>, NoMemory>
-    ensures { IfOk result (λ members. members_view members.entries ≡ resume_members resume.now) }
-{
-    let mut members = Map::new(alloc);
-    put(alloc, &mut members, "done", &resume.done)?;
-    put(alloc, &mut members, "facts", &resume.facts)?;
-    put(alloc, &mut members, "from", &resume.from)?;
-    put(alloc, &mut members, "kind", &"resume")?;
-    Ok(members)
-}
-
-fn gross_members(alloc: Global, gross: &GrossAct) -> Result<Map<String, Value>, NoMemory>
-    ensures { IfOk result (λ members. members_view members.entries ≡ gross_members gross.now) }
-{
-    let mut members = Map::new(alloc);
-    put(alloc, &mut members, "from", &gross.from)?;
-    put(alloc, &mut members, "kind", &"gross")?;
-    Ok(members)
-}
-
-fn correct_members(alloc: Global, correct: &CorrectAct) -> Result<Map<String, Value>, NoMemory>
-    ensures { IfOk result (λ members. members_view members.entries ≡ correct_members correct.now) }
-{
-    let mut members = Map::new(alloc);
-    put(alloc, &mut members, "facts", &correct.facts)?;
-    put(alloc, &mut members, "from", &correct.from)?;
-    put(alloc, &mut members, "kind", &"correct")?;
-    put(alloc, &mut members, "record", &correct.target)?;
-    Ok(members)
-}
-
-fn transfer_members(alloc: Global, transfer: &TransferAct) -> Result<Map<String, Value>, NoMemory>
-    ensures { IfOk result (λ members. members_view members.entries ≡ transfer_members transfer.now) }
-{
-    let mut members = Map::new(alloc);
-    put(alloc, &mut members, "from", &transfer.from)?;
-    put(alloc, &mut members, "kind", &"transfer")?;
-    put(alloc, &mut members, "unit", &transfer.unit)?;
-    Ok(members)
-}
-
-fn move_out_members(alloc: Global, move_out: &MoveOutAct) -> Result<Map<String, Value>, NoMemory>
-    ensures { IfOk result (λ members. members_view members.entries ≡ move_out_members move_out.now) }
-{
-    let mut members = Map::new(alloc);
-    put(alloc, &mut members, "kind", &"move_out")?;
-    put(alloc, &mut members, "last", &move_out.last)?;
-    Ok(members)
-}
-
-fn terminate_members(
-    alloc: Global,
-    terminate: &TerminateAct,
-) -> Result<Map<String, Value>, NoMemory>
-    ensures { IfOk result (λ members. members_view members.entries ≡ terminate_members terminate.now) }
-{
-    let mut members = Map::new(alloc);
-    put(alloc, &mut members, "from", &terminate.from)?;
-    put(alloc, &mut members, "kind", &"terminate")?;
-    Ok(members)
-}
-
-fn withdraw_members(alloc: Global, withdraw: &WithdrawAct) -> Result<Map<String, Value>, NoMemory>
-    ensures { IfOk result (λ members. members_view members.entries ≡ withdraw_members withdraw.now) }
-{
-    let mut members = Map::new(alloc);
-    put(alloc, &mut members, "kind", &"withdraw")?;
-    put(alloc, &mut members, "record", &withdraw.target)?;
-    Ok(members)
+    match change {
+        HouseholdChange::Annual(_) => "annual",
+        HouseholdChange::Interim(_) => "interim",
+        HouseholdChange::Resume(_) => "resume",
+        HouseholdChange::Gross(_) => "gross",
+        HouseholdChange::Correct(_) => "correct",
+        HouseholdChange::Transfer(_) => "transfer",
+        HouseholdChange::MoveOut(_) => "move_out",
+        HouseholdChange::Terminate(_) => "terminate",
+        HouseholdChange::Withdraw(_) => "withdraw",
+    }
 }

@@ -1,20 +1,26 @@
-ghost use Rattle.std.specs.Prelude.{◌≡◌, true, false, IfOk};
-ghost use Rattle.serde_json.specs.View.{view};
-ghost use Rattle.serde_json.specs.Written.{has_float};
+ghost use Rattle.std.specs.Prelude.{◌≡◌, true, map, IfOk};
+ghost use Rattle.serde_json.specs.View.{view, members_view};
 ghost use Rattle.json_form.specs.Gives.{Gives};
+ghost use Rattle.json_form.specs.Written.{names_of};
 ghost use Rattle.book_rows.specs.Fit.{is_fit};
-ghost use Rattle.command_forms.specs.Commands.{rest_at, command_at, command_data};
+ghost use Rattle.command_forms.specs.Kinds.{word_of};
+ghost use Rattle.command_forms.specs.Commands.{fields_at, field_members, command_at, command_members, command_data};
 
-use crate::applicants::{apply_of, apply_value, remove_of, remove_value};
-use crate::certifications::{admit_of, admit_value, start_of, start_value};
-use crate::changes::{household_of, household_value};
-use crate::moves::{ask_transfer_of, ask_transfer_value, close_of, close_value};
-use crate::property::{
-    limits_of, limits_value, plan_of, plan_value, rents_of, rents_value, unit_of, unit_value,
+use crate::applicants::{
+    admit_members, admit_of, apply_members, apply_of, remove_members, remove_of, start_members,
+    start_of,
 };
-use book_rows::Command;
+use crate::changes::{
+    ask_transfer_members, ask_transfer_of, change_word, household_members, household_names,
+    household_of,
+};
+use crate::property::{
+    limits_members, limits_of, plan_members, plan_of, rents_members, rents_of, unit_members,
+    unit_of,
+};
+use book_rows::{CloseAct, Command};
 use command_forms::Kind;
-use json_form::{FormFault, field, object};
+use json_form::{Exact, FormFault, Members, closed, field, object};
 use plain_data::NoMemory;
 use serde_json::Value;
 use std::alloc::Global;
@@ -28,52 +34,114 @@ pub fn command_of_value(alloc: Global, value: &Value) -> Result<Command, FormFau
 {
     object(alloc, value)?;
     let kind = field(alloc, value, "kind")?;
-    command_of_kind(alloc, value, kind)
+    let asked = fields_of(alloc, value, kind)?;
+    closed(alloc, value, names_of(&asked), asked)
 }
 
-fn command_of_kind(alloc: Global, value: &Value, kind: Kind) -> Result<Command, FormFault>
-    ensures exact { Gives (λ asked. asked) result (rest_at kind (view value.now)) }
+#[tactic(auto, unfolding(command_forms::specs::Commands::fields_at))]
+fn fields_of(alloc: Global, value: &Value, kind: Kind) -> Result<Command, FormFault>
+    ensures exact { Gives (λ asked. asked) result (fields_at kind (view value.now)) }
     ensures fit { IfOk result (λ asked. is_fit asked ≡ true) }
 {
-    let asked = match kind {
-        Kind::Plan => Command::Plan(plan_of(alloc, value)?),
-        Kind::Unit => Command::Unit(unit_of(alloc, value)?),
-        Kind::Rents => Command::Rents(rents_of(alloc, value)?),
-        Kind::Limits => Command::Limits(limits_of(alloc, value)?),
-        Kind::Apply => Command::Apply(apply_of(alloc, value)?),
-        Kind::Remove => Command::Remove(remove_of(alloc, value)?),
-        Kind::Start => Command::Start(start_of(alloc, value)?),
-        Kind::Admit => Command::Admit(admit_of(alloc, value)?),
-        Kind::AskTransfer => Command::AskTransfer(ask_transfer_of(alloc, value)?),
-        Kind::Household(kind) => Command::Household(household_of(alloc, value, kind)?),
-        Kind::Close => Command::Close(close_of(alloc, value)?),
-    };
-    Ok(asked)
+    match kind {
+        Kind::Plan => plan_of(alloc, value),
+        Kind::Unit => unit_of(alloc, value),
+        Kind::Rents => rents_of(alloc, value),
+        Kind::Limits => limits_of(alloc, value),
+        Kind::Apply => apply_of(alloc, value),
+        Kind::Remove => remove_of(alloc, value),
+        Kind::Start => start_of(alloc, value),
+        Kind::Admit => admit_of(alloc, value),
+        Kind::AskTransfer => ask_transfer_of(alloc, value),
+        Kind::Household(change) => household_of(alloc, value, change),
+        Kind::Close => {
+            let month = field(alloc, value, "month")?;
+            Ok(Command::Close(CloseAct { month }))
+        }
+    }
+}
+
+/// The names of a command's members, in their byte order.
+#[tactic(auto, unfolding(command_forms::specs::Commands::command_members, command_forms::specs::Property::plan_members, command_forms::specs::Property::unit_members, command_forms::specs::Property::rents_members, command_forms::specs::Property::limits_members, command_forms::specs::Applicants::apply_members, command_forms::specs::Applicants::remove_members, command_forms::specs::Applicants::start_members, command_forms::specs::Applicants::admit_members, command_forms::specs::Changes::ask_transfer_members))]
+fn names_of(asked: &Command) -> &'static [&'static str]
+    ensures { map (λ name. name.now) result.now ≡ names_of (command_members asked.now) }
+{
+    match asked {
+        Command::Plan(_) => &[
+            "bounds",
+            "early",
+            "expected",
+            "first",
+            "fiscal_month",
+            "kind",
+            "method",
+            "passbook",
+            "ranks",
+            "report_days",
+        ],
+        Command::Unit(_) => &["accessible", "bedrooms", "group", "kind", "name"],
+        Command::Rents(_) => &["contract_rent", "from", "group", "kind", "utility"],
+        Command::Limits(_) => &["extremely_low", "from", "kind", "low", "very_low"],
+        Command::Apply(_) => &[
+            "accessible",
+            "annual",
+            "kind",
+            "name",
+            "persons",
+            "preferences",
+            "size",
+        ],
+        Command::Remove(_) => &["applicant", "kind"],
+        Command::Start(_) => &["facts", "from", "kind", "name", "unit"],
+        Command::Admit(_) => &["applicant", "facts", "from", "kind", "unit"],
+        Command::AskTransfer(_) => &["accessible", "household", "kind", "wanted"],
+        Command::Household(act) => household_names(act),
+        Command::Close(_) => &["kind", "month"],
+    }
 }
 
 /// Writes the command as a value.
-pub fn value_of_command(alloc: Global, asked: &Command) -> Result<Value, NoMemory>
-    ensures value { IfOk result (λ value. view value ≡ command_data asked.now) }
-    // So that its text is exact.
-    ensures no_float { IfOk result (λ value. has_float (view value) ≡ false) }
+#[tactic(auto, unfolding(command_forms::specs::Commands::command_members))]
+pub fn exact_of(alloc: Global, asked: &Command) -> Result<Exact, NoMemory>
+    ensures { IfOk result (λ exact. view exact.value ≡ command_data asked.now) }
 {
-    value_by_kind(alloc, asked)
+    let members = members_of(alloc, asked)?.with("kind", &word_of(asked))?;
+    Ok(members.done())
 }
 
-fn value_by_kind(alloc: Global, asked: &Command) -> Result<Value, NoMemory>
-    ensures { IfOk result (λ value. view value ≡ command_data asked.now) }
+fn members_of(alloc: Global, asked: &Command) -> Result<Members, NoMemory>
+    ensures { IfOk result (λ all. members_view all.members.entries ≡ field_members asked.now) }
 {
     match asked {
-        Command::Plan(plan) => plan_value(alloc, plan),
-        Command::Unit(unit) => unit_value(alloc, unit),
-        Command::Rents(rents) => rents_value(alloc, rents),
-        Command::Limits(limits) => limits_value(alloc, limits),
-        Command::Apply(apply) => apply_value(alloc, apply),
-        Command::Remove(remove) => remove_value(alloc, remove),
-        Command::Start(start) => start_value(alloc, start),
-        Command::Admit(admit) => admit_value(alloc, admit),
-        Command::AskTransfer(ask) => ask_transfer_value(alloc, ask),
-        Command::Household(act) => household_value(alloc, act),
-        Command::Close(close) => close_value(alloc, close),
+        Command::Plan(plan) => plan_members(alloc, plan),
+        Command::Unit(unit) => unit_members(alloc, unit),
+        Command::Rents(rents) => rents_members(alloc, rents),
+        Command::Limits(limits) => limits_members(alloc, limits),
+        Command::Apply(apply) => apply_members(alloc, apply),
+        Command::Remove(remove) => remove_members(alloc, remove),
+        Command::Start(start) => start_members(alloc, start),
+        Command::Admit(admit) => admit_members(alloc, admit),
+        Command::AskTransfer(ask) => ask_transfer_members(alloc, ask),
+        Command::Household(act) => household_members(alloc, act),
+        Command::Close(close) => Members::new(alloc).with("month", &close.month),
+    }
+}
+
+/// The word for the kind of a command.
+fn word_of(asked: &Command) -> &'static str
+    ensures { result.now ≡ word_of asked.now }
+{
+    match asked {
+        Command::Plan(_) => "plan",
+        Command::Unit(_) => "unit",
+        Command::Rents(_) => "rents",
+        Command::Limits(_) => "limits",
+        Command::Apply(_) => "apply",
+        Command::Remove(_) => "remove",
+        Command::Start(_) => "start",
+        Command::Admit(_) => "admit",
+        Command::AskTransfer(_) => "ask_transfer",
+        Command::Household(act) => change_word(&act.change),
+        Command::Close(_) => "close",
     }
 }

@@ -3,14 +3,10 @@
 
 mod applicants;
 mod body;
-mod bounds;
-mod certifications;
 mod changes;
 mod command;
-mod fields;
-mod moves;
-mod numbers;
+mod forms;
 mod property;
 
 pub use body::{BodyFault, body_of_command, command_of_body};
-pub use command::{command_of_value, value_of_command};
+pub use command::command_of_value;

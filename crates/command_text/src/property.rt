@@ -1,50 +1,43 @@
 ghost use Rattle.std.specs.Prelude.{◌≡◌, true, IfOk};
-ghost use Rattle.serde_json.specs.View.{view};
+ghost use Rattle.serde_json.specs.View.{view, members_view};
 ghost use Rattle.json_form.specs.Gives.{Gives};
-ghost use Rattle.book_rows.specs.Fit.{is_plan, is_unit, is_rents, is_limits};
-ghost use Rattle.command_forms.specs.Property.{plan_at, unit_at, rents_at, limits_act_at};
-ghost use Rattle.command_forms.specs.Property.{plan_data, unit_data, rents_data, limits_act_data};
+ghost use Rattle.book_rows.specs.Fit.{is_fit};
+ghost use Rattle.command_forms.specs.Property.{plan_at, plan_members, unit_at, unit_members, rents_at, rents_members, limits_act_at, limits_members};
 
-use crate::bounds::{bounds_field, bounds_value};
-use crate::fields::{first_field, name_field, put_month, put_name};
-use crate::numbers::{limits_field, numbers_field};
-use book_rows::{LimitsAct, RentsAct, UnitAct};
+use crate::forms::{MonthWithin, Name, Persons};
+use book_rows::{Command, LimitsAct, RentsAct, UnitAct};
 use days_core::Rents;
-use json_form::{FormFault, field, number_field, only, put};
-use plain_data::{Listed, NoMemory};
+use json_form::{
+    ArrayOf, ArrayUpTo, FormFault, Members, Within, array_by, field, field_by, number_field,
+};
+use plain_data::NoMemory;
 use rent_table::Plan;
-use serde_json::{Map, Value};
+use serde_json::Value;
 use std::alloc::Global;
 
-/// Reads the command, behind its kind.
 #[tactic(auto, unfolding(command_forms::specs::Property::plan_at))]
-pub fn plan_of(alloc: Global, value: &Value) -> Result<Plan, FormFault>
-    ensures exact { Gives (λ plan. plan) result (plan_at (view value.now)) }
-    ensures fit { IfOk result (λ plan. is_plan plan ≡ true) }
+pub fn plan_of(alloc: Global, value: &Value) -> Result<Command, FormFault>
+    ensures exact { Gives (λ asked. asked) result (plan_at (view value.now)) }
+    ensures fit { IfOk result (λ asked. is_fit asked ≡ true) }
 {
-    let first = first_field(alloc, value, 1440, 2639)?;
+    let years = MonthWithin {
+        least: 1440,
+        most: 2639,
+    };
+    let first = field_by(alloc, value, "first", &years)?;
     let early = field(alloc, value, "early")?;
     let method = number_field(alloc, value, "method", 1, 2)?;
     let fiscal_month = number_field(alloc, value, "fiscal_month", 1, 12)?;
     let report_days = number_field(alloc, value, "report_days", 0, 365)?;
     let passbook = number_field(alloc, value, "passbook", 0, 10_000)?;
     let expected = number_field(alloc, value, "expected", 0, 9_999)?;
-    let bounds = bounds_field(alloc, value)?;
-    let ranks = numbers_field(alloc, value, "ranks", 99)?;
-    let names = [
-        "kind",
-        "first",
-        "early",
-        "method",
-        "fiscal_month",
-        "report_days",
-        "passbook",
-        "expected",
-        "bounds",
-        "ranks",
-    ];
-    only(alloc, value, &names)?;
-    Ok(Plan {
+    let bounds = field_by(alloc, value, "bounds", &ArrayOf { each: Persons })?;
+    let ranks = ArrayUpTo {
+        longest: 16,
+        each: Within { least: 1, most: 99 },
+    };
+    let ranks = field_by(alloc, value, "ranks", &ranks)?;
+    Ok(Command::Plan(Plan {
         first,
         early,
         method,
@@ -54,134 +47,110 @@ pub fn plan_of(alloc: Global, value: &Value) -> Result<Plan, FormFault>
         expected,
         bounds,
         ranks,
-    })
+    }))
 }
 
-/// Writes the command.
-pub fn plan_value(alloc: Global, plan: &Plan) -> Result<Value, NoMemory>
-    ensures { IfOk result (λ value. view value ≡ plan_data plan.now) }
+#[tactic(auto, unfolding(command_forms::specs::Property::plan_members))]
+pub fn plan_members(alloc: Global, plan: &Plan) -> Result<Members, NoMemory>
+    ensures { IfOk result (λ all. members_view all.members.entries ≡ plan_members plan.now) }
 {
-    let mut object = Map::new(alloc);
-    serde_json::put(
-        &mut object,
-        alloc,
-        "bounds",
-        bounds_value(alloc, &plan.bounds)?,
-    )?;
-    put(alloc, &mut object, "early", &plan.early)?;
-    put(alloc, &mut object, "expected", &plan.expected)?;
-    put_month(alloc, &mut object, "first", plan.first)?;
-    put(alloc, &mut object, "fiscal_month", &plan.fiscal_month)?;
-    put(alloc, &mut object, "kind", &"plan")?;
-    put(alloc, &mut object, "method", &plan.method)?;
-    put(alloc, &mut object, "passbook", &plan.passbook)?;
-    put(alloc, &mut object, "ranks", &plan.ranks)?;
-    put(alloc, &mut object, "report_days", &plan.report_days)?;
-    Ok(Value::Object(object))
+    Members::new(alloc)
+        .with_value("bounds", array_by(alloc, &plan.bounds, &Persons)?)?
+        .with("early", &plan.early)?
+        .with("expected", &plan.expected)?
+        .with("first", &plan.first)?
+        .with("fiscal_month", &plan.fiscal_month)?
+        .with("method", &plan.method)?
+        .with("passbook", &plan.passbook)?
+        .with("ranks", &plan.ranks)?
+        .with("report_days", &plan.report_days)
 }
 
-/// Reads the command, behind its kind.
 #[tactic(auto, unfolding(command_forms::specs::Property::unit_at))]
-pub fn unit_of(alloc: Global, value: &Value) -> Result<UnitAct, FormFault>
-    ensures exact { Gives (λ unit. unit) result (unit_at (view value.now)) }
-    ensures fit { IfOk result (λ unit. is_unit unit ≡ true) }
+pub fn unit_of(alloc: Global, value: &Value) -> Result<Command, FormFault>
+    ensures exact { Gives (λ asked. asked) result (unit_at (view value.now)) }
+    ensures fit { IfOk result (λ asked. is_fit asked ≡ true) }
 {
-    let name = name_field(alloc, value, 10)?;
+    let name = field_by(alloc, value, "name", &Name { most: 10 })?;
     let group = number_field(alloc, value, "group", 1, 99)?;
     let bedrooms = number_field(alloc, value, "bedrooms", 0, 5)?;
     let accessible = field(alloc, value, "accessible")?;
-    let names = ["kind", "name", "group", "bedrooms", "accessible"];
-    only(alloc, value, &names)?;
-    Ok(UnitAct {
+    Ok(Command::Unit(UnitAct {
         name,
         group,
         bedrooms,
         accessible,
-    })
+    }))
 }
 
-/// Writes the command.
-pub fn unit_value(alloc: Global, unit: &UnitAct) -> Result<Value, NoMemory>
-    ensures { IfOk result (λ value. view value ≡ unit_data unit.now) }
+#[tactic(auto, unfolding(command_forms::specs::Property::unit_members))]
+pub fn unit_members(alloc: Global, unit: &UnitAct) -> Result<Members, NoMemory>
+    ensures { IfOk result (λ all. members_view all.members.entries ≡ unit_members unit.now) }
 {
-    let mut object = Map::new(alloc);
-    put(alloc, &mut object, "accessible", &unit.accessible)?;
-    put(alloc, &mut object, "bedrooms", &unit.bedrooms)?;
-    put(alloc, &mut object, "group", &unit.group)?;
-    put(alloc, &mut object, "kind", &"unit")?;
-    put_name(alloc, &mut object, &unit.name)?;
-    Ok(Value::Object(object))
+    Members::new(alloc)
+        .with("accessible", &unit.accessible)?
+        .with("bedrooms", &unit.bedrooms)?
+        .with("group", &unit.group)?
+        .with("name", &unit.name)
 }
 
-/// Reads the command, behind its kind.
 #[tactic(auto, unfolding(command_forms::specs::Property::rents_at))]
-pub fn rents_of(alloc: Global, value: &Value) -> Result<RentsAct, FormFault>
-    ensures exact { Gives (λ rents. rents) result (rents_at (view value.now)) }
-    ensures fit { IfOk result (λ rents. is_rents rents ≡ true) }
+pub fn rents_of(alloc: Global, value: &Value) -> Result<Command, FormFault>
+    ensures exact { Gives (λ asked. asked) result (rents_at (view value.now)) }
+    ensures fit { IfOk result (λ asked. is_fit asked ≡ true) }
 {
     let group = number_field(alloc, value, "group", 1, 99)?;
     let from = field(alloc, value, "from")?;
     let contract_rent = number_field(alloc, value, "contract_rent", 0, 99_999)?;
     let utility = number_field(alloc, value, "utility", 0, 9_999)?;
-    let names = ["kind", "group", "from", "contract_rent", "utility"];
-    only(alloc, value, &names)?;
     let rents = Rents {
         contract_rent,
         utility,
     };
-    Ok(RentsAct { group, from, rents })
+    Ok(Command::Rents(RentsAct { group, from, rents }))
 }
 
-/// Writes the command.
-pub fn rents_value(alloc: Global, rents: &RentsAct) -> Result<Value, NoMemory>
-    ensures { IfOk result (λ value. view value ≡ rents_data rents.now) }
+#[tactic(auto, unfolding(command_forms::specs::Property::rents_members))]
+pub fn rents_members(alloc: Global, rents: &RentsAct) -> Result<Members, NoMemory>
+    ensures { IfOk result (λ all. members_view all.members.entries ≡ rents_members rents.now) }
 {
-    let mut object = Map::new(alloc);
-    put(
-        alloc,
-        &mut object,
-        "contract_rent",
-        &rents.rents.contract_rent,
-    )?;
-    put(alloc, &mut object, "from", &rents.from)?;
-    put(alloc, &mut object, "group", &rents.group)?;
-    put(alloc, &mut object, "kind", &"rents")?;
-    put(alloc, &mut object, "utility", &rents.rents.utility)?;
-    Ok(Value::Object(object))
+    Members::new(alloc)
+        .with("contract_rent", &rents.rents.contract_rent)?
+        .with("from", &rents.from)?
+        .with("group", &rents.group)?
+        .with("utility", &rents.rents.utility)
 }
 
-/// Reads the command, behind its kind.
 #[tactic(auto, unfolding(command_forms::specs::Property::limits_act_at))]
-pub fn limits_of(alloc: Global, value: &Value) -> Result<LimitsAct, FormFault>
-    ensures exact { Gives (λ limits. limits) result (limits_act_at (view value.now)) }
-    ensures fit { IfOk result (λ limits. is_limits limits ≡ true) }
+pub fn limits_of(alloc: Global, value: &Value) -> Result<Command, FormFault>
+    ensures exact { Gives (λ asked. asked) result (limits_act_at (view value.now)) }
+    ensures fit { IfOk result (λ asked. is_fit asked ≡ true) }
 {
+    let limits = ArrayOf {
+        each: Within {
+            least: 0,
+            most: 9_999_999,
+        },
+    };
     let from = field(alloc, value, "from")?;
-    let low = limits_field(alloc, value, "low")?;
-    let very_low = limits_field(alloc, value, "very_low")?;
-    let extremely_low = limits_field(alloc, value, "extremely_low")?;
-    let names = ["kind", "from", "low", "very_low", "extremely_low"];
-    only(alloc, value, &names)?;
-    Ok(LimitsAct {
+    let low = field_by(alloc, value, "low", &limits)?;
+    let very_low = field_by(alloc, value, "very_low", &limits)?;
+    let extremely_low = field_by(alloc, value, "extremely_low", &limits)?;
+    Ok(Command::Limits(LimitsAct {
         from,
         low,
         very_low,
         extremely_low,
-    })
+    }))
 }
 
-/// Writes the command.
-pub fn limits_value(alloc: Global, limits: &LimitsAct) -> Result<Value, NoMemory>
-    ensures { IfOk result (λ value. view value ≡ limits_act_data limits.now) }
+#[tactic(auto, unfolding(command_forms::specs::Property::limits_members))]
+pub fn limits_members(alloc: Global, limits: &LimitsAct) -> Result<Members, NoMemory>
+    ensures { IfOk result (λ all. members_view all.members.entries ≡ limits_members limits.now) }
 {
-    let extremely_low = Listed::new(limits.extremely_low.to_vec(alloc)?);
-    let low = Listed::new(limits.low.to_vec(alloc)?);
-    let very_low = Listed::new(limits.very_low.to_vec(alloc)?);
-    let mut object = Map::new(alloc);
-    put(alloc, &mut object, "extremely_low", &extremely_low)?;
-    put(alloc, &mut object, "from", &limits.from)?;
-    put(alloc, &mut object, "kind", &"limits")?;
-    put(alloc, &mut object, "low", &low)?;
-    put(alloc, &mut object, "very_low", &very_low)?;
-    Ok(Value::Object(object))
+    Members::new(alloc)
+        .with("extremely_low", &limits.extremely_low)?
+        .with("from", &limits.from)?
+        .with("low", &limits.low)?
+        .with("very_low", &limits.very_low)
 }

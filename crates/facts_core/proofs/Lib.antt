@@ -1,1 +1,1 @@
-pub mod FactsAgain
+pub mod FactsStand

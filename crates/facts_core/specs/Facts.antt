@@ -1,8 +1,10 @@
--- How the facts of a household are written in JSON.
-use Rattle.std.specs.Prelude.{ℕ, if◌then◌else◌, List, [], ◌∷◌, Option, Some, None, option_and_then, Result, Ok, codes, bytes_eq}
-use Rattle.serde_json.specs.Data.{Data}
-use Rattle.serde_json.specs.Find.{as_str}
-use Rattle.json_form.specs.Form.{◌>>=◌, fit, bool_at, u32_at, day_at, object_at, field, only, array_at}
+-- How the facts of a household are written in JSON: the form of each part, and the members that it is written with, in
+-- the byte order of their names.
+use Rattle.std.specs.Prelude.{ℕ, ◌<◌, ◌≤◌, ◌^◌, List, [], ◌∷◌, Result, Ok, codes}
+use Rattle.std.specs.List.{All}
+use Rattle.serde_json.specs.Data.{Data, boolean, string, object, Members, member, no_members}
+use Rattle.json_form.specs.Form.{◌>>=◌, bool_at, u32_at, day_at, one_of, is_object_at, field, closed_by, array_at}
+use Rattle.json_form.specs.Written.{number_data, day_data, array_data}
 use Rattle.facts_core.specs.declared.members.Relation.{Relation}
 use Rattle.facts_core.specs.declared.members.Relation.TheVariants as relation
 use Rattle.facts_core.specs.declared.members.Member.{Member}
@@ -15,86 +17,130 @@ use Rattle.facts_core.specs.declared.facts.Facts.{Facts}
 
 -- ---- members
 
-abbrev pub relation_from : List ℕ → Option Relation
-relation_from text =
-    if bytes_eq text (codes "Head") then Some relation.Head
-    else (if bytes_eq text (codes "Spouse") then Some relation.Spouse
-    else (if bytes_eq text (codes "Cohead") then Some relation.Cohead
-    else (if bytes_eq text (codes "Other") then Some relation.Other
-    else (if bytes_eq text (codes "Aide") then Some relation.Aide
-    else None))))
+abbrev pub relations : List (List ℕ × Relation)
+relations =
+    (codes "Head", relation.Head) ∷ (codes "Spouse", relation.Spouse) ∷ (codes "Cohead", relation.Cohead)
+    ∷ (codes "Other", relation.Other) ∷ (codes "Aide", relation.Aide) ∷ []
 
-abbrev pub relation_at : Data → Result Relation (List ℕ)
-relation_at d = fit (option_and_then relation_from (as_str d))
+-- the word for a relation
+abbrev pub relation_word : Relation → List ℕ
+relation_word relation.Head = codes "Head"
+relation_word relation.Spouse = codes "Spouse"
+relation_word relation.Cohead = codes "Cohead"
+relation_word relation.Other = codes "Other"
+relation_word relation.Aide = codes "Aide"
 
-abbrev pub member_names : List (List ℕ)
-member_names = codes "relation" ∷ codes "born" ∷ codes "disabled" ∷ codes "student" ∷ codes "helped" ∷ codes "cared" ∷ []
+abbrev pub member_members : Member → Members
+member_members person =
+    member (codes "born") (day_data person.born) (
+    member (codes "cared") (boolean person.cared) (
+    member (codes "disabled") (boolean person.disabled) (
+    member (codes "helped") (boolean person.helped) (
+    member (codes "relation") (string (relation_word person.relation)) (
+    member (codes "student") (boolean person.student) no_members)))))
+
+unfoldable pub member_data : Member → Data
+member_data person = object (member_members person)
 
 unfoldable pub member_at : Data → Result Member (List ℕ)
 member_at d = do
-  _ ← object_at d
-  relation ← field (codes "relation") relation_at d
+  _ ← is_object_at d
+  relation ← field (codes "relation") (one_of relations) d
   born ← field (codes "born") day_at d
   disabled ← field (codes "disabled") bool_at d
   student ← field (codes "student") bool_at d
   helped ← field (codes "helped") bool_at d
   cared ← field (codes "cared") bool_at d
-  _ ← only member_names d
-  Ok (record { relation = relation; born = born; disabled = disabled; student = student; helped = helped; cared = cared })
+  closed_by member_members (record { relation = relation; born = born; disabled = disabled; student = student; helped = helped; cared = cared }) d
 
 -- ---- incomes
 
-abbrev pub kind_from : List ℕ → Option IncomeKind
-kind_from text =
-    if bytes_eq text (codes "Wages") then Some kind.Wages
-    else (if bytes_eq text (codes "Business") then Some kind.Business
-    else (if bytes_eq text (codes "Benefits") then Some kind.Benefits
-    else (if bytes_eq text (codes "Welfare") then Some kind.Welfare
-    else (if bytes_eq text (codes "Adoption") then Some kind.Adoption
-    else (if bytes_eq text (codes "Other") then Some kind.Other
-    else None)))))
+abbrev pub kinds : List (List ℕ × IncomeKind)
+kinds =
+    (codes "Wages", kind.Wages) ∷ (codes "Business", kind.Business) ∷ (codes "Benefits", kind.Benefits)
+    ∷ (codes "Welfare", kind.Welfare) ∷ (codes "Adoption", kind.Adoption) ∷ (codes "Other", kind.Other) ∷ []
 
-abbrev pub kind_at : Data → Result IncomeKind (List ℕ)
-kind_at d = fit (option_and_then kind_from (as_str d))
+-- the word for a kind of income
+abbrev pub kind_word : IncomeKind → List ℕ
+kind_word kind.Wages = codes "Wages"
+kind_word kind.Business = codes "Business"
+kind_word kind.Benefits = codes "Benefits"
+kind_word kind.Welfare = codes "Welfare"
+kind_word kind.Adoption = codes "Adoption"
+kind_word kind.Other = codes "Other"
+
+abbrev pub income_members : Income → Members
+income_members income =
+    member (codes "annual") (number_data income.annual) (
+    member (codes "kind") (string (kind_word income.kind)) (
+    member (codes "member") (number_data income.member) no_members))
+
+unfoldable pub income_data : Income → Data
+income_data income = object (income_members income)
 
 unfoldable pub income_at : Data → Result Income (List ℕ)
 income_at d = do
-  _ ← object_at d
-  member ← field (codes "member") u32_at d
-  kind ← field (codes "kind") kind_at d
+  _ ← is_object_at d
+  whose ← field (codes "member") u32_at d
+  kind ← field (codes "kind") (one_of kinds) d
   annual ← field (codes "annual") u32_at d
-  _ ← only (codes "member" ∷ codes "kind" ∷ codes "annual" ∷ []) d
-  Ok (record { member = member; kind = kind; annual = annual })
+  closed_by income_members (record { member = whose; kind = kind; annual = annual }) d
 
 -- ---- property
 
+abbrev pub asset_members : Asset → Members
+asset_members asset =
+    member (codes "income") (number_data asset.income) (
+    member (codes "value") (number_data asset.value) no_members)
+
+unfoldable pub asset_data : Asset → Data
+asset_data asset = object (asset_members asset)
+
 unfoldable pub asset_at : Data → Result Asset (List ℕ)
 asset_at d = do
-  _ ← object_at d
+  _ ← is_object_at d
   value ← field (codes "value") u32_at d
   income ← field (codes "income") u32_at d
-  _ ← only (codes "value" ∷ codes "income" ∷ []) d
-  Ok (record { value = value; income = income })
+  closed_by asset_members (record { value = value; income = income }) d
+
+abbrev pub disposal_members : Disposal → Members
+disposal_members disposal =
+    member (codes "day") (day_data disposal.day) (
+    member (codes "received") (number_data disposal.received) (
+    member (codes "value") (number_data disposal.value) no_members))
+
+unfoldable pub disposal_data : Disposal → Data
+disposal_data disposal = object (disposal_members disposal)
 
 unfoldable pub disposal_at : Data → Result Disposal (List ℕ)
 disposal_at d = do
-  _ ← object_at d
+  _ ← is_object_at d
   day ← field (codes "day") day_at d
   value ← field (codes "value") u32_at d
   received ← field (codes "received") u32_at d
-  _ ← only (codes "day" ∷ codes "value" ∷ codes "received" ∷ []) d
-  Ok (record { day = day; value = value; received = received })
+  closed_by disposal_members (record { day = day; value = value; received = received }) d
 
 -- ---- the household
 
-abbrev pub facts_names : List (List ℕ)
-facts_names =
-    codes "members" ∷ codes "incomes" ∷ codes "assets" ∷ codes "disposals" ∷ codes "care_work" ∷ codes "care_school"
-    ∷ codes "disability" ∷ codes "medical" ∷ codes "welfare" ∷ codes "exempt" ∷ []
+abbrev pub facts_members : Facts → Members
+facts_members facts =
+    member (codes "assets") (array_data asset_data facts.assets) (
+    member (codes "care_school") (number_data facts.care_school) (
+    member (codes "care_work") (number_data facts.care_work) (
+    member (codes "disability") (number_data facts.disability) (
+    member (codes "disposals") (array_data disposal_data facts.disposals) (
+    member (codes "exempt") (boolean facts.exempt) (
+    member (codes "incomes") (array_data income_data facts.incomes) (
+    member (codes "medical") (number_data facts.medical) (
+    member (codes "members") (array_data member_data facts.members) (
+    member (codes "welfare") (number_data facts.welfare) no_members)))))))))
 
-unfoldable pub facts_at : Data → Result Facts (List ℕ)
-facts_at d = do
-  _ ← object_at d
+unfoldable pub facts_data : Facts → Data
+facts_data facts = object (facts_members facts)
+
+-- their fields
+unfoldable pub facts_fields_at : Data → Result Facts (List ℕ)
+facts_fields_at d = do
   members ← field (codes "members") (array_at member_at) d
   incomes ← field (codes "incomes") (array_at income_at) d
   assets ← field (codes "assets") (array_at asset_at) d
@@ -105,5 +151,36 @@ facts_at d = do
   medical ← field (codes "medical") u32_at d
   welfare ← field (codes "welfare") u32_at d
   exempt ← field (codes "exempt") bool_at d
-  _ ← only facts_names d
   Ok (record { members = members; incomes = incomes; assets = assets; disposals = disposals; care_work = care_work; care_school = care_school; disability = disability; medical = medical; welfare = welfare; exempt = exempt })
+
+unfoldable pub facts_at : Data → Result Facts (List ℕ)
+facts_at d = do
+  _ ← is_object_at d
+  facts ← facts_fields_at d
+  closed_by facts_members facts d
+
+-- ---- facts that a program can hold: each number fits 32 bits, and each day is of the years 1880 to 2199
+
+pub record IncomeFits (income : Income) : Type 0 where
+  pub member : income.member < 2 ^ 32
+  pub annual : income.annual < 2 ^ 32
+
+pub record AssetFits (asset : Asset) : Type 0 where
+  pub value : asset.value < 2 ^ 32
+  pub income : asset.income < 2 ^ 32
+
+pub record DisposalFits (disposal : Disposal) : Type 0 where
+  pub day : disposal.day ≤ 116877
+  pub value : disposal.value < 2 ^ 32
+  pub received : disposal.received < 2 ^ 32
+
+pub record FactsFit (facts : Facts) : Type 0 where
+  pub members : All (λ person. person.born ≤ 116877) facts.members
+  pub incomes : All IncomeFits facts.incomes
+  pub assets : All AssetFits facts.assets
+  pub disposals : All DisposalFits facts.disposals
+  pub care_work : facts.care_work < 2 ^ 32
+  pub care_school : facts.care_school < 2 ^ 32
+  pub disability : facts.disability < 2 ^ 32
+  pub medical : facts.medical < 2 ^ 32
+  pub welfare : facts.welfare < 2 ^ 32

@@ -1,12 +1,13 @@
-ghost use Rattle.facts_core.specs.Facts.{facts_at};
-ghost use Rattle.facts_core.specs.FactsData.{facts_data};
+ghost use Rattle.serde_json.specs.View.{view};
+ghost use Rattle.json_form.specs.Gives.{Gives};
+ghost use Rattle.facts_core.specs.Facts.{facts_fields_at, facts_at, facts_data};
 
 use crate::incomes::Income;
 use crate::members::Member;
 use crate::property::{Asset, Disposal};
-use json_form::{FormFault, Formed, Written, field, object, only, put};
+use json_form::{Exact, FormFault, Formed, Members, Written, closed, field, object};
 use plain_data::{Listed, NoMemory};
-use serde_json::{Map, Value};
+use serde_json::Value;
 use std::alloc::Global;
 
 /// What a household's rent is assessed from. Amounts are whole dollars: those of costs for the year, the welfare rent
@@ -55,59 +56,67 @@ impl Formed for Facts {
     #[tactic(auto, unfolding(crate::specs::Facts::facts_at))]
     fn of_value(alloc: Global, value: &Value) -> Result<Facts, FormFault> {
         object(alloc, value)?;
-        let members = field(alloc, value, "members")?;
-        let incomes = field(alloc, value, "incomes")?;
-        let assets = field(alloc, value, "assets")?;
-        let disposals = field(alloc, value, "disposals")?;
-        let care_work = field(alloc, value, "care_work")?;
-        let care_school = field(alloc, value, "care_school")?;
-        let disability = field(alloc, value, "disability")?;
-        let medical = field(alloc, value, "medical")?;
-        let welfare = field(alloc, value, "welfare")?;
-        let exempt = field(alloc, value, "exempt")?;
+        let facts = fields_of(alloc, value)?;
         let names = [
-            "members",
-            "incomes",
             "assets",
-            "disposals",
-            "care_work",
             "care_school",
+            "care_work",
             "disability",
-            "medical",
-            "welfare",
+            "disposals",
             "exempt",
+            "incomes",
+            "medical",
+            "members",
+            "welfare",
         ];
-        only(alloc, value, &names)?;
-        Ok(Facts {
-            members,
-            incomes,
-            assets,
-            disposals,
-            care_work,
-            care_school,
-            disability,
-            medical,
-            welfare,
-            exempt,
-        })
+        closed(alloc, value, &names, facts)
     }
+}
+
+#[tactic(auto, unfolding(crate::specs::Facts::facts_fields_at))]
+fn fields_of(alloc: Global, value: &Value) -> Result<Facts, FormFault>
+    ensures { Gives (λ facts. facts) result (facts_fields_at (view value.now)) }
+{
+    let members = field(alloc, value, "members")?;
+    let incomes = field(alloc, value, "incomes")?;
+    let assets = field(alloc, value, "assets")?;
+    let disposals = field(alloc, value, "disposals")?;
+    let care_work = field(alloc, value, "care_work")?;
+    let care_school = field(alloc, value, "care_school")?;
+    let disability = field(alloc, value, "disability")?;
+    let medical = field(alloc, value, "medical")?;
+    let welfare = field(alloc, value, "welfare")?;
+    let exempt = field(alloc, value, "exempt")?;
+    Ok(Facts {
+        members,
+        incomes,
+        assets,
+        disposals,
+        care_work,
+        care_school,
+        disability,
+        medical,
+        welfare,
+        exempt,
+    })
 }
 
 impl Written for Facts {
     ghost written = { facts_data };
 
-    fn to_value(&self, alloc: Global) -> Result<Value, NoMemory> {
-        let mut object = Map::new(alloc);
-        put(alloc, &mut object, "assets", &self.assets)?;
-        put(alloc, &mut object, "care_school", &self.care_school)?;
-        put(alloc, &mut object, "care_work", &self.care_work)?;
-        put(alloc, &mut object, "disability", &self.disability)?;
-        put(alloc, &mut object, "disposals", &self.disposals)?;
-        put(alloc, &mut object, "exempt", &self.exempt)?;
-        put(alloc, &mut object, "incomes", &self.incomes)?;
-        put(alloc, &mut object, "medical", &self.medical)?;
-        put(alloc, &mut object, "members", &self.members)?;
-        put(alloc, &mut object, "welfare", &self.welfare)?;
-        Ok(Value::Object(object))
+    #[tactic(auto, unfolding(crate::specs::Facts::facts_data))]
+    fn to_value(&self, alloc: Global) -> Result<Exact, NoMemory> {
+        let members = Members::new(alloc)
+            .with("assets", &self.assets)?
+            .with("care_school", &self.care_school)?
+            .with("care_work", &self.care_work)?
+            .with("disability", &self.disability)?
+            .with("disposals", &self.disposals)?
+            .with("exempt", &self.exempt)?
+            .with("incomes", &self.incomes)?
+            .with("medical", &self.medical)?
+            .with("members", &self.members)?
+            .with("welfare", &self.welfare)?;
+        Ok(members.done())
     }
 }

@@ -1,10 +1,11 @@
 ghost use Rattle.std.specs.Prelude.{◌≡◌};
-ghost use Rattle.facts_core.specs.Facts.{kind_from, kind_at, income_at};
-ghost use Rattle.facts_core.specs.FactsData.{kind_word, kind_data, income_data};
+ghost use Rattle.serde_json.specs.Data.{string};
+ghost use Rattle.json_form.specs.Form.{one_of};
+ghost use Rattle.facts_core.specs.Facts.{kinds, kind_word, income_at, income_data};
 
-use json_form::{FormFault, Formed, Written, field, object, only, put, text};
+use json_form::{Exact, FormFault, Formed, Members, Written, closed, field, object, one_of};
 use plain_data::NoMemory;
-use serde_json::{Map, Value};
+use serde_json::Value;
 use std::alloc::Global;
 
 /// Where an income comes from.
@@ -29,27 +30,18 @@ pub struct Income {
 }
 
 impl Formed for IncomeKind {
-    ghost form = { kind_at };
+    ghost form = { one_of kinds };
 
     fn of_value(alloc: Global, value: &Value) -> Result<IncomeKind, FormFault> {
-        match kind_of(text(alloc, value)?) {
-            Some(kind) => Ok(kind),
-            None => Err(FormFault::here(alloc)),
-        }
-    }
-}
-
-fn kind_of(text: &str) -> Option<IncomeKind>
-    ensures { result ≡ kind_from text.now }
-{
-    match text {
-        "Wages" => Some(IncomeKind::Wages),
-        "Business" => Some(IncomeKind::Business),
-        "Benefits" => Some(IncomeKind::Benefits),
-        "Welfare" => Some(IncomeKind::Welfare),
-        "Adoption" => Some(IncomeKind::Adoption),
-        "Other" => Some(IncomeKind::Other),
-        _ => None,
+        let kinds = [
+            ("Wages", IncomeKind::Wages),
+            ("Business", IncomeKind::Business),
+            ("Benefits", IncomeKind::Benefits),
+            ("Welfare", IncomeKind::Welfare),
+            ("Adoption", IncomeKind::Adoption),
+            ("Other", IncomeKind::Other),
+        ];
+        one_of(alloc, value, &kinds)
     }
 }
 
@@ -62,19 +54,19 @@ impl Formed for Income {
         let member = field(alloc, value, "member")?;
         let kind = field(alloc, value, "kind")?;
         let annual = field(alloc, value, "annual")?;
-        only(alloc, value, &["member", "kind", "annual"])?;
-        Ok(Income {
+        let income = Income {
             member,
             kind,
             annual,
-        })
+        };
+        closed(alloc, value, &["annual", "kind", "member"], income)
     }
 }
 
 impl Written for IncomeKind {
-    ghost written = { kind_data };
+    ghost written = { λ kind. string (kind_word kind) };
 
-    fn to_value(&self, alloc: Global) -> Result<Value, NoMemory> {
+    fn to_value(&self, alloc: Global) -> Result<Exact, NoMemory> {
         kind_word(*self).to_value(alloc)
     }
 }
@@ -95,11 +87,12 @@ fn kind_word(kind: IncomeKind) -> &'static str
 impl Written for Income {
     ghost written = { income_data };
 
-    fn to_value(&self, alloc: Global) -> Result<Value, NoMemory> {
-        let mut object = Map::new(alloc);
-        put(alloc, &mut object, "annual", &self.annual)?;
-        put(alloc, &mut object, "kind", &self.kind)?;
-        put(alloc, &mut object, "member", &self.member)?;
-        Ok(Value::Object(object))
+    #[tactic(auto, unfolding(crate::specs::Facts::income_data))]
+    fn to_value(&self, alloc: Global) -> Result<Exact, NoMemory> {
+        let members = Members::new(alloc)
+            .with("annual", &self.annual)?
+            .with("kind", &self.kind)?
+            .with("member", &self.member)?;
+        Ok(members.done())
     }
 }

@@ -3,8 +3,7 @@ ghost use Rattle.serde_json.specs.View.{view};
 ghost use Rattle.serde_json.specs.Written.{has_float};
 ghost use Rattle.json_form.specs.Gives.{Gives};
 ghost use Rattle.facts_core.specs.declared.facts.Facts.{Facts};
-ghost use Rattle.facts_core.specs.Facts.{facts_at};
-ghost use Rattle.facts_core.specs.FactsData.{facts_data, FactsFit};
+ghost use Rattle.facts_core.specs.Facts.{facts_at, facts_data, FactsFit};
 
 use crate::facts::Facts;
 use json_form::{FormFault, Formed, Written};
@@ -26,7 +25,7 @@ pub fn value_of_facts(alloc: Global, facts: &Facts) -> Result<Value, NoMemory>
     // So that its text is exact.
     ensures no_float { IfOk result (λ value. has_float (view value) ≡ false) }
 {
-    facts.to_value(alloc)
+    Ok(facts.to_value(alloc)?.into_value())
 }
 
 /// All facts that a program can hold are read again from the value that is written of them.

@@ -1,11 +1,12 @@
 ghost use Rattle.std.specs.Prelude.{◌≡◌};
-ghost use Rattle.facts_core.specs.Facts.{relation_from, relation_at, member_at};
-ghost use Rattle.facts_core.specs.FactsData.{relation_word, relation_data, member_data};
+ghost use Rattle.serde_json.specs.Data.{string};
+ghost use Rattle.json_form.specs.Form.{one_of};
+ghost use Rattle.facts_core.specs.Facts.{relations, relation_word, member_at, member_data};
 
 use days_core::Day;
-use json_form::{FormFault, Formed, Written, field, object, only, put, text};
+use json_form::{Exact, FormFault, Formed, Members, Written, closed, field, object, one_of};
 use plain_data::NoMemory;
-use serde_json::{Map, Value};
+use serde_json::Value;
 use std::alloc::Global;
 
 /// What a member is to the household.
@@ -36,26 +37,17 @@ pub struct Member {
 }
 
 impl Formed for Relation {
-    ghost form = { relation_at };
+    ghost form = { one_of relations };
 
     fn of_value(alloc: Global, value: &Value) -> Result<Relation, FormFault> {
-        match relation_of(text(alloc, value)?) {
-            Some(relation) => Ok(relation),
-            None => Err(FormFault::here(alloc)),
-        }
-    }
-}
-
-fn relation_of(text: &str) -> Option<Relation>
-    ensures { result ≡ relation_from text.now }
-{
-    match text {
-        "Head" => Some(Relation::Head),
-        "Spouse" => Some(Relation::Spouse),
-        "Cohead" => Some(Relation::Cohead),
-        "Other" => Some(Relation::Other),
-        "Aide" => Some(Relation::Aide),
-        _ => None,
+        let relations = [
+            ("Head", Relation::Head),
+            ("Spouse", Relation::Spouse),
+            ("Cohead", Relation::Cohead),
+            ("Other", Relation::Other),
+            ("Aide", Relation::Aide),
+        ];
+        one_of(alloc, value, &relations)
     }
 }
 
@@ -71,23 +63,23 @@ impl Formed for Member {
         let student = field(alloc, value, "student")?;
         let helped = field(alloc, value, "helped")?;
         let cared = field(alloc, value, "cared")?;
-        let names = ["relation", "born", "disabled", "student", "helped", "cared"];
-        only(alloc, value, &names)?;
-        Ok(Member {
+        let names = ["born", "cared", "disabled", "helped", "relation", "student"];
+        let member = Member {
             relation,
             born,
             disabled,
             student,
             helped,
             cared,
-        })
+        };
+        closed(alloc, value, &names, member)
     }
 }
 
 impl Written for Relation {
-    ghost written = { relation_data };
+    ghost written = { λ relation. string (relation_word relation) };
 
-    fn to_value(&self, alloc: Global) -> Result<Value, NoMemory> {
+    fn to_value(&self, alloc: Global) -> Result<Exact, NoMemory> {
         relation_word(*self).to_value(alloc)
     }
 }
@@ -107,14 +99,15 @@ fn relation_word(relation: Relation) -> &'static str
 impl Written for Member {
     ghost written = { member_data };
 
-    fn to_value(&self, alloc: Global) -> Result<Value, NoMemory> {
-        let mut object = Map::new(alloc);
-        put(alloc, &mut object, "born", &self.born)?;
-        put(alloc, &mut object, "cared", &self.cared)?;
-        put(alloc, &mut object, "disabled", &self.disabled)?;
-        put(alloc, &mut object, "helped", &self.helped)?;
-        put(alloc, &mut object, "relation", &self.relation)?;
-        put(alloc, &mut object, "student", &self.student)?;
-        Ok(Value::Object(object))
+    #[tactic(auto, unfolding(crate::specs::Facts::member_data))]
+    fn to_value(&self, alloc: Global) -> Result<Exact, NoMemory> {
+        let members = Members::new(alloc)
+            .with("born", &self.born)?
+            .with("cared", &self.cared)?
+            .with("disabled", &self.disabled)?
+            .with("helped", &self.helped)?
+            .with("relation", &self.relation)?
+            .with("student", &self.student)?;
+        Ok(members.done())
     }
 }

@@ -1,10 +1,9 @@
-ghost use Rattle.facts_core.specs.Facts.{asset_at, disposal_at};
-ghost use Rattle.facts_core.specs.FactsData.{asset_data, disposal_data};
+ghost use Rattle.facts_core.specs.Facts.{asset_at, asset_data, disposal_at, disposal_data};
 
 use days_core::Day;
-use json_form::{FormFault, Formed, Written, field, object, only, put};
+use json_form::{Exact, FormFault, Formed, Members, Written, closed, field, object};
 use plain_data::NoMemory;
-use serde_json::{Map, Value};
+use serde_json::Value;
 use std::alloc::Global;
 
 /// Something of value that the household owns.
@@ -34,11 +33,11 @@ impl Formed for Asset {
         object(alloc, value)?;
         let worth = field(alloc, value, "value")?;
         let income = field(alloc, value, "income")?;
-        only(alloc, value, &["value", "income"])?;
-        Ok(Asset {
+        let asset = Asset {
             value: worth,
             income,
-        })
+        };
+        closed(alloc, value, &["income", "value"], asset)
     }
 }
 
@@ -51,34 +50,36 @@ impl Formed for Disposal {
         let day = field(alloc, value, "day")?;
         let worth = field(alloc, value, "value")?;
         let received = field(alloc, value, "received")?;
-        only(alloc, value, &["day", "value", "received"])?;
-        Ok(Disposal {
+        let disposal = Disposal {
             day,
             value: worth,
             received,
-        })
+        };
+        closed(alloc, value, &["day", "received", "value"], disposal)
     }
 }
 
 impl Written for Asset {
     ghost written = { asset_data };
 
-    fn to_value(&self, alloc: Global) -> Result<Value, NoMemory> {
-        let mut object = Map::new(alloc);
-        put(alloc, &mut object, "income", &self.income)?;
-        put(alloc, &mut object, "value", &self.value)?;
-        Ok(Value::Object(object))
+    #[tactic(auto, unfolding(crate::specs::Facts::asset_data))]
+    fn to_value(&self, alloc: Global) -> Result<Exact, NoMemory> {
+        let members = Members::new(alloc)
+            .with("income", &self.income)?
+            .with("value", &self.value)?;
+        Ok(members.done())
     }
 }
 
 impl Written for Disposal {
     ghost written = { disposal_data };
 
-    fn to_value(&self, alloc: Global) -> Result<Value, NoMemory> {
-        let mut object = Map::new(alloc);
-        put(alloc, &mut object, "day", &self.day)?;
-        put(alloc, &mut object, "received", &self.received)?;
-        put(alloc, &mut object, "value", &self.value)?;
-        Ok(Value::Object(object))
+    #[tactic(auto, unfolding(crate::specs::Facts::disposal_data))]
+    fn to_value(&self, alloc: Global) -> Result<Exact, NoMemory> {
+        let members = Members::new(alloc)
+            .with("day", &self.day)?
+            .with("received", &self.received)?
+            .with("value", &self.value)?;
+        Ok(members.done())
     }
 }

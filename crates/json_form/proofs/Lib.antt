@@ -1,5 +1,8 @@
 pub mod DataFrom
 pub mod Faults
+pub mod Floats
 pub mod Items
-pub mod Members
-pub mod Again
+pub mod Names
+pub mod Plain
+pub mod Stands
+pub mod Texts

@@ -11,6 +11,7 @@ use Rattle.serde_json.specs.Find.{get, as_bool, as_number, as_str, as_array, as_
 use Rattle.serde_json.specs.Read.{read}
 use Rattle.days_core.specs.DayText.{day_from, month_from}
 use Rattle.json_form.specs.Path.{position, joined}
+use Rattle.json_form.specs.Written.{names_of}
 
 -- one reading after the other: the first that fails is what fails
 infixl 10 ◌>>=◌
@@ -34,32 +35,41 @@ under step (Err path) = Err (joined step path)
 abbrev pub data_from : List ℕ → Option Data
 data_from bytes = if is_utf8 bytes then read bytes else None
 
+-- what was read, where it passes the test
+abbrev pub passing : {A : Type 0} → (A → Bool) → A → Result A (List ℕ)
+passing test x = if test x then Ok x else Err []
+
 -- ---- plain values
 
-abbrev pub bool_at : Data → Result Bool (List ℕ)
+unfoldable pub bool_at : Data → Result Bool (List ℕ)
 bool_at d = fit (as_bool d)
 
-abbrev pub text_at : Data → Result (List ℕ) (List ℕ)
+unfoldable pub text_at : Data → Result (List ℕ) (List ℕ)
 text_at d = fit (as_str d)
 
--- a number from the least to the most
-abbrev pub number_within : ℕ → ℕ → ℕ → Option ℕ
-number_within least most number = if nat_le least number && nat_le number most then Some number else None
-
 -- a whole number in that range, without fraction or exponent
-abbrev pub number_at : ℕ → ℕ → Data → Result ℕ (List ℕ)
-number_at least most d = fit (option_and_then (number_within least most) (option_and_then as_u64 (as_number d)))
+unfoldable pub number_at : ℕ → ℕ → Data → Result ℕ (List ℕ)
+number_at least most d = fit (option_and_then as_u64 (as_number d)) >>= passing (λ number. nat_le least number && nat_le number most)
 
-abbrev pub u32_at : Data → Result ℕ (List ℕ)
+unfoldable pub u32_at : Data → Result ℕ (List ℕ)
 u32_at d = number_at 0 4294967295 d
 
 -- a day, as the text YYYY-MM-DD
-abbrev pub day_at : Data → Result ℕ (List ℕ)
+unfoldable pub day_at : Data → Result ℕ (List ℕ)
 day_at d = fit (option_and_then day_from (as_str d))
 
 -- a month, as the text YYYY-MM
-abbrev pub month_at : Data → Result ℕ (List ℕ)
+unfoldable pub month_at : Data → Result ℕ (List ℕ)
 month_at d = fit (option_and_then month_from (as_str d))
+
+-- what the first of some words says that is the text
+abbrev pub chosen : {A : Type 0} → List (List ℕ × A) → List ℕ → Option A
+chosen [] text = None
+chosen (choice ∷ choices) text = if bytes_eq text choice.0 then Some choice.1 else chosen choices text
+
+-- one of some words
+unfoldable pub one_of : {A : Type 0} → List (List ℕ × A) → Data → Result A (List ℕ)
+one_of choices d = fit (option_and_then (chosen choices) (as_str d))
 
 -- ---- objects
 
@@ -68,7 +78,7 @@ abbrev pub object_at : Data → Result Members (List ℕ)
 object_at d = fit (as_object d)
 
 -- an object, whatever its members
-abbrev pub is_object_at : Data → Result ⊤ (List ℕ)
+unfoldable pub is_object_at : Data → Result ⊤ (List ℕ)
 is_object_at d = object_at d >>= λ members. Ok tt
 
 abbrev pub if_found : {A : Type 0} → (Data → Result A (List ℕ)) → Option Data → Result A (List ℕ)
@@ -76,7 +86,7 @@ if_found read (Some d) = read d
 if_found read None = Err []
 
 -- a field of that name and form
-abbrev pub field : {A : Type 0} → List ℕ → (Data → Result A (List ℕ)) → Data → Result A (List ℕ)
+unfoldable pub field : {A : Type 0} → List ℕ → (Data → Result A (List ℕ)) → Data → Result A (List ℕ)
 field name read d = under name (if_found read (get name d))
 
 abbrev pub some_if_found : {A : Type 0} → (Data → Result A (List ℕ)) → Option Data → Result (Option A) (List ℕ)
@@ -84,7 +94,7 @@ some_if_found read (Some d) = read d >>= λ x. Ok (Some x)
 some_if_found read None = Ok None
 
 -- the same, where the field may be missing
-abbrev pub optional_field : {A : Type 0} → List ℕ → (Data → Result A (List ℕ)) → Data → Result (Option A) (List ℕ)
+unfoldable pub optional_field : {A : Type 0} → List ℕ → (Data → Result A (List ℕ)) → Data → Result (Option A) (List ℕ)
 optional_field name read d = under name (some_if_found read (get name d))
 
 abbrev pub is_listed : List (List ℕ) → List ℕ → Bool
@@ -96,8 +106,16 @@ has_other names no_members = false
 has_other names (member name d members) = not (is_listed names name) || has_other names members
 
 -- an object with no members but these
-abbrev pub only : List (List ℕ) → Data → Result ⊤ (List ℕ)
+unfoldable pub only : List (List ℕ) → Data → Result ⊤ (List ℕ)
 only names d = object_at d >>= λ members. if has_other names members then Err (codes "?") else Ok tt
+
+-- what was read of an object, where that has no members but these
+abbrev pub closed : {A : Type 0} → List (List ℕ) → A → Data → Result A (List ℕ)
+closed names x d = only names d >>= λ _. Ok x
+
+-- the same, with those that it is written with
+abbrev pub closed_by : {A : Type 0} → (A → Members) → A → Data → Result A (List ℕ)
+closed_by members x d = closed (names_of (members x)) x d
 
 -- ---- arrays
 
@@ -114,9 +132,17 @@ count_of no_items = 0
 count_of (item d items) = suc (count_of items)
 
 -- an array of any length, with items of one form
-abbrev pub array_at : {A : Type 0} → (Data → Result A (List ℕ)) → Data → Result (List A) (List ℕ)
+unfoldable pub array_at : {A : Type 0} → (Data → Result A (List ℕ)) → Data → Result (List A) (List ℕ)
 array_at read d = fit (as_array d) >>= items_from read 0
 
--- the same of a stated length
+-- the same where its length passes a test
+unfoldable pub array_if : {A : Type 0} → (ℕ → Bool) → (Data → Result A (List ℕ)) → Data → Result (List A) (List ℕ)
+array_if test read d = fit (as_array d) >>= λ items. if test (count_of items) then items_from read 0 items else Err []
+
+-- as many as that
 abbrev pub array_of : {A : Type 0} → ℕ → (Data → Result A (List ℕ)) → Data → Result (List A) (List ℕ)
-array_of length read d = fit (as_array d) >>= λ items. if count_of items == length then items_from read 0 items else Err []
+array_of length read = array_if (λ count. count == length) read
+
+-- at most so many
+abbrev pub array_up_to : {A : Type 0} → ℕ → (Data → Result A (List ℕ)) → Data → Result (List A) (List ℕ)
+array_up_to longest read = array_if (λ count. nat_le count longest) read

@@ -1,4 +1,4 @@
-ghost use Rattle.std.specs.Prelude.{◌≡◌, ◌≤◌, map, not, bytes_eq, IfOk, string_bytes};
+ghost use Rattle.std.specs.Prelude.{◌≡◌, ◌≤◌, true, map, not, bytes_eq, IfOk, string_bytes};
 ghost use Rattle.std.specs.List.{list_any};
 ghost use Rattle.std.specs.BTreeMap.{keys};
 ghost use Rattle.serde_json.specs.View.{view};
@@ -7,11 +7,14 @@ ghost use Rattle.json_form.specs.Form as form;
 
 use crate::fault::FormFault;
 use crate::formed::Formed;
+use crate::forms::Form;
 use crate::value::number;
 use serde_json::{Map, Value};
 use std::alloc::Global;
+use std::marker::PhantomData;
 
 /// Reads that the value is an object, whatever its members.
+#[tactic(auto, unfolding(crate::specs::Form::is_object_at))]
 pub fn object(alloc: Global, value: &Value) -> Result<(), FormFault>
     ensures { Gives (λ _. tt) result (form.is_object_at (view value.now)) }
 {
@@ -26,8 +29,22 @@ pub fn object(alloc: Global, value: &Value) -> Result<(), FormFault>
 pub fn field<T: Formed>(alloc: Global, value: &Value, name: &str) -> Result<T, FormFault>
     ensures { Gives (λ x. x) result (form.field name.now T.form (view value.now)) }
 {
+    field_by(alloc, value, name, &PhantomData::<T>)
+}
+
+/// Reads the field of that name, by a form.
+#[tactic(auto, unfolding(crate::specs::Form::field))]
+pub fn field_by<F: Form>(
+    alloc: Global,
+    value: &Value,
+    name: &str,
+    by: &F,
+) -> Result<F::Read, FormFault>
+    ensures exact { Gives (λ x. x) result (form.field name.now (F.form by.now) (view value.now)) }
+    ensures fit { IfOk result (λ x. F.passes by.now x ≡ true) }
+{
     match value.get(name) {
-        Some(found) => match T::of_value(alloc, found) {
+        Some(found) => match by.read(alloc, found) {
             Ok(x) => Ok(x),
             Err(fault) => Err(fault.under(alloc, name)),
         },
@@ -36,6 +53,7 @@ pub fn field<T: Formed>(alloc: Global, value: &Value, name: &str) -> Result<T, F
 }
 
 /// Reads the field of that name, which may be missing.
+#[tactic(auto, unfolding(crate::specs::Form::optional_field))]
 pub fn optional_field<T: Formed>(
     alloc: Global,
     value: &Value,
@@ -53,6 +71,7 @@ pub fn optional_field<T: Formed>(
 }
 
 /// Reads the field of that name, which is a number from `least` to `most`.
+#[tactic(auto, unfolding(crate::specs::Form::field))]
 pub fn number_field(
     alloc: Global,
     value: &Value,
@@ -74,6 +93,7 @@ pub fn number_field(
 }
 
 /// Reads that the value is an object with no members but those of these names.
+#[tactic(auto, unfolding(crate::specs::Form::only))]
 pub fn only(alloc: Global, value: &Value, names: &[&str]) -> Result<(), FormFault>
     ensures { Gives (λ _. tt) result (form.only (map (λ name. name.now) names.now) (view value.now)) }
 {
@@ -81,6 +101,22 @@ pub fn only(alloc: Global, value: &Value, names: &[&str]) -> Result<(), FormFaul
         Some(members) if !has_other(members, names) => Ok(()),
         Some(_) => Err(FormFault::here(alloc).under(alloc, "?")),
         None => Err(FormFault::here(alloc)),
+    }
+}
+
+/// What was read of an object, where that has no members but those of these names.
+pub fn closed<T: Drop>(
+    alloc: Global,
+    value: &Value,
+    names: &[&str],
+    read: T,
+) -> Result<T, FormFault>
+    ensures exact { Gives (λ x. x) result (form.closed (map (λ name. name.now) names.now) read (view value.now)) }
+    ensures kept { IfOk result (λ x. x ≡ read) }
+{
+    match only(alloc, value, names) {
+        Ok(()) => Ok(read),
+        Err(fault) => Err(fault),
     }
 }
 

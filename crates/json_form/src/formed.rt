@@ -32,6 +32,7 @@ impl Formed for bool {
 impl Formed for u32 {
     ghost form = { u32_at };
 
+    #[tactic(auto, unfolding(crate::specs::Form::u32_at))]
     fn of_value(alloc: Global, value: &Value) -> Result<u32, FormFault> {
         number(alloc, value, 0, u32::MAX)
     }
@@ -49,6 +50,7 @@ impl Formed for Text {
 impl Formed for Day {
     ghost form = { day_at };
 
+    #[tactic(auto, unfolding(crate::specs::Form::text_at, crate::specs::Form::day_at))]
     fn of_value(alloc: Global, value: &Value) -> Result<Day, FormFault> {
         match day_of_text(text(alloc, value)?) {
             Ok(day) => Ok(day),
@@ -60,6 +62,7 @@ impl Formed for Day {
 impl Formed for Month {
     ghost form = { month_at };
 
+    #[tactic(auto, unfolding(crate::specs::Form::text_at, crate::specs::Form::month_at))]
     fn of_value(alloc: Global, value: &Value) -> Result<Month, FormFault> {
         match month_of_text(text(alloc, value)?) {
             Ok(month) => Ok(month),

@@ -4,18 +4,25 @@
 
 mod arrays;
 mod bytes;
+mod exact;
 mod fault;
 mod fields;
 mod formed;
+mod forms;
+mod members;
 mod path;
+mod refusal;
 mod value;
 mod written;
 
-pub use arrays::array;
 pub use bytes::value_of_bytes;
+pub use exact::Exact;
 pub use fault::FormFault;
-pub use fields::{field, number_field, object, only, optional_field};
+pub use fields::{closed, field, field_by, number_field, object, only, optional_field};
 pub use formed::Formed;
+pub use forms::{ArrayOf, ArrayUpTo, Form, Within};
+pub use members::Members;
 pub use path::Path;
-pub use value::{boolean, number, text};
-pub use written::{Written, put};
+pub use refusal::{bad_form, refused};
+pub use value::{boolean, number, one_of, text};
+pub use written::{Writer, Written, array_by};

@@ -1,9 +1,8 @@
 -- How answers are written in JSON.
 use Rattle.std.specs.Prelude.{ℕ, ℤ, List, Option, Some, None, codes}
-use Rattle.serde_json.specs.Data.{Data, null, boolean, string, object, Members, member, no_members}
+use Rattle.serde_json.specs.Data.{Data, null, boolean, string, object, member, no_members}
 use Rattle.serde_json.specs.Written.{compact_text}
-use Rattle.json_form.specs.Written.{number_data, day_data, array_data}
-use Rattle.command_forms.specs.Fields.{month_data, name_data}
+use Rattle.json_form.specs.Written.{number_data, amount_data, day_data, month_data, text_data, or_null, array_data}
 use Rattle.record_history.specs.declared.records.Kind.{Kind}
 use Rattle.record_history.specs.declared.records.Kind.TheVariants as kind
 use Rattle.record_history.specs.declared.records.Dates.{Dates}
@@ -18,7 +17,7 @@ use Rattle.office_answers.specs.declared.answer.Answer.{Answer}
 use Rattle.office_answers.specs.declared.answer.Answer.TheVariants as answer
 use Rattle.office_answers.specs.declared.answer.Asked.{Asked}
 use Rattle.office_answers.specs.declared.answer.Asked.TheVariants as asked
-use Rattle.json_front.specs.Values.{amount_data, or_null, candidate_data}
+use Rattle.json_front.specs.Values.{candidate_data}
 use Rattle.json_front.specs.Refusals.{refusal_data, failure_data}
 
 -- ---- households and records
@@ -27,7 +26,7 @@ abbrev pub household_data : HouseholdSummary → Data
 household_data summary = object (
     member (codes "household") (number_data summary.household) (
     member (codes "live") (array_data number_data summary.live) (
-    member (codes "name") (name_data summary.name) (
+    member (codes "name") (text_data summary.name) (
     member (codes "newest") (number_data summary.newest) no_members))))
 
 abbrev pub kind_word : Kind → List ℕ
@@ -46,33 +45,6 @@ dates_data dates = object (
     member (codes "done") (day_data dates.done) (
     member (codes "event") (day_data dates.event) (
     member (codes "notice") (day_data dates.notice) no_members)))
-
--- the amounts of a record
-abbrev pub amount_members : Record → Members
-amount_members r =
-    member (codes "adjusted") (number_data r.adjusted) (
-    member (codes "annual") (number_data r.annual) (
-    member (codes "assistance") (number_data r.assistance) (
-    member (codes "contract_rent") (number_data r.rents.contract_rent) (
-    member (codes "ttp") (number_data r.ttp) (
-    member (codes "utility") (number_data r.rents.utility) no_members)))))
-
--- all its numbers
-abbrev pub number_members : Record → Members
-number_members r =
-    member (codes "act") (number_data r.act) (
-    member (codes "adjusted") (number_data r.adjusted) (
-    member (codes "annual") (number_data r.annual) (
-    member (codes "assistance") (number_data r.assistance) (
-    member (codes "contract_rent") (number_data r.rents.contract_rent) (
-    member (codes "corrects") (number_data r.corrects) (
-    member (codes "household") (number_data r.household) (
-    member (codes "number") (number_data r.number) (
-    member (codes "persons") (number_data r.persons) (
-    member (codes "size") (number_data r.size) (
-    member (codes "ttp") (number_data r.ttp) (
-    member (codes "unit") (number_data r.unit) (
-    member (codes "utility") (number_data r.rents.utility) no_members))))))))))))
 
 -- all its fields
 abbrev pub record_data : Record → Data

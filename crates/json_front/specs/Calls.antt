@@ -1,7 +1,7 @@
 -- How a clerk's call is written in JSON.
 use Rattle.std.specs.Prelude.{ℕ, List, [], ◌∷◌, Result, Ok, codes}
 use Rattle.serde_json.specs.Data.{Data}
-use Rattle.json_form.specs.Form.{◌>>=◌, fit, data_from, is_object_at, number_at, field, only}
+use Rattle.json_form.specs.Form.{◌>>=◌, fit, data_from, is_object_at, number_at, field, closed}
 use Rattle.command_forms.specs.Commands.{command_at}
 use Rattle.office_step.specs.declared.call.Call.{Call}
 
@@ -21,8 +21,7 @@ unfoldable pub call_at : Data → Result Call (List ℕ)
 call_at d = do
   _ ← is_object_at d
   call ← call_fields d
-  _ ← only call_names d
-  Ok call
+  closed call_names call d
 
 -- the call that the bytes are, or the first bad path: the empty one where they are no JSON
 abbrev pub call_from : List ℕ → Result Call (List ℕ)

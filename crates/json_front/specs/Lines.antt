@@ -1,8 +1,8 @@
 -- The lines of a batch: each asks a question, or calls for an act.
-use Rattle.std.specs.Prelude.{ℕ, if◌then◌else◌, Bool, true, List, [], ◌∷◌, is_some, Result, Ok, codes}
+use Rattle.std.specs.Prelude.{ℕ, if◌then◌else◌, Bool, true, List, [], ◌∷◌, is_some, Result, codes}
 use Rattle.serde_json.specs.Data.{Data}
 use Rattle.serde_json.specs.Find.{get}
-use Rattle.json_form.specs.Form.{◌>>=◌, fit, data_from, is_object_at, day_at, field, optional_field, only}
+use Rattle.json_form.specs.Form.{◌>>=◌, fit, data_from, is_object_at, day_at, field, optional_field, closed}
 use Rattle.office_step.specs.Step.{is_fit_call}
 use Rattle.json_front.specs.declared.line.BatchLine.{BatchLine}
 use Rattle.json_front.specs.declared.line.BatchLine.TheVariants as line
@@ -13,16 +13,14 @@ use Rattle.json_front.specs.Questions.{question_at}
 unfoldable pub ask_at : Data → Result BatchLine (List ℕ)
 ask_at d = do
   asked ← field (codes "ask") question_at d
-  _ ← only (codes "ask" ∷ []) d
-  Ok (line.Ask asked)
+  closed (codes "ask" ∷ []) (line.Ask asked) d
 
 -- a call, with the day on which it is made if the line tells it
 unfoldable pub act_at : Data → Result BatchLine (List ℕ)
 act_at d = do
   today ← optional_field (codes "today") day_at d
   call ← call_fields d
-  _ ← only (codes "today" ∷ call_names) d
-  Ok (line.Act today call)
+  closed (codes "today" ∷ call_names) (line.Act today call) d
 
 -- an object with a member `ask` is a question
 abbrev pub has_ask : Data → Bool

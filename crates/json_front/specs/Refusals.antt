@@ -1,14 +1,13 @@
 -- How refusals are written in JSON: the kind, the number in the one order, and the members that the kind has.
 use Rattle.std.specs.Prelude.{ℕ, List, codes}
 use Rattle.serde_json.specs.Data.{Data, string, object, Members, member, no_members, put}
-use Rattle.json_form.specs.Written.{number_data, day_data}
-use Rattle.command_forms.specs.Fields.{month_data}
+use Rattle.json_form.specs.Written.{number_data, day_data, month_data, or_null, refused}
 use Rattle.office_step.specs.declared.refusal.Named.{Named}
 use Rattle.office_step.specs.declared.refusal.Named.TheVariants as named
 use Rattle.office_step.specs.declared.refusal.Refusal.{Refusal}
 use Rattle.office_step.specs.declared.refusal.Refusal.TheVariants as refusal
 use Rattle.office_step.specs.Numbers.{number_of, name_of}
-use Rattle.json_front.specs.Values.{or_null, candidate_data}
+use Rattle.json_front.specs.Values.{candidate_data}
 
 -- what a number should have named
 abbrev pub named_word : Named → List ℕ
@@ -53,18 +52,9 @@ refusal_members (refusal.LinesFull lines more) = put (codes "more") (number_data
 abbrev pub cause_data : Refusal → Data
 cause_data why = object (put (codes "number") (number_data (number_of why)) (put (codes "kind") (string (name_of why)) (refusal_members why)))
 
-abbrev pub refused : Data → Data
-refused cause = object (member (codes "refused") cause no_members)
-
 abbrev pub refusal_data : Refusal → Data
 refusal_data why = refused (cause_data why)
 
 -- a refusal that has a kind alone
 abbrev pub failure_data : List ℕ → Data
 failure_data word = refused (object (member (codes "kind") (string word) no_members))
-
--- the first place that isn't of the form
-abbrev pub bad_form_data : List ℕ → Data
-bad_form_data path = refused (object (
-    member (codes "kind") (string (codes "Form")) (
-    member (codes "path") (string path) no_members)))

@@ -2,15 +2,13 @@
 use Rattle.std.specs.Prelude.{ℕ, List, codes}
 use Rattle.serde_json.specs.Data.{Data, null, object, member, no_members}
 use Rattle.serde_json.specs.Written.{compact_text}
-use Rattle.json_form.specs.Written.{number_data, day_data}
-use Rattle.command_forms.specs.Fields.{month_data}
+use Rattle.json_form.specs.Written.{number_data, amount_data, day_data, month_data, bad_form_data}
 use Rattle.office_step.specs.declared.reply.Done.{Done}
 use Rattle.office_step.specs.declared.reply.Made.{Made}
 use Rattle.office_step.specs.declared.reply.Made.TheVariants as made
 use Rattle.office_answers.specs.declared.reply.Reply.{Reply}
 use Rattle.office_answers.specs.declared.reply.Reply.TheVariants as reply
-use Rattle.json_front.specs.Values.{amount_data}
-use Rattle.json_front.specs.Refusals.{refusal_data, failure_data, bad_form_data}
+use Rattle.json_front.specs.Refusals.{refusal_data, failure_data}
 
 -- what an act made
 abbrev pub made_data : Made → Data

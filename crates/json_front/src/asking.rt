@@ -1,100 +1,112 @@
-ghost use Rattle.std.specs.Prelude.{◌≡◌};
+ghost use Rattle.std.specs.Prelude.{◌≡◌, true, map};
 ghost use Rattle.serde_json.specs.View.{view};
 ghost use Rattle.json_form.specs.Gives.{Gives};
-ghost use Rattle.json_front.specs.Questions.{household_at, record_at, next_at, voucher_at, paid_at, due_at, targets_at, rest_at, question_at};
+ghost use Rattle.json_form.specs.Form.{one_of};
+ghost use Rattle.json_front.specs.Questions.{kinds, fields_at, names_of, question_at};
 
-use crate::kind::Kind;
-use json_form::{FormFault, field, object, only};
+use json_form::{Form, FormFault, Formed, closed, field, object, one_of};
 use office_answers::Question;
 use serde_json::Value;
 use std::alloc::Global;
 
-/// Reads the question of a value.
-#[tactic(auto, unfolding(crate::specs::Questions::question_at))]
-pub fn question_of_value(alloc: Global, value: &Value) -> Result<Question, FormFault>
-    ensures { Gives (λ asked. asked) result (question_at (view value.now)) }
-{
-    object(alloc, value)?;
-    let kind = field(alloc, value, "kind")?;
-    question_of_kind(alloc, value, kind)
+/// Which question it is.
+#[derive(Clone, Copy)]
+pub enum Kind {
+    Household,
+    Record,
+    Next,
+    Voucher,
+    Paid,
+    Due,
+    Targets,
 }
 
-fn question_of_kind(alloc: Global, value: &Value, kind: Kind) -> Result<Question, FormFault>
-    ensures { Gives (λ asked. asked) result (rest_at kind (view value.now)) }
-{
-    match kind {
-        Kind::Household => household_of(alloc, value),
-        Kind::Record => record_of(alloc, value),
-        Kind::Next => next_of(alloc, value),
-        Kind::Voucher => voucher_of(alloc, value),
-        Kind::Paid => paid_of(alloc, value),
-        Kind::Due => due_of(alloc, value),
-        Kind::Targets => targets_of(alloc, value),
+impl Formed for Kind {
+    ghost form = { one_of kinds };
+
+    fn of_value(alloc: Global, value: &Value) -> Result<Kind, FormFault> {
+        let kinds = [
+            ("household", Kind::Household),
+            ("record", Kind::Record),
+            ("next", Kind::Next),
+            ("voucher", Kind::Voucher),
+            ("paid", Kind::Paid),
+            ("due", Kind::Due),
+            ("targets", Kind::Targets),
+        ];
+        one_of(alloc, value, &kinds)
     }
 }
 
-#[tactic(auto, unfolding(crate::specs::Questions::household_at))]
-fn household_of(alloc: Global, value: &Value) -> Result<Question, FormFault>
-    ensures { Gives (λ asked. asked) result (household_at (view value.now)) }
-{
-    let household = field(alloc, value, "household")?;
-    only(alloc, value, &["kind", "household"])?;
-    Ok(Question::Household { household })
+/// A question.
+#[derive(Drop)]
+pub struct Ask;
+
+impl Form for Ask {
+    type Read = Question;
+
+    ghost form = { λ _. question_at };
+
+    ghost passes = { λ _ _. true };
+
+    #[tactic(auto, unfolding(crate::specs::Questions::question_at))]
+    fn read(&self, alloc: Global, value: &Value) -> Result<Question, FormFault> {
+        object(alloc, value)?;
+        let kind = field(alloc, value, "kind")?;
+        let asked = fields_of(alloc, value, kind)?;
+        closed(alloc, value, names_of(kind), asked)
+    }
 }
 
-#[tactic(auto, unfolding(crate::specs::Questions::record_at))]
-fn record_of(alloc: Global, value: &Value) -> Result<Question, FormFault>
-    ensures { Gives (λ asked. asked) result (record_at (view value.now)) }
+#[tactic(auto, unfolding(crate::specs::Questions::fields_at))]
+fn fields_of(alloc: Global, value: &Value, kind: Kind) -> Result<Question, FormFault>
+    ensures { Gives (λ asked. asked) result (fields_at kind (view value.now)) }
 {
-    let household = field(alloc, value, "household")?;
-    let target = field(alloc, value, "record")?;
-    only(alloc, value, &["kind", "household", "record"])?;
-    Ok(Question::Record { household, target })
+    match kind {
+        Kind::Household => {
+            let household = field(alloc, value, "household")?;
+            Ok(Question::Household { household })
+        }
+        Kind::Record => {
+            let household = field(alloc, value, "household")?;
+            let target = field(alloc, value, "record")?;
+            Ok(Question::Record { household, target })
+        }
+        Kind::Next => {
+            let unit = field(alloc, value, "unit")?;
+            let day = field(alloc, value, "day")?;
+            Ok(Question::Next { unit, day })
+        }
+        Kind::Voucher => {
+            let month = field(alloc, value, "month")?;
+            Ok(Question::Voucher { month })
+        }
+        Kind::Paid => {
+            let household = field(alloc, value, "household")?;
+            let month = field(alloc, value, "month")?;
+            Ok(Question::Paid { household, month })
+        }
+        Kind::Due => {
+            let day = field(alloc, value, "day")?;
+            Ok(Question::Due { day })
+        }
+        Kind::Targets => {
+            let day = field(alloc, value, "day")?;
+            Ok(Question::Targets { day })
+        }
+    }
 }
 
-#[tactic(auto, unfolding(crate::specs::Questions::next_at))]
-fn next_of(alloc: Global, value: &Value) -> Result<Question, FormFault>
-    ensures { Gives (λ asked. asked) result (next_at (view value.now)) }
+fn names_of(kind: Kind) -> &'static [&'static str]
+    ensures { map (λ name. name.now) result.now ≡ names_of kind }
 {
-    let unit = field(alloc, value, "unit")?;
-    let day = field(alloc, value, "day")?;
-    only(alloc, value, &["kind", "unit", "day"])?;
-    Ok(Question::Next { unit, day })
-}
-
-#[tactic(auto, unfolding(crate::specs::Questions::voucher_at))]
-fn voucher_of(alloc: Global, value: &Value) -> Result<Question, FormFault>
-    ensures { Gives (λ asked. asked) result (voucher_at (view value.now)) }
-{
-    let month = field(alloc, value, "month")?;
-    only(alloc, value, &["kind", "month"])?;
-    Ok(Question::Voucher { month })
-}
-
-#[tactic(auto, unfolding(crate::specs::Questions::paid_at))]
-fn paid_of(alloc: Global, value: &Value) -> Result<Question, FormFault>
-    ensures { Gives (λ asked. asked) result (paid_at (view value.now)) }
-{
-    let household = field(alloc, value, "household")?;
-    let month = field(alloc, value, "month")?;
-    only(alloc, value, &["kind", "household", "month"])?;
-    Ok(Question::Paid { household, month })
-}
-
-#[tactic(auto, unfolding(crate::specs::Questions::due_at))]
-fn due_of(alloc: Global, value: &Value) -> Result<Question, FormFault>
-    ensures { Gives (λ asked. asked) result (due_at (view value.now)) }
-{
-    let day = field(alloc, value, "day")?;
-    only(alloc, value, &["kind", "day"])?;
-    Ok(Question::Due { day })
-}
-
-#[tactic(auto, unfolding(crate::specs::Questions::targets_at))]
-fn targets_of(alloc: Global, value: &Value) -> Result<Question, FormFault>
-    ensures { Gives (λ asked. asked) result (targets_at (view value.now)) }
-{
-    let day = field(alloc, value, "day")?;
-    only(alloc, value, &["kind", "day"])?;
-    Ok(Question::Targets { day })
+    match kind {
+        Kind::Household => &["kind", "household"],
+        Kind::Record => &["kind", "household", "record"],
+        Kind::Next => &["kind", "unit", "day"],
+        Kind::Voucher => &["kind", "month"],
+        Kind::Paid => &["kind", "household", "month"],
+        Kind::Due => &["kind", "day"],
+        Kind::Targets => &["kind", "day"],
+    }
 }

@@ -1,7 +1,6 @@
-ghost use Rattle.std.specs.Prelude.{◌≡◌, true, codes, IfOk};
+ghost use Rattle.std.specs.Prelude.{◌≡◌, true, IfOk};
 ghost use Rattle.serde_json.specs.View.{view};
 ghost use Rattle.json_form.specs.Gives.{Gives};
-ghost use Rattle.json_form.specs.Form as form;
 ghost use Rattle.book_rows.specs.Fit.{is_fit};
 ghost use Rattle.command_forms.specs.Commands.{command_at};
 ghost use Rattle.office_step.specs.Step.{is_fit_call};
@@ -9,7 +8,7 @@ ghost use Rattle.json_front.specs.Calls.{call_fields, call_at, call_from};
 
 use book_rows::Command;
 use command_text::command_of_value;
-use json_form::{FormFault, number_field, object, only, value_of_bytes};
+use json_form::{Form, FormFault, closed, field_by, number_field, object, value_of_bytes};
 use office_step::Call;
 use serde_json::Value;
 use std::alloc::Global;
@@ -31,13 +30,7 @@ fn call_of(alloc: Global, value: &Value) -> Result<Call, FormFault>
 {
     object(alloc, value)?;
     let call = call_fields(alloc, value)?;
-    match only(alloc, value, &["clerk", "request", "act"]) {
-        Ok(()) => Ok(call),
-        Err(fault) => {
-            call.let_go();
-            Err(fault)
-        }
-    }
+    closed(alloc, value, &["clerk", "request", "act"], call)
 }
 
 /// Reads the fields of a call, in an object that may have others.
@@ -48,7 +41,7 @@ pub fn call_fields(alloc: Global, value: &Value) -> Result<Call, FormFault>
 {
     let clerk = number_field(alloc, value, "clerk", 1, 9_999)?;
     let request = number_field(alloc, value, "request", 1, u32::MAX)?;
-    let command = act_field(alloc, value)?;
+    let command = field_by(alloc, value, "act", &Act)?;
     Ok(Call {
         clerk,
         request,
@@ -56,15 +49,18 @@ pub fn call_fields(alloc: Global, value: &Value) -> Result<Call, FormFault>
     })
 }
 
-fn act_field(alloc: Global, value: &Value) -> Result<Command, FormFault>
-    ensures exact { Gives (λ asked. asked) result (form.field (codes "act") command_at (view value.now)) }
-    ensures fit { IfOk result (λ asked. is_fit asked ≡ true) }
-{
-    match value.get("act") {
-        Some(found) => match command_of_value(alloc, found) {
-            Ok(asked) => Ok(asked),
-            Err(fault) => Err(fault.under(alloc, "act")),
-        },
-        None => Err(FormFault::here(alloc).under(alloc, "act")),
+/// A command.
+#[derive(Drop)]
+struct Act;
+
+impl Form for Act {
+    type Read = Command;
+
+    ghost form = { λ _. command_at };
+
+    ghost passes = { λ _. is_fit };
+
+    fn read(&self, alloc: Global, value: &Value) -> Result<Command, FormFault> {
+        command_of_value(alloc, value)
     }
 }

@@ -5,7 +5,6 @@
 mod answer;
 mod asking;
 mod calling;
-mod kind;
 mod line;
 mod record;
 mod refusal;

@@ -1,14 +1,12 @@
-ghost use Rattle.std.specs.Prelude.{◌≡◌, true, codes, IfOk};
+ghost use Rattle.std.specs.Prelude.{◌≡◌, true, IfOk};
 ghost use Rattle.serde_json.specs.View.{view};
 ghost use Rattle.json_form.specs.Gives.{Gives};
-ghost use Rattle.json_form.specs.Form as form;
-ghost use Rattle.json_front.specs.Questions.{question_at};
 ghost use Rattle.json_front.specs.Lines.{act_at, ask_at, line_at, line_from, is_fit_line};
 
-use crate::asking::question_of_value;
+use crate::asking::Ask;
 use crate::calling::call_fields;
 use days_core::Day;
-use json_form::{FormFault, object, only, optional_field, value_of_bytes};
+use json_form::{FormFault, closed, field_by, object, optional_field, value_of_bytes};
 use office_answers::Question;
 use office_step::Call;
 use serde_json::Value;
@@ -49,21 +47,8 @@ fn ask_of(alloc: Global, value: &Value) -> Result<BatchLine, FormFault>
     ensures exact { Gives (λ line. line) result (ask_at (view value.now)) }
     ensures fit { IfOk result (λ line. is_fit_line line ≡ true) }
 {
-    let asked = ask_field(alloc, value)?;
-    only(alloc, value, &["ask"])?;
-    Ok(BatchLine::Ask(asked))
-}
-
-fn ask_field(alloc: Global, value: &Value) -> Result<Question, FormFault>
-    ensures { Gives (λ asked. asked) result (form.field (codes "ask") question_at (view value.now)) }
-{
-    match value.get("ask") {
-        Some(found) => match question_of_value(alloc, found) {
-            Ok(asked) => Ok(asked),
-            Err(fault) => Err(fault.under(alloc, "ask")),
-        },
-        None => Err(FormFault::here(alloc).under(alloc, "ask")),
-    }
+    let asked = field_by(alloc, value, "ask", &Ask)?;
+    closed(alloc, value, &["ask"], BatchLine::Ask(asked))
 }
 
 #[tactic(auto, unfolding(crate::specs::Lines::act_at))]
@@ -73,11 +58,6 @@ fn act_of(alloc: Global, value: &Value) -> Result<BatchLine, FormFault>
 {
     let today = optional_field(alloc, value, "today")?;
     let call = call_fields(alloc, value)?;
-    match only(alloc, value, &["today", "clerk", "request", "act"]) {
-        Ok(()) => Ok(BatchLine::Act { today, call }),
-        Err(fault) => {
-            call.let_go();
-            Err(fault)
-        }
-    }
+    let names = ["today", "clerk", "request", "act"];
+    closed(alloc, value, &names, BatchLine::Act { today, call })
 }

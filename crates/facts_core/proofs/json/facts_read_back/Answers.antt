@@ -1,5 +1,5 @@
-use Rattle.facts_core.proofs.FactsAgain.{facts_again}
+use Rattle.facts_core.proofs.FactsStand.{facts_stand}
 use Rattle.facts_core.proofs.json.facts_read_back.Goals as goal
 
 pub returns : goal.returns
-returns c = facts_again
+returns c = λ facts fits. (facts_stand facts fits).again

@@ -1,7 +1,7 @@
 use Rattle.std.proofs.Common.{[], map, codes, Err, sym, refl, ◌∙◌}
 use Rattle.serde_json.specs.View.{view, members_view}
 use Rattle.json_form.proofs.Faults.{Faults-under}
-use Rattle.json_form.proofs.Members.{has_other-keys, only_passes, only_refuses}
+use Rattle.json_form.proofs.Names.{has_other-keys, only_passes, only_refuses}
 use Rattle.json_form.proofs.fields.only.Goals as goal
 
 pub returns-in-Some : goal.returns-in-Some

@@ -1,6 +1,6 @@
 use Rattle.std.proofs.Common.{◌≡◌, ◌≤◌, ◌∙◌, arith}
 use Rattle.days_core.specs.DayText.{day_text}
-use Rattle.json_form.proofs.Again.{day_text-is_utf8}
+use Rattle.json_form.proofs.Stands.{day_text-is_utf8}
 use Rattle.json_form.proofs.written.day_string.Goals as goal
 
 pub unwrap-requires : goal.unwrap-requires

@@ -1,6 +1,11 @@
-use Rattle.std.proofs.Common.{◌≡◌, map, take}
-use Rattle.serde_json.specs.View.{view}
+use Rattle.std.proofs.Common.{◌≡◌, false, map, take}
+use Rattle.serde_json.specs.View.{view, items_view}
+use Rattle.serde_json.specs.Written.{items_have_float}
 use Rattle.json_form.proofs.written.values_of.Given as goal
 
 abbrev pub invariant-loop-row : goal.invariant-loop-row
-invariant-loop-row g l = map view l.values.items ≡ map g.T.Written.written (take l.row-index l.rows)
+invariant-loop-row g l =
+    record {
+      values : map view l.values.items ≡ map (g.W.Writer.written l.writer) (take l.row-index l.rows);
+      no_float : items_have_float (items_view l.values.items) ≡ false;
+    }

@@ -1,7 +1,0 @@
-use Rattle.std.proofs.Common.{ap, ◌∙◌}
-use Rattle.serde_json.specs.Written.{has_float}
-use Rattle.json_front.proofs.WithoutFloat.{reply_without_float}
-use Rattle.json_front.proofs.reply.text_of_reply.Goals as goal
-
-pub text_of-requires : goal.text_of-requires
-text_of-requires c = ap has_float c.in_ok-value.ensures ∙ reply_without_float c.args.reply.now
