@@ -1,28 +1,11 @@
 -- Acts that are done again, one after another.
-use Rattle.std.proofs.Common.{◌≡◌, ◌∙◌, sym, ap, ap₂, refl, subst, ℕ, zero, suc, ◌+◌, ◌≤◌, arith, Bool, true, false, not, List, [], ◌∷◌, ◌++◌, Option, Some, None, length, take, drop, slice_get, option_and_then, option_to_list, if◌then◌else◌, length-drop}
-use Rattle.std.specs.Option.{option_or, option_map}
-use Rattle.std.specs.Cmp.Lexicographic.{pointwise}
-use Rattle.std.proofs.lemmas.Bool.{and_parts}
-use Rattle.std.proofs.lemmas.List.{drop_more, drop_all, take_all, take_more, length-take}
-use Rattle.std.proofs.lemmas.Option.{slice_get_within, get_or_from_slice_get}
-use Rattle.record_history.specs.declared.records.Record.{Record}
-use Rattle.voucher_core.specs.declared.line.Line.{Line}
-use Rattle.book_rows.specs.declared.command.Command.{Command}
-use Rattle.book_rows.specs.declared.rows.ActRow.{ActRow}
-use Rattle.book_rows.specs.declared.rows.Batch.{Batch}
+use Rattle.book_replay.proofs.Words.{◌≡◌, ◌∙◌, sym, ap, ap₂, refl, subst, ℕ, zero, suc, ◌+◌, ◌≤◌, arith, Bool, true, false, not, List, [], ◌∷◌, ◌++◌, Option, Some, None, length, take, drop, slice_get, option_and_then, option_to_list, if◌then◌else◌, length-drop, option_or, option_map, pointwise, and_parts, drop_more, drop_all, take_all, take_more, length-take, slice_get_within, get_or_from_slice_get, Record, Line, Command, ActRow, Batch, Book, empty_book, appended, same_act, same_record, same_line, act_equal, record_equal, line_equal, Call, Capacity, Fault, Outcome, again, refused, appends, step, is_fit_call, IsAppended, IsReached, reached_empty, reached_more, fault_in, fit_call, call_of, rows_in, replayed, difference, records_by, lines_by, stray_row, with_rows, fault_from, first_fault, AppendedIsAccepted, IsReplayed, ReplayBegins, ReplayGoesOn, ReplayStops, ReplayEnds, ReplayedIsGiven, ValidIsReached, option_and_then_some, cond_some, unless_none, option_map_none}
 use Rattle.book_rows.specs.declared.rows.Table.TheVariants as table
-use Rattle.book_rows.specs.Book.{Book, empty_book, appended}
-use Rattle.book_rows.specs.Same.{same_act, same_record, same_line}
-use Rattle.book_rows.proofs.SameRows.{act_equal, record_equal, line_equal}
 use Rattle.command_forms.specs.Commands.{command_in}
-use Rattle.office_step.specs.declared.call.Call.{Call}
-use Rattle.office_step.specs.declared.call.Capacity.{Capacity}
-use Rattle.office_step.specs.declared.fault.Fault.{Fault}
-use Rattle.office_step.specs.Step.{Outcome, again, refused, appends, step, is_fit_call, IsAppended, IsReached, reached_empty, reached_more}
-use Rattle.office_step.specs.Valid.{fault_in, fit_call, call_of, rows_in, replayed, difference, records_by, lines_by, stray_row, with_rows, fault_from, first_fault}
-use Rattle.office_laws.specs.Accepted.{AppendedIsAccepted}
-use Rattle.book_replay.specs.Replay.{IsReplayed, ReplayBegins, ReplayGoesOn, ReplayStops, ReplayEnds, ReplayedIsGiven, ValidIsReached}
 use Rattle.book_replay.proofs.Gathered.{act_more, gathered_all}
+use Rattle.office_step.proofs.Passed.{or_none}
+use Rattle.office_laws.proofs.Replay.{rows_appended}
+use Rattle.book_replay.proofs.Compared.{drop_at}
 
 -- ---- what is told by one act
 
@@ -41,26 +24,10 @@ pub record IsCallOf (row : ActRow) (call : Call) : Type 0 where
   pub read : command_in row.body ≡ Some call.command
 
 called : (row : ActRow) (call : Call) → call_of row ≡ Some call → IsCallOf row call
-called row call is = by_command (command_in row.body) refl is
-  where
-    by_fit : (asked : Command) → command_in row.body ≡ Some asked → (fit : Bool) →
-        is_fit_call (record { clerk = row.clerk; request = row.request; command = asked }) ≡ fit →
-        (if fit then Some (record { clerk = row.clerk; request = row.request; command = asked }) else None) ≡ Some call → IsCallOf row call
-    by_fit asked read false fit same = absurd (cc)
-    by_fit asked read true fit same =
-        let own : record { clerk = row.clerk; request = row.request; command = asked } ≡ call = cc in
-        subst (λ (c : Call). IsCallOf row c) own (record { fit = fit; read = read })
-
-    by_command : (found : Option Command) → command_in row.body ≡ found →
-        option_and_then (λ asked. fit_call (record { clerk = row.clerk; request = row.request; command = asked })) found ≡ Some call → IsCallOf row call
-    by_command None read same = absurd (cc)
-    by_command (Some asked) read same =
-        by_fit asked read (is_fit_call (record { clerk = row.clerk; request = row.request; command = asked })) refl same
-
-rows_appended : (outcome : Outcome) (rows : Batch) → rows_in outcome ≡ Some rows → outcome ≡ appends rows
-rows_appended (again done) rows is = absurd (cc)
-rows_appended (refused refusal) rows is = absurd (cc)
-rows_appended (appends own) rows is = let same : own ≡ rows = cc in ap appends same
+called row call is =
+    option_and_then_some _ (command_in row.body) call is (λ asked read fits.
+    (let both = cond_some (is_fit_call (record { clerk = row.clerk; request = row.request; command = asked })) _ call fits in
+    subst (λ (c : Call). IsCallOf row c) both.1 (record { fit = both.0; read = read })))
 
 -- the rows are the row's own, and those which the tables have of it
 pub record HasRowsOf (tables : Book) (row : ActRow) (rows : Batch) : Type 0 where
@@ -70,44 +37,28 @@ pub record HasRowsOf (tables : Book) (row : ActRow) (rows : Batch) : Type 0 wher
 
 no_difference : (tables : Book) (row : ActRow) (rows : Batch) → difference tables row (Some rows) ≡ None → HasRowsOf tables row rows
 no_difference tables row rows none =
-    by_tests (same_act rows.act row) refl
-    (pointwise same_record (option_to_list rows.made) (records_by row.n tables.records)) refl
-    (pointwise same_line rows.lines (lines_by row.n tables.lines)) refl none
-  where
-    by_tests : (act : Bool) → same_act rows.act row ≡ act →
-        (made : Bool) → pointwise same_record (option_to_list rows.made) (records_by row.n tables.records) ≡ made →
-        (lines : Bool) → pointwise same_line rows.lines (lines_by row.n tables.lines) ≡ lines →
-        (if not act then Some (fault_in table.Acts row.n)
-        else if not made then Some (fault_in table.Records row.n)
-        else if not lines then Some (fault_in table.Lines row.n)
-        else None) ≡ None →
-        HasRowsOf tables row rows
-    by_tests false is_act made is_made lines are_lines same = absurd (cc)
-    by_tests true is_act false is_made lines are_lines same = absurd (cc)
-    by_tests true is_act true is_made false are_lines same = absurd (cc)
-    by_tests true is_act true is_made true are_lines same = record {
-      act = act_equal rows.act row is_act;
-      made = lists_equal same_record record_equal (option_to_list rows.made) (records_by row.n tables.records) is_made;
-      lines = lists_equal same_line line_equal rows.lines (lines_by row.n tables.lines) are_lines;
+    let act = unless_none (same_act rows.act row) _ _ none in
+    let made = unless_none (pointwise same_record (option_to_list rows.made) (records_by row.n tables.records)) _ _ act.1 in
+    let lines = unless_none (pointwise same_line rows.lines (lines_by row.n tables.lines)) _ _ made.1 in
+    record {
+      act = act_equal rows.act row act.0;
+      made = lists_equal same_record record_equal (option_to_list rows.made) (records_by row.n tables.records) made.0;
+      lines = lists_equal same_line line_equal rows.lines (lines_by row.n tables.lines) lines.0;
     }
 
 -- what is done again is appended, where its row is the given one
 appended_again : (capacity : Capacity) (book : Book) (row : ActRow) (rows : Batch) → replayed capacity book row ≡ Some rows → rows.act ≡ row →
     IsAppended capacity book rows
-appended_again capacity book row rows is same = by_call (call_of row) refl is
-  where
-    by_call : (found : Option Call) → call_of row ≡ found →
-        option_and_then (λ call. rows_in (step book capacity row.session row.day call)) found ≡ Some rows → IsAppended capacity book rows
-    by_call None no_call is = absurd (cc)
-    by_call (Some call) is_call is =
-        let is_called : IsCallOf row call = called row call is_call in
-        record {
-          call = call;
-          fit = is_called.fit;
-          read = subst (λ (r : ActRow). command_in r.body ≡ Some call.command) (sym same) is_called.read;
-          same = subst (λ (r : ActRow). step book capacity r.session r.day call ≡ appends rows) (sym same)
-              (rows_appended (step book capacity row.session row.day call) rows is);
-        }
+appended_again capacity book row rows is same =
+    option_and_then_some (λ call. rows_in (step book capacity row.session row.day call)) (call_of row) rows is (λ call is_call found.
+    (let is_called : IsCallOf row call = called row call is_call in
+    record {
+      call = call;
+      fit = is_called.fit;
+      read = subst (λ (r : ActRow). command_in r.body ≡ Some call.command) (sym same) is_called.read;
+      same = subst (λ (r : ActRow). step book capacity r.session r.day call ≡ appends rows) (sym same)
+          (rows_appended (step book capacity row.session row.day call) rows found);
+    }))
 
 -- ---- one act after another
 
@@ -117,9 +68,7 @@ replay_begins capacity tables = record { reached = reached_empty; acts = refl; r
 module _ (accepted : AppendedIsAccepted) (capacity : Capacity) (tables : Book) where
   -- the acts that are left begin with that row
   left : (count : ℕ) (row : ActRow) → slice_get tables.acts count ≡ Some row → drop count tables.acts ≡ row ∷ drop (count + 1) tables.acts
-  left count row is =
-      drop_more tables.acts count row (slice_get_within tables.acts count row is)
-      ∙ ap (λ (r : ActRow). r ∷ drop (count + 1) tables.acts) (get_or_from_slice_get tables.acts count row row is)
+  left count row is = drop_at tables.acts count row is
 
   done : (count : ℕ) (row : ActRow) → slice_get tables.acts count ≡ Some row → take (count + 1) tables.acts ≡ take count tables.acts ++ row ∷ []
   done count row is =
@@ -162,9 +111,9 @@ module _ (accepted : AppendedIsAccepted) (capacity : Capacity) (tables : Book) w
   -- no row is out of place
   strays : (records lines : Option ℕ) → option_or (option_map (fault_in table.Records) records) (option_map (fault_in table.Lines) lines) ≡ None →
       (records ≡ None) × (lines ≡ None)
-  strays (Some act) lines none = absurd (cc)
-  strays None (Some act) none = absurd (cc)
-  strays None None none = (refl, refl)
+  strays records lines none =
+      let both = or_none (option_map (fault_in table.Records) records) (option_map (fault_in table.Lines) lines) none in
+      (option_map_none _ records both.0, option_map_none _ lines both.1)
 
   is_given : (count : ℕ) (book : Book) → IsReplayed capacity tables count book → length tables.acts ≤ count → stray_row tables ≡ None → book ≡ tables
   is_given count book so_far all none =
@@ -177,10 +126,6 @@ module _ (accepted : AppendedIsAccepted) (capacity : Capacity) (tables : Book) w
       λ i. record { acts = acts i; records = records i; lines = lines i }
 
 -- ---- valid tables
-
-or_none : (first other : Option Fault) → option_or first other ≡ None → (first ≡ None) × (other ≡ None)
-or_none None other none = (refl, none)
-or_none (Some fault) other none = absurd (cc)
 
 none_left : {X : Type 0} (count : ℕ) (xs : List X) → drop count xs ≡ [] → length xs ≤ count
 none_left count xs none = let long = length-drop count xs in let empty = ap length none in omega (arith, long, empty)

@@ -1,49 +1,16 @@
 -- Rows that are gathered act by act.
-use Rattle.std.proofs.Common.{◌≡◌, ◌∙◌, sym, ap, refl, ℕ, zero, suc, ◌+◌, ◌≤◌, ◌<◌, ◌==◌, arith, Bool, true, false, List, [], ◌∷◌, ◌++◌, None, map, filter, cond, append_assoc, All, nat_le, ◌⊎◌, inl, inr}
+use Rattle.book_replay.proofs.Words.{◌≡◌, ◌∙◌, sym, ap, refl, ℕ, zero, suc, ◌+◌, ◌≤◌, ◌<◌, ◌==◌, arith, Bool, true, false, List, [], ◌∷◌, ◌++◌, None, map, filter, cond, append_assoc, All, nat_le, ◌⊎◌, inl, inr, add-one, cases_lt, leb-true, le-leb, eq-eqb, false_from_ne_true, eqb-true, lt-leb, ne_eqb, append-nil, All-head, All-tail, All-weaker, filter_passes, stray, filter_all, filter_none}
 use Rattle.std.specs.List.{range_with_len, flat_map}
-use Rattle.std.proofs.lemmas.Bool.{cases_lt, leb-true, le-leb, eq-eqb, false_from_ne_true, eqb-true}
-use Rattle.std.proofs.lemmas.List.{append-nil}
-use Rattle.std.proofs.lemmas.List.Elements.{All-head, All-tail, All-weaker}
-use Rattle.office_step.specs.Valid.{stray}
 use Rattle.book_replay.proofs.InPlace.{stray_cons, from_last, from_one, to_count}
+use Rattle.list_laws.proofs.Ranges.{flat_map-range_more}
 
 -- ---- one act more
 
-later_act : {X : Type 0} (of_act : ℕ → List X) (a n j : ℕ) → a + n ≡ j →
-    flat_map of_act (range_with_len a (suc n)) ≡ flat_map of_act (range_with_len a n) ++ of_act j
-later_act of_act a zero j is =
-    let same : a ≡ j = omega (arith, is) in
-    append-nil (of_act a) ∙ ap of_act same
-later_act of_act a (suc n) j is =
-    ap (λ (rest : List _). of_act a ++ rest) (later_act of_act (a + 1) n j (omega (arith, is)))
-    ∙ sym (append_assoc (of_act a) (flat_map of_act (range_with_len (a + 1) n)) (of_act j))
-
 pub act_more : {X : Type 0} (of_act : ℕ → List X) (count n : ℕ) → n ≡ count + 1 →
     flat_map of_act (range_with_len 1 (count + 1)) ≡ flat_map of_act (range_with_len 1 count) ++ of_act n
-act_more of_act count n is =
-    let on : count + 1 ≡ suc count = omega arith in
-    ap (λ (k : ℕ). flat_map of_act (range_with_len 1 k)) on ∙ later_act of_act 1 count n (omega (arith, is))
+act_more of_act count n is = rw add-one (flat_map-range_more of_act 1 count n (omega (arith, is)))
 
 -- ---- all acts
-
--- where each element passes, each is kept
-pub all_kept : {X : Type 0} (passes : X → Bool) (xs : List X) → All (λ x. passes x ≡ true) xs → filter passes xs ≡ xs
-all_kept passes [] all = refl
-all_kept passes (x ∷ xs) all =
-    ap (λ (b : Bool). cond b (x ∷ filter passes xs) (filter passes xs)) (All-head (λ x. passes x ≡ true) x xs all)
-    ∙ ap (λ (rest : List _). x ∷ rest) (all_kept passes xs (All-tail (λ x. passes x ≡ true) x xs all))
-
-pub none_kept : {X : Type 0} (passes : X → Bool) (xs : List X) → All (λ x. passes x ≡ false) xs → filter passes xs ≡ []
-none_kept passes [] none = refl
-none_kept passes (x ∷ xs) none =
-    ap (λ (b : Bool). cond b (x ∷ filter passes xs) (filter passes xs)) (All-head (λ x. passes x ≡ false) x xs none)
-    ∙ none_kept passes xs (All-tail (λ x. passes x ≡ false) x xs none)
-
-not_le : (a b : ℕ) → b < a → nat_le a b ≡ false
-not_le a b less = false_from_ne_true (nat_le a b) (λ is. absurd (omega (arith, less, leb-true a b is)))
-
-pub not_eq : (a b : ℕ) → (a ≡ b → ⊥) → (a == b) ≡ false
-not_eq a b differ = false_from_ne_true (a == b) (λ is. differ (eqb-true a b is))
 
 module _ {X : Type 0} (n : X → ℕ) (count : ℕ) where
   abbrev up_to : ℕ → List X → List X
@@ -66,19 +33,19 @@ module _ {X : Type 0} (n : X → ℕ) (count : ℕ) where
           rw (
             le-leb (n x) (suc k) (omega (arith, le)),
             le-leb (n x) k le,
-            not_eq (n x) (suc k) (λ is. absurd (omega (arith, le, is))),
+            ne_eqb (n x) (suc k) (λ is. absurd (omega (arith, le, is))),
           )
           (ap (λ (ys : List X). x ∷ ys) later)
       by_order (inl less) (inl more) later =
-          rw (not_le (n x) (suc k) more, not_le (n x) k less, not_eq (n x) (suc k) (λ is. absurd (omega (arith, more, is)))) later
+          rw (lt-leb (n x) (suc k) more, lt-leb (n x) k less, ne_eqb (n x) (suc k) (λ is. absurd (omega (arith, more, is)))) later
       by_order (inl less) (inr le) later =
           let none_yet : up_to k xs ≡ [] =
-          none_kept (λ y. nat_le (n y) k) xs
-          (All-weaker (λ y. n x ≤ n y) (λ y. nat_le (n y) k ≡ false) (λ y from. not_le (n y) k (omega (arith, less, from))) xs (from_last n count (n x) xs rest)) in
+          filter_none (λ y. nat_le (n y) k) xs
+          (All-weaker (λ y. n x ≤ n y) (λ y. nat_le (n y) k ≡ false) (λ y from. lt-leb (n y) k (omega (arith, less, from))) xs (from_last n count (n x) xs rest)) in
           let one : up_to (suc k) (x ∷ xs) ≡ x ∷ up_to (suc k) xs =
           ap (λ (b : Bool). cond b (x ∷ up_to (suc k) xs) (up_to (suc k) xs)) (le-leb (n x) (suc k) le) in
           let before_it : up_to k (x ∷ xs) ≡ [] =
-          ap (λ (b : Bool). cond b (x ∷ up_to k xs) (up_to k xs)) (not_le (n x) k less) ∙ none_yet in
+          ap (λ (b : Bool). cond b (x ∷ up_to k xs) (up_to k xs)) (lt-leb (n x) k less) ∙ none_yet in
           let own : only (suc k) (x ∷ xs) ≡ x ∷ only (suc k) xs =
           ap (λ (b : Bool). cond b (x ∷ only (suc k) xs) (only (suc k) xs)) (eq-eqb (n x) (suc k) (omega (arith, less, le))) in
           one
@@ -88,10 +55,10 @@ module _ {X : Type 0} (n : X → ℕ) (count : ℕ) where
 
   gathered_up_to : (k : ℕ) (xs : List X) → stray count 0 (map n xs) ≡ None → flat_map (λ a. only a xs) (range_with_len 1 k) ≡ up_to k xs
   gathered_up_to zero xs none =
-      sym (none_kept (λ x. nat_le (n x) 0) xs
-      (All-weaker (λ x. 1 ≤ n x) (λ x. nat_le (n x) 0 ≡ false) (λ x one. not_le (n x) 0 (omega (arith, one))) xs (from_one n count 0 xs none)))
+      sym (filter_none (λ x. nat_le (n x) 0) xs
+      (All-weaker (λ x. 1 ≤ n x) (λ x. nat_le (n x) 0 ≡ false) (λ x one. lt-leb (n x) 0 (omega (arith, one))) xs (from_one n count 0 xs none)))
   gathered_up_to (suc k) xs none =
-      later_act (λ a. only a xs) 1 k (suc k) (omega arith)
+      flat_map-range_more (λ a. only a xs) 1 k (suc k) (omega arith)
       ∙ ap (λ (ys : List X). ys ++ only (suc k) xs) (gathered_up_to k xs none)
       ∙ sym (next_only k 0 xs none)
 
@@ -100,19 +67,11 @@ module _ {X : Type 0} (n : X → ℕ) (count : ℕ) where
       flat_map (λ a. only a xs) (range_with_len 1 k) ≡ xs
   gathered_all k xs le none =
       gathered_up_to k xs none
-      ∙ all_kept (λ x. nat_le (n x) k) xs
+      ∙ filter_all (λ x. nat_le (n x) k) xs
       (All-weaker (λ x. n x ≤ count) (λ x. nat_le (n x) k ≡ true) (λ x by. le-leb (n x) k (omega (arith, le, by))) xs (to_count n count 0 xs none))
 
 -- ---- rows of one act among others
 
 -- what was kept is kept again
 pub kept_again : {X : Type 0} (passes : X → Bool) (xs : List X) → filter passes (filter passes xs) ≡ filter passes xs
-kept_again passes [] = refl
-kept_again passes (x ∷ xs) = by_test (passes x) refl (kept_again passes xs)
-  where
-    by_test : (b : Bool) → passes x ≡ b → filter passes (filter passes xs) ≡ filter passes xs →
-        filter passes (cond b (x ∷ filter passes xs) (filter passes xs)) ≡ cond b (x ∷ filter passes xs) (filter passes xs)
-    by_test false is later = later
-    by_test true is later =
-        ap (λ (b : Bool). cond b (x ∷ filter passes (filter passes xs)) (filter passes (filter passes xs))) is
-        ∙ ap (λ (rest : List _). x ∷ rest) later
+kept_again passes xs = filter_all passes (filter passes xs) (filter_passes passes xs)

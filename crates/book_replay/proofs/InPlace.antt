@@ -1,23 +1,16 @@
 -- Rows of which none is out of place: their acts never fall, and are those of one of so many acts.
-use Rattle.std.proofs.Common.{◌≡◌, ◌∙◌, ap, refl, ℕ, zero, suc, ◌≤◌, ◌&&◌, arith, Bool, true, false, List, [], ◌∷◌, Option, Some, None, map, if◌then◌else◌, All, AllPairs, nat_le, is_some, not}
-use Rattle.std.proofs.lemmas.Bool.{and_parts, and_from, leb-true, le-leb}
-use Rattle.std.proofs.lemmas.List.Elements.{All-nil, All-cons, All-head, All-tail, All-weaker}
-use Rattle.office_step.specs.Valid.{stray}
+use Rattle.book_replay.proofs.Words.{◌≡◌, ◌∙◌, ap, refl, ℕ, zero, suc, ◌≤◌, ◌&&◌, arith, Bool, true, false, List, [], ◌∷◌, Option, Some, None, map, if◌then◌else◌, All, AllPairs, nat_le, is_some, not, and_parts, and_from, leb-true, le-leb, All-nil, All-cons, All-head, All-tail, All-weaker, stray, common_steps, nat_tests}
 
 module _ {X : Type 0} (n : X → ℕ) (count : ℕ) where
   -- the first row is in place, and then the others are
   pub stray_cons : (last : ℕ) (x : X) (xs : List X) → stray count last (map n (x ∷ xs)) ≡ None →
       (1 ≤ n x) × (last ≤ n x) × (n x ≤ count) × (stray count (n x) (map n xs) ≡ None)
-  stray_cons last x xs none = by_test (nat_le 1 (n x) && (nat_le last (n x) && nat_le (n x) count)) refl none
-    where
-      by_test : (b : Bool) → (nat_le 1 (n x) && (nat_le last (n x) && nat_le (n x) count)) ≡ b →
-          (if b then stray count (n x) (map n xs) else Some (n x)) ≡ None →
-          (1 ≤ n x) × (last ≤ n x) × (n x ≤ count) × (stray count (n x) (map n xs) ≡ None)
-      by_test false is none = absurd (cc)
-      by_test true is none =
-          let first = and_parts (nat_le 1 (n x)) (nat_le last (n x) && nat_le (n x) count) is in
-          let others = and_parts (nat_le last (n x)) (nat_le (n x) count) first.1 in
-          (leb-true 1 (n x) first.0, leb-true last (n x) others.0, leb-true (n x) count others.1, none)
+  stray_cons last x xs none = (
+    grind (arith, nat_tests, common_steps, none),
+    grind (arith, nat_tests, common_steps, none),
+    grind (arith, nat_tests, common_steps, none),
+    grind (arith, nat_tests, common_steps, none),
+  )
 
   pub from_last : (last : ℕ) (xs : List X) → stray count last (map n xs) ≡ None → All (λ x. last ≤ n x) xs
   from_last last [] none = All-nil (λ x. last ≤ n x)
@@ -64,6 +57,4 @@ module _ {X : Type 0} (n : X → ℕ) (count : ℕ) where
 
 -- nothing is there where it is told that nothing is
 pub none_there : {X : Type 0} (found : Option X) (none : Bool) → is_some found ≡ not none → none ≡ true → found ≡ None
-none_there None none is told = refl
-none_there (Some x) true is told = absurd (cc)
-none_there (Some x) false is told = absurd (cc)
+none_there found none is told = grind (arith, common_steps, is, told)

@@ -1,3 +1,4 @@
+pub mod Words
 pub mod InPlace
 pub mod Gathered
 pub mod Again

@@ -1,33 +1,12 @@
 -- An office's own tables: each act that is done again appends the rows that are there.
-use Rattle.std.proofs.Common.{◌≡◌, ◌∙◌, sym, ap, ap₂, refl, subst, ℕ, ◌+◌, ◌≤◌, ◌<◌, ◌==◌, ◌&&◌, arith, Bool, true, false, not, List, [], ◌∷◌, ◌++◌, Option, Some, None, length, filter, option_and_then, option_to_list, if◌then◌else◌, append_assoc, All, IfSome}
-use Rattle.std.specs.Option.{option_or, option_map, option_eq}
+use Rattle.book_replay.proofs.Words.{◌≡◌, ◌∙◌, sym, ap, ap₂, refl, subst, ℕ, ◌+◌, ◌≤◌, ◌<◌, ◌==◌, ◌&&◌, arith, Bool, true, false, not, List, [], ◌∷◌, ◌++◌, Option, Some, None, length, filter, option_and_then, option_to_list, if◌then◌else◌, append_assoc, All, IfSome, option_or, option_map, option_eq, pointwise, pointwise_decides, and_from, eq-eqb, ne_eqb, append-nil, length_push, All-nil, All-cons, All-append, All-weaker, filter-append, Record, Line, Command, ActRow, Batch, Book, IsBatch, IsBefore, empty_book, appended, kind_number, same_dates, same_heading, same_figures, same_act, same_record, same_line, record_equal, line_equal, Call, Capacity, Fault, step, IsAppended, IsReached, reached_empty, reached_more, fault_in, fit_call, call_of, rows_in, replayed, difference, records_by, lines_by, with_rows, fault_from, Accepted, AppendedIsAccepted, ReachedIsValid, filter_all, filter_none, All-IfSome, common_steps, Decides-int_eq}
 use Rattle.std.specs.Cmp.{booleans_Decides}
-use Rattle.std.specs.Cmp.Lexicographic.{pointwise, pointwise_decides}
-use Rattle.std.proofs.lemmas.Bool.{and_from, eq-eqb}
-use Rattle.std.proofs.lemmas.Bool.Decides.{Decides-int_eq}
 use Rattle.std.proofs.lemmas.Slice.Eq.{bytes_eq-Decides}
-use Rattle.std.proofs.lemmas.List.{append-nil, length_push}
-use Rattle.std.proofs.lemmas.List.Elements.{All-nil, All-cons, All-append, All-weaker, filter-append}
 use Rattle.record_history.specs.declared.records.Dates.{Dates}
-use Rattle.record_history.specs.declared.records.Record.{Record}
-use Rattle.voucher_core.specs.declared.line.Line.{Line}
-use Rattle.book_rows.specs.declared.command.Command.{Command}
-use Rattle.book_rows.specs.declared.rows.ActRow.{ActRow}
-use Rattle.book_rows.specs.declared.rows.Batch.{Batch}
 use Rattle.book_rows.specs.declared.rows.Table.TheVariants as table
-use Rattle.book_rows.specs.Book.{Book, IsBatch, IsBefore, empty_book, appended}
-use Rattle.book_rows.specs.Same.{kind_number, same_dates, same_heading, same_figures, same_act, same_record, same_line}
-use Rattle.book_rows.proofs.SameRows.{record_equal, line_equal}
-use Rattle.office_step.specs.declared.call.Call.{Call}
-use Rattle.office_step.specs.declared.call.Capacity.{Capacity}
-use Rattle.office_step.specs.declared.fault.Fault.{Fault}
-use Rattle.office_step.specs.Step.{step, IsAppended, IsReached, reached_empty, reached_more}
-use Rattle.office_step.specs.Valid.{fault_in, fit_call, call_of, rows_in, replayed, difference, records_by, lines_by, with_rows, fault_from}
-use Rattle.office_laws.specs.Accepted.{Accepted, AppendedIsAccepted}
 use Rattle.office_laws.specs.Kept.{Kept, BooksAreKept, BatchesFollow}
-use Rattle.book_replay.specs.Replay.{ReachedIsValid}
 use Rattle.book_replay.proofs.InPlace.{in_place}
-use Rattle.book_replay.proofs.Gathered.{all_kept, none_kept, not_eq}
+use Rattle.list_laws.proofs.ByNumber.{filter_earlier, filter_last}
 
 -- ---- a row is the same as itself
 
@@ -59,34 +38,6 @@ records_decide a b = (record_equal a b, λ is. subst (λ (r : Record). same_reco
 lines_decide : (a b : Line) → (same_line a b ≡ true → a ≡ b) × (a ≡ b → same_line a b ≡ true)
 lines_decide a b = (line_equal a b, λ is. subst (λ (line : Line). same_line a line ≡ true) is (line_itself a))
 
--- ---- rows by their act
-
-module _ {X : Type 0} (n : X → ℕ) where
-  abbrev only : ℕ → List X → List X
-  only k xs = filter (λ x. n x == k) xs
-
-  -- of rows up to some act and then rows of another, those of the earlier acts
-  only_earlier : (k act : ℕ) (xs ys : List X) → k < act → All (λ y. n y ≡ act) ys → only k (xs ++ ys) ≡ only k xs
-  only_earlier k act xs ys before own =
-      filter-append (λ x. n x == k) xs ys
-      ∙ ap (λ (later : List X). only k xs ++ later)
-      (none_kept (λ x. n x == k) ys
-      (All-weaker (λ y. n y ≡ act) (λ y. (n y == k) ≡ false) (λ y is. not_eq (n y) k (λ same. absurd (omega (arith, before, is, same)))) ys own))
-      ∙ append-nil (only k xs)
-
-  -- and those of the last
-  only_last : (act : ℕ) (xs ys : List X) → All (λ x. n x < act) xs → All (λ y. n y ≡ act) ys → only act (xs ++ ys) ≡ ys
-  only_last act xs ys before own =
-      filter-append (λ x. n x == act) xs ys
-      ∙ ap₂ (λ (earlier later : List X). earlier ++ later)
-      (none_kept (λ x. n x == act) xs
-      (All-weaker (λ x. n x < act) (λ x. (n x == act) ≡ false) (λ x less. not_eq (n x) act (λ same. absurd (omega (arith, less, same)))) xs before))
-      (all_kept (λ x. n x == act) ys (All-weaker (λ y. n y ≡ act) (λ y. (n y == act) ≡ true) (λ y is. eq-eqb (n y) act is) ys own))
-
-all_of_option : {X : Type 0} (P : X → Type 0) (made : Option X) → IfSome made P → All P (option_to_list made)
-all_of_option P None each = All-nil P
-all_of_option P (Some x) each = All-cons P x [] each (All-nil P)
-
 -- ---- one act
 
 -- the tables have the book's own rows of each of its acts
@@ -106,18 +57,18 @@ module _ (accepted : AppendedIsAccepted) (follow : BatchesFollow) (capacity : Ca
   earlier = (follow capacity book rows reached more).1
 
   own_records : All (λ r. r.act ≡ rows.act.n) (option_to_list rows.made)
-  own_records = all_of_option (λ r. r.act ≡ rows.act.n) rows.made own.made
+  own_records = All-IfSome (λ r. r.act ≡ rows.act.n) rows.made own.made
 
   has_before : HasRows tables (appended book rows) → HasRows tables book
   has_before has = record {
     records = λ k within. has.records k (omega (arith, within, length_push book.acts rows.act))
-        ∙ only_earlier (λ (r : Record). r.act) k rows.act.n book.records (option_to_list rows.made) (omega (arith, within, is.n)) own_records;
+        ∙ filter_earlier (λ (r : Record). r.act) k rows.act.n book.records (option_to_list rows.made) (omega (arith, within, is.n)) own_records;
     lines = λ k within. has.lines k (omega (arith, within, length_push book.acts rows.act))
-        ∙ only_earlier (λ (line : Line). line.act) k rows.act.n book.lines rows.lines (omega (arith, within, is.n)) own.lines;
+        ∙ filter_earlier (λ (line : Line). line.act) k rows.act.n book.lines rows.lines (omega (arith, within, is.n)) own.lines;
   }
 
   same_rows : HasRows tables (appended book rows) → difference tables rows.act (Some rows) ≡ None
-  same_rows has = by_tests _ (act_itself rows.act) _ same_made _ same_lines
+  same_rows has = grind (arith, common_steps, act_itself rows.act, same_made, same_lines)
     where
       last : rows.act.n ≤ length (appended book rows).acts
       last = omega (arith, length_push book.acts rows.act, is.n)
@@ -125,22 +76,12 @@ module _ (accepted : AppendedIsAccepted) (follow : BatchesFollow) (capacity : Ca
       same_made : pointwise same_record (option_to_list rows.made) (records_by rows.act.n tables.records) ≡ true
       same_made =
           (pointwise_decides records_decide (option_to_list rows.made) (records_by rows.act.n tables.records)).1
-          (sym (has.records rows.act.n last ∙ only_last (λ (r : Record). r.act) rows.act.n book.records (option_to_list rows.made) earlier.records own_records))
+          (sym (has.records rows.act.n last ∙ filter_last (λ (r : Record). r.act) rows.act.n book.records (option_to_list rows.made) earlier.records own_records))
 
       same_lines : pointwise same_line rows.lines (lines_by rows.act.n tables.lines) ≡ true
       same_lines =
           (pointwise_decides lines_decide rows.lines (lines_by rows.act.n tables.lines)).1
-          (sym (has.lines rows.act.n last ∙ only_last (λ (line : Line). line.act) rows.act.n book.lines rows.lines earlier.lines own.lines))
-
-      by_tests : (act : Bool) → act ≡ true → (made : Bool) → made ≡ true → (lines : Bool) → lines ≡ true →
-          (if not act then Some (fault_in table.Acts rows.act.n)
-          else if not made then Some (fault_in table.Records rows.act.n)
-          else if not lines then Some (fault_in table.Lines rows.act.n)
-          else None) ≡ None
-      by_tests false is_act made is_made lines are_lines = absurd (cc)
-      by_tests true is_act false is_made lines are_lines = absurd (cc)
-      by_tests true is_act true is_made false are_lines = absurd (cc)
-      by_tests true is_act true is_made true are_lines = refl
+          (sym (has.lines rows.act.n last ∙ filter_last (λ (line : Line). line.act) rows.act.n book.lines rows.lines earlier.lines own.lines))
 
   call_is : call_of rows.act ≡ Some more.call
   call_is =
@@ -181,16 +122,14 @@ from_one accepted follow capacity _ (reached_more {book} {rows} reached more) =
     record {
       records = All-append (λ r. 1 ≤ r.act) book.records (option_to_list rows.made) so_far.records
           (All-weaker (λ r. r.act ≡ rows.act.n) (λ r. 1 ≤ r.act) (λ r is. omega (arith, is, n)) (option_to_list rows.made)
-          (all_of_option (λ r. r.act ≡ rows.act.n) rows.made own.made));
+          (All-IfSome (λ r. r.act ≡ rows.act.n) rows.made own.made));
       lines = All-append (λ line. 1 ≤ line.act) book.lines rows.lines so_far.lines
           (All-weaker (λ line. line.act ≡ rows.act.n) (λ line. 1 ≤ line.act) (λ line is. omega (arith, is, n)) rows.lines own.lines);
     }
 
 no_stray : (count : ℕ) (records lines : Option ℕ) → records ≡ None → lines ≡ None →
     option_or (option_map (fault_in table.Records) records) (option_map (fault_in table.Lines) lines) ≡ None
-no_stray count (Some act) lines none also = absurd (cc)
-no_stray count None (Some act) none also = absurd (cc)
-no_stray count None None none also = refl
+no_stray count records lines none also = grind (arith, common_steps, none, also)
 
 pub reached_is_valid : AppendedIsAccepted → BatchesFollow → BooksAreKept → ReachedIsValid
 reached_is_valid accepted follow are_kept capacity book reached =

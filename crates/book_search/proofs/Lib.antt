@@ -1,3 +1,3 @@
+pub mod Words
 pub mod Stretch
-mod Found
 mod Requests

@@ -1,12 +1,6 @@
 -- Acts that have their own requests.
-use Rattle.std.proofs.Common.{◌≡◌, ℕ, ◌&&◌, nat_eq, Bool, true, false, List, get_or, refl, sym, ap, ◌∙◌, arith}
-use Rattle.std.specs.Prelude.{Option, Some, None, find}
-use Rattle.std.proofs.lemmas.Bool.Decides.{nat_tests}
+use Rattle.book_search.proofs.Words.{◌≡◌, ℕ, ◌&&◌, nat_eq, Bool, true, false, List, get_or, refl, sym, ap, ◌∙◌, arith, Option, Some, None, find, nat_tests, ActRow, if_passes, is_of_request, HaveOwnRequests, RequestsStayOwn, find_both, find_none}
 use Rattle.std.proofs.lemmas.List.Quantifiers.{all_pairs_push}
-use Rattle.book_rows.specs.declared.rows.ActRow.{ActRow}
-use Rattle.row_index.proofs.Points.{if_passes, All-not_found}
-use Rattle.book_search.specs.Requests.{is_of_request, HaveOwnRequests, RequestsStayOwn}
-use Rattle.book_search.proofs.Found.{found_alone}
 
 -- two of which one is of the other's request are alike
 other_way : (clerk request : ℕ) (act : ActRow) → is_of_request clerk request act ≡ false → (nat_eq clerk act.clerk && nat_eq request act.request) ≡ false
@@ -18,13 +12,13 @@ alone clerk request act other apart is = grind (arith, nat_tests, apart, is)
 pub requests_stay_own : RequestsStayOwn
 requests_stay_own acts act own new =
     all_pairs_push (λ earlier other. is_of_request earlier.clerk earlier.request other ≡ false) acts act own
-    (λ k d within. other_way act.clerk act.request (get_or acts k d) (All-not_found (is_of_request act.clerk act.request) acts new k d within))
+    (λ k d within. other_way act.clerk act.request (get_or acts k d) (find_none (is_of_request act.clerk act.request) acts new k d within))
 
 -- the act of a request that passes a test, by the act of the request
 module _ (acts : List ActRow) (own : HaveOwnRequests acts) (clerk request : ℕ) (test : ActRow → Bool) (read : Option ActRow) (there : read ≡ find (is_of_request clerk request) acts) where
   first_with : find (λ act. is_of_request clerk request act && test act) acts ≡ if_passes test read
   first_with =
-      found_alone (is_of_request clerk request) test acts (λ i j d before within. alone clerk request (get_or acts i d) (get_or acts j d) (own i j d before within))
+      find_both (is_of_request clerk request) test acts (λ i j d before within. alone clerk request (get_or acts i d) (get_or acts j d) (own i j d before within))
       ∙ ap (if_passes test) (sym there)
 
   pub it_passes : (act : ActRow) → read ≡ Some act → test act ≡ true → Some act ≡ find (λ act. is_of_request clerk request act && test act) acts

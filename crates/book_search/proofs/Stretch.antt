@@ -1,15 +1,7 @@
 -- The elements of a number in a list that never falls: one stretch of it.
-use Rattle.std.proofs.Common.{◌≡◌, ℕ, zero, suc, ◌<◌, ◌≤◌, Bool, true, false, List, [], ◌∷◌, length, get_or, take, drop, eqb, refl, sym, ap, subst, arith, ◌⊎◌, inl, inr}
-use Rattle.std.specs.Prelude.{filter, All, AllPairs, nat_lt, nat_le}
+use Rattle.book_search.proofs.Words.{◌≡◌, ℕ, zero, suc, ◌<◌, ◌≤◌, true, false, List, [], ◌∷◌, length, get_or, take, drop, eqb, refl, sym, ap, subst, arith, ◌⊎◌, inl, inr, filter, AllPairs, nat_lt, nat_le, cases_lt, nat_tests}
 use Rattle.std.specs.List.Sorted.{IsPartitionPoint, IsNonDecreasingBy}
-use Rattle.std.proofs.lemmas.Bool.{cases_lt}
-use Rattle.std.proofs.lemmas.Bool.Decides.{nat_tests}
-use Rattle.std.proofs.lemmas.List.Elements.{All-head, All-tail}
-
--- where no element passes, none is kept
-none_kept : {X : Type 0} (passes : X → Bool) (xs : List X) → All (λ x. passes x ≡ false) xs → filter passes xs ≡ []
-none_kept passes [] none = refl
-none_kept passes (x ∷ xs) none = rw (All-head (λ x. passes x ≡ false) x xs none) (none_kept passes xs (All-tail (λ x. passes x ≡ false) x xs none))
+use Rattle.list_laws.proofs.Filters.{filter_none}
 
 smaller : (m a : ℕ) → nat_lt m a ≡ true → eqb m a ≡ false
 smaller m a is = grind (arith, nat_tests)
@@ -34,7 +26,7 @@ filter_stretch n (x ∷ xs) a (suc i) j le up first last =
     (λ k d low high. first.0 (suc k) d (omega arith) (omega (arith, high)), λ k d low high. first.1 (suc k) d (omega (arith, low)) (omega (arith, high)))
     last)
 filter_stretch n (x ∷ xs) a zero zero le up first last =
-    sym (none_kept (λ y. eqb (n y) a) (x ∷ xs) (λ k d within. greater (n (get_or (x ∷ xs) k d)) a (last.1 k d (omega arith) within)))
+    sym (filter_none (λ y. eqb (n y) a) (x ∷ xs) (λ k d within. greater (n (get_or (x ∷ xs) k d)) a (last.1 k d (omega arith) within)))
 filter_stretch n (x ∷ xs) a zero (suc j) le up first last =
     rw (same (n x) a (first.1 0 x (omega arith) (omega arith)) (last.0 0 x (omega arith) (omega arith)))
     (ap (λ ys. x ∷ ys) (filter_stretch n xs a zero j (omega arith) (omega (arith, up))
@@ -42,16 +34,12 @@ filter_stretch n (x ∷ xs) a zero (suc j) le up first last =
     (λ k d low high. last.0 (suc k) d (omega arith) (omega (arith, high)), λ k d low high. last.1 (suc k) d (omega (arith, low)) (omega (arith, high)))))
 
 -- numbers that rise never fall
-pub never_falls : {X : Type 0} (n : X → ℕ) (xs : List X) → AllPairs (λ x next. n x < n next) xs → IsNonDecreasingBy n xs
-never_falls n xs rise i j d le within = by (cases_lt i j)
-  where
-    by : (i < j) ⊎ (j ≤ i) → n (get_or xs i d) ≤ n (get_or xs j d)
-    by (inl lt) = let less = rise i j d lt within in omega (arith, less)
-    by (inr ge) = subst (λ k. n (get_or xs i d) ≤ n (get_or xs k d)) {x = i} (omega (arith, le, ge)) (omega arith)
-
 pub never_falls_either : {X : Type 0} (n : X → ℕ) (xs : List X) → AllPairs (λ x next. n x ≤ n next) xs → IsNonDecreasingBy n xs
 never_falls_either n xs rise i j d le within = by (cases_lt i j)
   where
     by : (i < j) ⊎ (j ≤ i) → n (get_or xs i d) ≤ n (get_or xs j d)
     by (inl lt) = rise i j d lt within
     by (inr ge) = subst (λ k. n (get_or xs i d) ≤ n (get_or xs k d)) {x = i} (omega (arith, le, ge)) (omega arith)
+
+pub never_falls : {X : Type 0} (n : X → ℕ) (xs : List X) → AllPairs (λ x next. n x < n next) xs → IsNonDecreasingBy n xs
+never_falls n xs rise = never_falls_either n xs (λ i j d before within. let less = rise i j d before within in omega (arith, less))

@@ -7,9 +7,7 @@ use office_refusals::{
 use office_step::{Named, Refusal};
 use record_history::{Dates, History, Kind};
 use rent_table::RentTable;
-use sample_office::{
-    day, history_of, month, office_day, record, rent_row, rent_table, text,
-};
+use sample_office::{day, history_of, month, office_day, record, rent_row, rent_table, text};
 use std::alloc::Global;
 use std::process::Abort;
 use wait_list::Candidate;

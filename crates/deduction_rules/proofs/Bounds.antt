@@ -14,6 +14,7 @@ use Rattle.income_rules.proofs.Kept.{keeps, is_short, amounts_hold}
 use Rattle.income_rules.proofs.Sums.{sum_by-filter, cond-le}
 use Rattle.income_rules.proofs.Fits.{family_within}
 use Rattle.deduction_rules.specs.Deductions.{is_dependent, dependents_of, is_elderly_family, elderly_deduction_of, child_care_of, disability_deduction_of, medical_deduction_of, three_percent_of, earned_by, is_helped_adult, is_young_child}
+use Rattle.std.proofs.lemmas.Grind.{common_steps}
 
 -- each member was born by the day
 pub all_born : (facts : Facts) (day : ℕ) → broken_rule facts day ≡ None → All (λ member. member.born ≤ day) facts.members
@@ -47,17 +48,13 @@ costs-le facts day e =
     (amounts.care_work, amounts.care_school, amounts.disability, amounts.medical)
 
 child_care-le : (has_child : Bool) (work earned school : ℕ) → (if has_child then min work earned + school else 0) ≤ work + school
-child_care-le true work earned school = omega arith
-child_care-le false work earned school = omega arith
+child_care-le has_child work earned school = grind (arith, common_steps)
 
 disability-le : (above : Bool) (disability threshold cap : ℕ) → (if above then min (disability - threshold) cap else 0) ≤ disability
-disability-le true disability threshold cap = omega arith
-disability-le false disability threshold cap = omega arith
+disability-le above disability threshold cap = grind (arith, common_steps)
 
 medical-le : (elderly above : Bool) (disability medical threshold : ℕ) → (if elderly then (if above then medical else disability + medical - threshold) else 0) ≤ disability + medical
-medical-le true true disability medical threshold = omega arith
-medical-le true false disability medical threshold = omega arith
-medical-le false above disability medical threshold = omega arith
+medical-le elderly above disability medical threshold = grind (arith, common_steps)
 
 pub deductions-le : (facts : Facts) (annual day : ℕ) → broken_rule facts day ≡ None → dependents_of facts day + elderly_deduction_of facts day + child_care_of facts day + disability_deduction_of facts annual day + medical_deduction_of facts annual day ≤ 100000000
 deductions-le facts annual day e =

@@ -1,9 +1,5 @@
 -- The least number that passes is what a search through the span finds, and is the only one of which that is true.
-use Rattle.std.proofs.Common.{◌≡◌, ℕ, ◌+◌, ◌-◌, Bool, Option, Some, None, refl, ap, arith, inl, inr}
-use Rattle.std.proofs.lemmas.Bool.{cases_order, both_ways}
-use Rattle.row_choice.specs.FirstDay.{first_day}
-use Rattle.row_choice.proofs.FirstDayLemmas.{IsFirst, first-is}
-use Rattle.due_dates.specs.Least.{least_that, IsLeastOne, IsLeast}
+use Rattle.due_dates.proofs.Words.{◌≡◌, ℕ, ◌+◌, ◌-◌, Bool, Option, Some, None, arith, first_day, IsFirst, first-is, least_that, IsLeast, same_first}
 
 module _ (passes : ℕ → Bool) (first last : ℕ) where
   -- so many numbers from the first on are those up to the last
@@ -21,21 +17,13 @@ module _ (passes : ℕ → Bool) (first last : ℕ) where
   unfolding least_that
   least_that-says = from_search (first_day passes first (last + 1 - first)) (first-is passes first (last + 1 - first))
 
-  -- of two least ones neither is earlier
-  same_one : (one other : ℕ) → IsLeastOne passes first last one → IsLeastOne passes first last other → one ≡ other
-  same_one one other is also =
-      elim (cases_order one other) [
-        | inl same ↦ same
-        | inr (inl less) ↦ absurd (both_ways (passes one) (also.none_earlier one is.from_first less) is.this)
-        | inr (inr more) ↦ absurd (both_ways (passes other) (is.none_earlier other also.from_first more) also.this)
-      ]
-
-  only_one : (answer other : Option ℕ) → IsLeast passes first last answer → IsLeast passes first last other → answer ≡ other
-  only_one None None none none_either = refl
-  only_one None (Some other) none is = absurd (both_ways (passes other) (none other is.from_first is.to_last) is.this)
-  only_one (Some one) None is none = absurd (both_ways (passes one) (none one is.from_first is.to_last) is.this)
-  only_one (Some one) (Some other) is also = ap Some (same_one one other is also)
+  to_search : (answer : Option ℕ) → IsLeast passes first last answer → IsFirst passes first (last + 1 - first) answer
+  to_search None none = λ n low high. none n low (omega (arith, low, high))
+  to_search (Some least) is = (is.from_first, omega (arith, is.from_first, is.to_last), is.this, is.none_earlier)
 
   -- so an answer that is the least one is that of the definition
   pub least_that-is : (answer : Option ℕ) → IsLeast passes first last answer → least_that passes first last ≡ answer
-  least_that-is answer is = only_one (least_that passes first last) answer least_that-says is
+  unfolding least_that
+  least_that-is answer is =
+      same_first passes first (last + 1 - first) (first_day passes first (last + 1 - first)) answer
+      (first-is passes first (last + 1 - first)) (to_search answer is)

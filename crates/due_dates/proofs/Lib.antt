@@ -1,3 +1,4 @@
+pub mod Words
 pub mod LeastLemmas
 pub mod MonthLemmas
 pub mod RightfulLemmas

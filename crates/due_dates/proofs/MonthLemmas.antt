@@ -1,11 +1,5 @@
 -- Which month is the first that passes, and the months of the days that an office meets.
-use Rattle.std.proofs.Common.{◌≡◌, ℕ, zero, suc, ◌+◌, ◌-◌, ◌*◌, ◌%◌, ◌<◌, ◌≤◌, Bool, true, false, Option, Some, ap, arith, inl, inr}
-use Rattle.std.specs.Prelude.{nat_lt, ◌==◌, unwrap_or}
-use Rattle.std.proofs.lemmas.Bool.{cases_lt, cases_eq, and_from, le-leb, lt-leb, lt-ltb, le-ltb, eq-eqb, ne_eqb, and_left, and_right}
-use Rattle.days_core.specs.Calendar.{month_of, month_in_year, month_place, first_of, last_month}
-use Rattle.days_core.proofs.Bridge.{days_in_bounds, first_of-suc, first_of_mono, first_of-end, month_of_fits}
-use Rattle.due_dates.specs.Least.{IsLeastOne}
-use Rattle.due_dates.specs.Rightful.{first_month_that, begins_from, has_anniversary_after}
+use Rattle.due_dates.proofs.Words.{◌≡◌, ℕ, zero, suc, ◌+◌, ◌-◌, ◌*◌, ◌%◌, ◌<◌, ◌≤◌, Bool, true, false, Option, Some, ap, arith, inl, inr, nat_lt, ◌==◌, unwrap_or, cases_lt, cases_eq, and_from, le-leb, lt-leb, lt-ltb, le-ltb, eq-eqb, ne_eqb, and_left, and_right, month_of, month_in_year, month_place, first_of, last_month, days_in_bounds, first_of-suc, first_of_mono, first_of-end, month_of_fits, IsLeastOne, first_month_that, begins_from, has_anniversary_after}
 use Rattle.due_dates.proofs.LeastLemmas.{least_that-is}
 
 -- so many months have at most 31 days each

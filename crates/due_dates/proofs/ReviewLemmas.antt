@@ -1,26 +1,15 @@
 -- The least day on which rents are stale is found among the first day and the beginnings.
-use Rattle.std.proofs.Common.{◌≡◌, ◌∙◌, sym, refl, ℕ, ◌+◌, ◌-◌, Bool, true, false, List, [], ◌∷◌, ◌++◌, Option, None, ap, arith}
-use Rattle.std.specs.Prelude.{filter, fold, nat_le, nat_lt, ◌&&◌, if◌then◌else◌}
+use Rattle.due_dates.proofs.Words.{◌≡◌, ◌∙◌, sym, refl, ℕ, ◌+◌, ◌-◌, Bool, List, [], ◌∷◌, ◌++◌, Option, None, ap, arith, filter, fold, nat_le, nat_lt, ◌&&◌, filter_agree, later, earliest, is_within, ChangesAtBeginnings, first_day-is, least_that, with_day, with_days}
 use Rattle.std.proofs.lemmas.Bool.Decides.{nat_tests}
 use Rattle.std.proofs.lemmas.List.Sums.{fold-append}
-use Rattle.std.proofs.lemmas.List.Elements.{filter_agree}
-use Rattle.row_choice.specs.Latest.{later}
-use Rattle.row_choice.specs.FirstDay.{earliest, is_within, ChangesAtBeginnings}
-use Rattle.row_choice.proofs.FirstDayLemmas.{first_day-is}
-use Rattle.due_dates.specs.Least.{least_that}
-use Rattle.due_dates.specs.Review.{with_day, with_days}
+use Rattle.std.proofs.lemmas.Grind.{common_steps}
 
 -- a day that doesn't pass is passed over
 with_days-filter : (passes : ℕ → Bool) (best : Option ℕ) (days : List ℕ) →
     with_days passes best days ≡ fold (later (λ day other. nat_lt other day)) best (filter passes days)
 with_days-filter passes best [] = refl
-with_days-filter passes best (day ∷ days) = by_test (passes day) (λ next. with_days-filter passes next days)
-  where
-    by_test : (test : Bool) → ((next : Option ℕ) → with_days passes next days ≡ fold (later (λ day other. nat_lt other day)) next (filter passes days)) →
-        with_days passes (if test then later (λ day other. nat_lt other day) best day else best) days
-        ≡ fold (later (λ day other. nat_lt other day)) best (if test then day ∷ filter passes days else filter passes days)
-    by_test true rest = rest (later (λ day other. nat_lt other day) best day)
-    by_test false rest = rest best
+with_days-filter passes best (day ∷ days) =
+    grind (arith, common_steps, with_days-filter passes best days, with_days-filter passes (later (λ day other. nat_lt other day) best day) days)
 
 -- the two ways to say that a day lies in a span
 same_span : (first last day : ℕ) → is_within first (last + 1 - first) day ≡ (nat_le first day && nat_le day last)

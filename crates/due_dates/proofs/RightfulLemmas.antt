@@ -1,9 +1,5 @@
 -- What the rightful days come to.
-use Rattle.std.proofs.Common.{◌≡◌, ◌∙◌, ℕ, ◌+◌, ◌≤◌, sym, ap, subst, arith, inl, inr}
-use Rattle.std.proofs.lemmas.Bool.{cases_lt, both_ways, leb-true}
-use Rattle.days_core.specs.Calendar.{month_of, month_place, first_of}
-use Rattle.days_core.proofs.Bridge.{days_in_bounds, first_of_mono, month_of_is}
-use Rattle.due_dates.specs.Rightful.{first_month_that, next_month, begins_from, first_start_from, has_anniversary_after, next_anniversary}
+use Rattle.due_dates.proofs.Words.{◌≡◌, ◌∙◌, ℕ, ◌+◌, ◌≤◌, sym, ap, subst, arith, inl, inr, cases_lt, both_ways, leb-true, month_of, month_place, first_of, days_in_bounds, first_of_mono, month_of_is, first_month_that, next_month, begins_from, first_start_from, has_anniversary_after, next_anniversary}
 use Rattle.due_dates.specs.Law.{BeginsMonth, IsMonthAfter, IsFirstStart, IsNextAnniversary}
 use Rattle.due_dates.proofs.MonthLemmas.{first_of_above, month_of_by, first_month_that-is, first_start, from_there, anniversary, place_reached, reached, wait_of}
 

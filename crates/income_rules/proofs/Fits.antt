@@ -1,65 +1,48 @@
 -- The sums of facts that break no rule fit their types.
-use Rattle.std.proofs.Common.{◌≡◌, ℕ, ◌+◌, ◌≤◌, min, max, mul-le-mul_left, true, false, Bool, cond, List, [], ◌∷◌, length, Option, Some, None, arith}
-use Rattle.std.specs.Prelude.{◌==◌, ◌&&◌, if◌then◌else◌, sum_by, slice_get, nat_lt}
-use Rattle.std.specs.List.{range_with_len}
+use Rattle.income_rules.proofs.Words.{◌≡◌, ℕ, ◌+◌, ◌≤◌, min, max, mul-le-mul_left, true, Bool, cond, List, [], ◌∷◌, length, Option, Some, None, arith, ◌==◌, ◌&&◌, if◌then◌else◌, sum_by, slice_get, nat_lt, range_with_len, sum_by-cons, sum_by-le-sum_by, and_parts, leb-true, Member, Income, Asset, Disposal, Facts, is_amount, is_aide, broken_rule, is_earned, is_adoption, is_counted_whole, sum_of, counted_of_earnings, counted_of_others, counted_earned_of, counted_unearned_of, window_start, is_between, disposals_by, given_away_of, net_assets_of, actual_asset_income_of, imputed_asset_income, asset_income_of, list_all, common_steps}
 use Rattle.std.specs.Option.{option_map_or}
-use Rattle.std.proofs.lemmas.List.Sums.{sum_by-cons, sum_by-le-sum_by}
-use Rattle.std.proofs.lemmas.Bool.{and_parts, leb-true}
-use Rattle.facts_core.specs.declared.members.Member.{Member}
 use Rattle.facts_core.specs.declared.incomes.IncomeKind.{IncomeKind}
-use Rattle.facts_core.specs.declared.incomes.IncomeKind.TheVariants as kind
-use Rattle.facts_core.specs.declared.incomes.Income.{Income}
-use Rattle.facts_core.specs.declared.property.Asset.{Asset}
-use Rattle.facts_core.specs.declared.property.Disposal.{Disposal}
-use Rattle.facts_core.specs.declared.facts.Facts.{Facts}
-use Rattle.facts_core.specs.Rules.{is_amount}
-use Rattle.facts_core.specs.Rules.{is_aide, broken_rule}
 use Rattle.income_rules.specs.Members.{is_head_or_partner, is_under}
-use Rattle.income_rules.specs.Income.{is_earned, is_adoption, is_counted_whole, sum_of, counted_of_earnings, counted_of_others, counted_earned_of, counted_unearned_of}
 use Rattle.income_rules.specs.Annual.{annual_income_of}
-use Rattle.income_rules.specs.Assets.{window_start, is_between, disposals_by, given_away_of, net_assets_of, actual_asset_income_of, imputed_asset_income, asset_income_of}
 use Rattle.income_rules.proofs.Kept.{keeps, is_short, amounts_hold}
 use Rattle.income_rules.proofs.Sums.{sum_by-bounded, sum_by-filter, sum_by-filter-le, sum_by-add, cond-le, only_once}
+use Rattle.std.proofs.lemmas.Grind.{common_steps}
+use Rattle.std.proofs.Common.{arith}
 
 -- ---- the lists of the facts
 
 abbrev pub incomes_sum : List Income → ℕ
 incomes_sum incomes = sum_by (λ income. income.annual) incomes
 
+-- amounts that a test bounds, in a list that is short
+amounts_fit : {X : Type 0} (amount : X → ℕ) (fits : X → Bool) (xs : List X) → ((x : X) → fits x ≡ true → amount x ≤ 9999999) →
+    list_all fits xs ≡ true → length xs ≤ 40 → sum_by amount xs ≤ 399999960
+amounts_fit amount fits xs bound all short = omega (arith, sum_by-bounded amount fits 9999999 bound xs all, short)
+
 pub incomes_fit : (facts : Facts) (day : ℕ) → broken_rule facts day ≡ None → incomes_sum facts.incomes ≤ 399999960
 incomes_fit facts day e =
     let k = keeps facts day e in
-    let all = sum_by-bounded (λ (income : Income). income.annual) (λ income. is_amount income.annual) 9999999 (λ income fits. leb-true _ _ fits) facts.incomes (amounts_hold facts k.amounts).incomes in
-    let short = (is_short facts k.size).incomes in
-    omega (arith, all, short)
+    amounts_fit (λ (income : Income). income.annual) (λ income. is_amount income.annual) facts.incomes (λ income fits. leb-true _ _ fits) (amounts_hold facts k.amounts).incomes (is_short facts k.size).incomes
 
 pub asset_values_fit : (facts : Facts) (day : ℕ) → broken_rule facts day ≡ None → sum_by (λ asset. asset.value) facts.assets ≤ 399999960
 asset_values_fit facts day e =
     let k = keeps facts day e in
-    let all = sum_by-bounded (λ (asset : Asset). asset.value) (λ asset. is_amount asset.value && is_amount asset.income) 9999999 (λ asset fits. leb-true _ _ (and_parts (is_amount asset.value) (is_amount asset.income) fits).0) facts.assets (amounts_hold facts k.amounts).assets in
-    let short = (is_short facts k.size).assets in
-    omega (arith, all, short)
+    amounts_fit (λ (asset : Asset). asset.value) (λ asset. is_amount asset.value && is_amount asset.income) facts.assets (λ asset fits. leb-true _ _ (and_parts (is_amount asset.value) (is_amount asset.income) fits).0) (amounts_hold facts k.amounts).assets (is_short facts k.size).assets
 
 pub asset_incomes_fit : (facts : Facts) (day : ℕ) → broken_rule facts day ≡ None → sum_by (λ asset. asset.income) facts.assets ≤ 399999960
 asset_incomes_fit facts day e =
     let k = keeps facts day e in
-    let all = sum_by-bounded (λ (asset : Asset). asset.income) (λ asset. is_amount asset.value && is_amount asset.income) 9999999 (λ asset fits. leb-true _ _ (and_parts (is_amount asset.value) (is_amount asset.income) fits).1) facts.assets (amounts_hold facts k.amounts).assets in
-    let short = (is_short facts k.size).assets in
-    omega (arith, all, short)
+    amounts_fit (λ (asset : Asset). asset.income) (λ asset. is_amount asset.value && is_amount asset.income) facts.assets (λ asset fits. leb-true _ _ (and_parts (is_amount asset.value) (is_amount asset.income) fits).1) (amounts_hold facts k.amounts).assets (is_short facts k.size).assets
 
 pub disposal_values_fit : (facts : Facts) (day : ℕ) → broken_rule facts day ≡ None → sum_by (λ disposal. disposal.value) facts.disposals ≤ 399999960
 disposal_values_fit facts day e =
     let k = keeps facts day e in
-    let all = sum_by-bounded (λ (disposal : Disposal). disposal.value) (λ disposal. is_amount disposal.value && is_amount disposal.received) 9999999 (λ disposal fits. leb-true _ _ (and_parts (is_amount disposal.value) (is_amount disposal.received) fits).0) facts.disposals (amounts_hold facts k.amounts).disposals in
-    let short = (is_short facts k.size).disposals in
-    omega (arith, all, short)
+    amounts_fit (λ (disposal : Disposal). disposal.value) (λ disposal. is_amount disposal.value && is_amount disposal.received) facts.disposals (λ disposal fits. leb-true _ _ (and_parts (is_amount disposal.value) (is_amount disposal.received) fits).0) (amounts_hold facts k.amounts).disposals (is_short facts k.size).disposals
 
 pub disposal_receipts_fit : (facts : Facts) (day : ℕ) → broken_rule facts day ≡ None → sum_by (λ disposal. disposal.received) facts.disposals ≤ 399999960
 disposal_receipts_fit facts day e =
     let k = keeps facts day e in
-    let all = sum_by-bounded (λ (disposal : Disposal). disposal.received) (λ disposal. is_amount disposal.value && is_amount disposal.received) 9999999 (λ disposal fits. leb-true _ _ (and_parts (is_amount disposal.value) (is_amount disposal.received) fits).1) facts.disposals (amounts_hold facts k.amounts).disposals in
-    let short = (is_short facts k.size).disposals in
-    omega (arith, all, short)
+    amounts_fit (λ (disposal : Disposal). disposal.received) (λ disposal. is_amount disposal.value && is_amount disposal.received) facts.disposals (λ disposal fits. leb-true _ _ (and_parts (is_amount disposal.value) (is_amount disposal.received) fits).1) (amounts_hold facts k.amounts).disposals (is_short facts k.size).disposals
 
 -- ---- the incomes of one member
 
@@ -73,13 +56,7 @@ total_for incomes number = sum_by (λ income. cond (income.member == number) inc
 
 -- an income is of one kind
 one_kind : (same : Bool) (k : IncomeKind) (n : ℕ) → cond (same && is_earned k) n 0 + (cond (same && is_counted_whole k) n 0 + cond (same && is_adoption k) n 0) ≤ cond same n 0
-one_kind false k n = omega arith
-one_kind true kind.Wages n = omega arith
-one_kind true kind.Business n = omega arith
-one_kind true kind.Benefits n = omega arith
-one_kind true kind.Welfare n = omega arith
-one_kind true kind.Adoption n = omega arith
-one_kind true kind.Other n = omega arith
+one_kind same k n = grind (arith, common_steps)
 
 pub kinds_within : (incomes : List Income) (number : ℕ) → sum_of is_earned incomes number + (sum_of is_counted_whole incomes number + sum_of is_adoption incomes number) ≤ total_for incomes number
 kinds_within incomes number =
@@ -125,15 +102,10 @@ numbers_within (income ∷ incomes) k =
 
 -- what is counted of earnings is at most all
 counted_least : (aide principal young student : Bool) (n : ℕ) → (if aide then 0 else (if principal then n else (if young then 0 else (if student then min 480 n else n)))) ≤ n
-counted_least true principal young student n = omega arith
-counted_least false true young student n = omega arith
-counted_least false false true student n = omega arith
-counted_least false false false true n = omega arith
-counted_least false false false false n = omega arith
+counted_least aide principal young student n = grind (arith, common_steps)
 
 others_least : (aide : Bool) (whole adoption : ℕ) → (if aide then 0 else whole + min 480 adoption) ≤ whole + adoption
-others_least true whole adoption = omega arith
-others_least false whole adoption = omega arith
+others_least aide whole adoption = grind (arith, common_steps)
 
 earned_part : (o : Option Member) (day earnings : ℕ) → option_map_or (λ member. counted_of_earnings member day earnings) o 0 ≤ earnings
 earned_part None day earnings = omega arith
@@ -190,8 +162,7 @@ imputed-le : (net passbook : ℕ) → passbook ≤ 10000 → imputed_asset_incom
 imputed-le net passbook le = omega (arith, mul-le-mul_left net le)
 
 greater-le : (above : Bool) (actual imputed most : ℕ) → actual ≤ most → imputed ≤ most → (if above then max actual imputed else actual) ≤ most
-greater-le true actual imputed most a i = omega arith
-greater-le false actual imputed most a i = a
+greater-le above actual imputed most a i = grind (arith, common_steps, a, i)
 
 pub asset_income_fits : (facts : Facts) (day passbook : ℕ) → broken_rule facts day ≡ None → passbook ≤ 10000 → asset_income_of facts day passbook ≤ 799999920
 asset_income_fits facts day passbook e le =

@@ -1,3 +1,4 @@
+pub mod Words
 pub mod Kept
 pub mod Sums
 pub mod Fits

@@ -1,9 +1,5 @@
 -- Sums over lists and over numbers, and what bounds them.
-use Rattle.std.proofs.Common.{◌≡◌, ℕ, ◌+◌, ◌*◌, ◌≤◌, ◌<◌, zero, suc, true, false, Bool, cond, List, [], ◌∷◌, ◌++◌, length, refl, ap, sym, zero-add, add-one, ◌∙◌, inl, inr, arith}
-use Rattle.std.specs.Prelude.{◌==◌, filter, sum_by}
-use Rattle.std.specs.List.{list_all, range_with_len}
-use Rattle.std.proofs.lemmas.List.Sums.{sum_by-cons, sum_by_push}
-use Rattle.std.proofs.lemmas.Bool.{and_parts, cases_eq, ne_eqb, cond-false}
+use Rattle.income_rules.proofs.Words.{◌≡◌, ℕ, ◌+◌, ◌*◌, ◌≤◌, ◌<◌, zero, suc, true, false, Bool, cond, List, [], ◌∷◌, length, refl, ap, sym, ◌∙◌, inl, inr, arith, ◌==◌, filter, sum_by, list_all, range_with_len, sum_by-cons, and_parts, cases_eq, ne_eqb, cond-false, common_steps}
 
 -- ---- bounds
 
@@ -36,16 +32,7 @@ sum_by-add f g [] = refl
 sum_by-add {X} f g (x ∷ xs) =
     omega (arith, sum_by-cons (λ (y : X). f y + g y) x xs, sum_by-cons f x xs, sum_by-cons g x xs, sum_by-add f g xs)
 
--- ---- sums over the numbers from 0
-
-pub range_with_len-more : (a n : ℕ) → range_with_len a (suc n) ≡ range_with_len a n ++ (a + n) ∷ []
-range_with_len-more a zero = ap (λ k. k ∷ []) (omega arith)
-range_with_len-more a (suc n) =
-    ap (λ ks. a ∷ ks) (range_with_len-more (a + 1) n ∙ ap (λ k. range_with_len (a + 1) n ++ k ∷ []) (omega arith))
-
-pub sum_by-range_more : (f : ℕ → ℕ) (n : ℕ) → sum_by f (range_with_len 0 (n + 1)) ≡ sum_by f (range_with_len 0 n) + f n
-sum_by-range_more f n =
-    rw (add-one, range_with_len-more 0 n) (sum_by_push f (range_with_len 0 n) (0 + n) ∙ ap (λ k. sum_by f (range_with_len 0 n) + f k) (zero-add n))
+-- ---- sums over the numbers from one on
 
 -- the numbers from a on meet one number at most once
 none_above : (m v a k : ℕ) → m < a → sum_by (λ n. cond (m == n) v 0) (range_with_len a k) ≡ 0
@@ -54,8 +41,7 @@ none_above m v a (suc k) below =
     omega (arith, sum_by-cons (λ (n : ℕ). cond (m == n) v 0) a (range_with_len (a + 1) k), cond-false (m == a) v 0 (ne_eqb m a (λ e. omega arith)), none_above m v (a + 1) k (omega arith))
 
 pub cond-le : (b : Bool) (v : ℕ) → cond b v 0 ≤ v
-cond-le true v = omega arith
-cond-le false v = omega arith
+cond-le b v = grind (arith, common_steps)
 
 pub only_once : (m v a k : ℕ) → sum_by (λ n. cond (m == n) v 0) (range_with_len a k) ≤ v
 only_once m v a zero = omega arith

@@ -36,11 +36,7 @@ fn out_of_turn(register: &Register, mover: Option<MoveIn>) -> Option<Refusal>
 }
 
 /// Refused where the income of who is admitted is above the limit of the family's size.
-pub fn ineligible(
-    register: &Register,
-    asked: &Command,
-    made: &Option<Record>,
-) -> Option<Refusal>
+pub fn ineligible(register: &Register, asked: &Command, made: &Option<Record>) -> Option<Refusal>
     requires value { made.now ≡ record_of register.now.known asked.now }
     requires size { IfSome made.now (HasSizeBy (basis_of asked.now)) }
     ensures { result ≡ ineligible register.now.known asked.now }
@@ -62,11 +58,7 @@ fn ineligible_by(register: &Register, made: &Option<Record>) -> Option<Refusal>
 }
 
 /// Refused where assistance would begin for a household that bears the whole gross rent.
-pub fn no_assistance(
-    register: &Register,
-    asked: &Command,
-    made: &Option<Record>,
-) -> Option<Refusal>
+pub fn no_assistance(register: &Register, asked: &Command, made: &Option<Record>) -> Option<Refusal>
     requires value { made.now ≡ record_of register.now.known asked.now }
     requires made { IfSome made.now (IsMade register.now.known) }
     ensures { result ≡ no_assistance register.now.known asked.now }

@@ -46,13 +46,9 @@ fn heading_for(
     ensures ready { IfSome result (IsReady (basis_for change.now)) }
 {
     match change {
-        HouseholdChange::Annual(annual) => Some(further_heading(
-            register,
-            household,
-            Kind::AR,
-            annual.from,
-            None,
-        )),
+        HouseholdChange::Annual(annual) => {
+            Some(further_heading(register, household, Kind::AR, annual.from, None))
+        }
         HouseholdChange::Interim(interim) => {
             let dates = Some(interim.dates);
             Some(further_heading(register, household, Kind::IR, interim.from, dates))
@@ -61,30 +57,19 @@ fn heading_for(
             let dates = resumed_dates(resume.done);
             Some(further_heading(register, household, Kind::IC, resume.from, dates))
         }
-        HouseholdChange::Gross(gross) => Some(further_heading(
-            register,
-            household,
-            Kind::GR,
-            gross.from,
-            None,
-        )),
+        HouseholdChange::Gross(gross) => {
+            Some(further_heading(register, household, Kind::GR, gross.from, None))
+        }
         HouseholdChange::Correct(correct) => {
             let target = target_in(register, household, correct.target)?;
             Some(correction_heading(household, target, correct.from))
         }
-        HouseholdChange::Transfer(transfer) => Some(transfer_heading(
-            household,
-            transfer.unit,
-            transfer.from,
-        )),
+        HouseholdChange::Transfer(transfer) => {
+            Some(transfer_heading(household, transfer.unit, transfer.from))
+        }
         HouseholdChange::MoveOut(move_out) => {
-            Some(further_heading(
-                register,
-                household,
-                Kind::MO,
-                day_after(move_out.last),
-                None,
-            ))
+            let from = day_after(move_out.last);
+            Some(further_heading(register, household, Kind::MO, from, None))
         }
         HouseholdChange::Terminate(terminate) => {
             Some(further_heading(register, household, Kind::TM, terminate.from, None))
@@ -145,8 +130,6 @@ fn made_for(register: &Register, heading: &Heading, change: &HouseholdChange) ->
         HouseholdChange::Gross(_) | HouseholdChange::Transfer(_) => {
             made_of_carried(register, heading)
         }
-        HouseholdChange::MoveOut(_)
-        | HouseholdChange::Terminate(_)
-        | HouseholdChange::Withdraw(_) => Some(made_of_nothing(register, heading)),
+        _ => Some(made_of_nothing(register, heading)),
     }
 }

@@ -51,11 +51,7 @@ pub fn name_taken(register: &Register, asked: &Command) -> Option<Refusal>
 }
 
 /// Refused where the unit that is moved into isn't for so many persons.
-pub fn size_misfit(
-    register: &Register,
-    asked: &Command,
-    made: &Option<Record>,
-) -> Option<Refusal>
+pub fn size_misfit(register: &Register, asked: &Command, made: &Option<Record>) -> Option<Refusal>
     requires { made.now ≡ record_of register.now.known asked.now }
     ensures { result ≡ size_misfit register.now.known asked.now }
 {
@@ -73,11 +69,7 @@ fn too_many(register: &Register, mover: Option<MoveIn>, made: &Option<Record>) -
 }
 
 /// Refused where another household would have the unit on a day, once the record is there.
-pub fn unit_taken(
-    register: &Register,
-    asked: &Command,
-    made: &Option<Record>,
-) -> Option<Refusal>
+pub fn unit_taken(register: &Register, asked: &Command, made: &Option<Record>) -> Option<Refusal>
     requires value { made.now ≡ record_of register.now.known asked.now }
     requires made { IfSome made.now (IsMade register.now.known) }
     ensures { result ≡ unit_taken register.now.known asked.now }

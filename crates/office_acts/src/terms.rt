@@ -97,7 +97,7 @@ fn day_range_in(register: &Register, today: Day, change: &HouseholdChange) -> Op
             range(plan_day(register), last, move_out.last)
         }
         HouseholdChange::Terminate(terminate) => from_range(register, terminate.from),
-        HouseholdChange::Withdraw(_) => None,
+        _ => None,
     }
 }
 
@@ -136,11 +136,7 @@ fn range(first: Day, last: Day, day: Day) -> Option<Refusal>
 }
 
 /// Refused where the unit of the record has no rents on its first day, unless it certifies nothing.
-pub fn no_rent(
-    register: &Register,
-    asked: &Command,
-    heading: &Option<Heading>,
-) -> Option<Refusal>
+pub fn no_rent(register: &Register, asked: &Command, heading: &Option<Heading>) -> Option<Refusal>
     requires { heading.now ≡ heading_of register.now.known asked.now }
     ensures { result ≡ no_rent register.now.known asked.now }
 {
@@ -166,19 +162,18 @@ fn certifies_by(change: &HouseholdChange) -> bool
     ensures { result ≡ certifies (basis_for change.now) }
 {
     match change {
-        HouseholdChange::MoveOut(_)
-        | HouseholdChange::Terminate(_)
-        | HouseholdChange::Withdraw(_) => false,
-        _ => true,
+        HouseholdChange::Annual(_)
+        | HouseholdChange::Interim(_)
+        | HouseholdChange::Resume(_)
+        | HouseholdChange::Gross(_)
+        | HouseholdChange::Correct(_)
+        | HouseholdChange::Transfer(_) => true,
+        _ => false,
     }
 }
 
 /// Refused where no income limits stand on the first day of a move-in.
-pub fn no_limits(
-    register: &Register,
-    asked: &Command,
-    heading: &Option<Heading>,
-) -> Option<Refusal>
+pub fn no_limits(register: &Register, asked: &Command, heading: &Option<Heading>) -> Option<Refusal>
     requires { heading.now ≡ heading_of register.now.known asked.now }
     ensures { result ≡ no_limits register.now.known asked.now }
 {
@@ -250,9 +245,7 @@ fn wrong_day_in(
         HouseholdChange::Annual(annual) => {
             refusals::wrong_day(annual_right(history, household), annual.from)
         }
-        HouseholdChange::Interim(interim) => {
-            wrong_interim(register, household, interim, made)
-        }
+        HouseholdChange::Interim(interim) => { wrong_interim(register, household, interim, made) }
         HouseholdChange::Resume(resume) => {
             refusals::wrong_day(Some(resume_right(resume.done)), resume.from)
         }

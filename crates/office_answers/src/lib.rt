@@ -15,4 +15,3 @@ pub use answer::{Admissions, Answer, Asked, DueDay, HouseholdSummary, Voucher};
 pub use answering::answer_to;
 pub use question::Question;
 pub use reply::Reply;
-

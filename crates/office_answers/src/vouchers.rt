@@ -7,8 +7,8 @@ ghost use Rattle.office_answers.specs.Vouchers.{is_closed, closing_lines, own_li
 
 use crate::{Answer, Asked, Voucher};
 use days_core::Month;
-use office_register::Register;
 use office_refusals::no_household;
+use office_register::Register;
 use office_step::Closed;
 use plain_data::{Listed, NoMemory};
 use rent_table::Plan;

@@ -17,4 +17,3 @@ pub use office_answers::{
 };
 pub use office_step::{Application, Call, Capacity, Closed, Done, Fault, Made, Named, Refusal};
 pub use opening::OpenFault;
-

@@ -1,32 +1,8 @@
 -- On no day do two households have one unit.
-use Rattle.std.proofs.Common.{◌≡◌, ◌≢◌, ◌∙◌, sym, ap, refl, subst, ℕ, ◌-◌, ◌<◌, ◌≤◌, ◌⊎◌, inl, inr, arith, Bool, true, false, not, List, [], ◌∷◌, ◌++◌, Option, Some, None, length, AllPairs, if◌then◌else◌, ◌==◌, get_or}
-use Rattle.std.specs.Option.{option_map}
-use Rattle.std.proofs.lemmas.Bool.{cases_eq, cases_lt, ne_eqb}
-use Rattle.std.proofs.lemmas.List.{get_or_past}
-use Rattle.std.proofs.lemmas.List.Elements.{All-filter}
-use Rattle.std.proofs.lemmas.List.Kept.{AllPairs-filter}
-use Rattle.record_history.specs.declared.records.Record.{Record}
-use Rattle.record_history.specs.Records.{is_withdrawal, is_live, live_records}
-use Rattle.record_history.specs.Held.{records_of}
-use Rattle.tenancy_rules.specs.declared.change.Change.{Change}
-use Rattle.tenancy_rules.specs.Changed.{without, changed_records}
-use Rattle.tenancy_rules.specs.Order.{first_out_of_order}
-use Rattle.tenancy_rules.specs.Occupancy.{occupied_unit_on, first_double_use}
+use Rattle.office_laws.proofs.Words.{◌≡◌, ◌≢◌, ◌∙◌, sym, ap, refl, subst, ℕ, ◌-◌, ◌<◌, ◌≤◌, ◌⊎◌, inl, inr, arith, Bool, true, false, not, List, [], ◌∷◌, ◌++◌, Option, Some, None, length, AllPairs, if◌then◌else◌, ◌==◌, get_or, option_map, cases_eq, cases_lt, ne_eqb, get_or_past, All-filter, AllPairs-filter, Record, is_withdrawal, is_live, live_records, records_of, Change, without, changed_records, first_out_of_order, occupied_unit_on, first_double_use, Command, Known, known_of, own_in, change_by, record_of, households_after, unit_taken, reached_empty, reached_more, Accepted, IsOneOf, IsInOrder, NoUnitIsShared, Passed, filter_all, records_cases, option_map_none, rise}
 use Rattle.tenancy_rules.proofs.UseLaws.{no_unit_has_two}
-use Rattle.book_rows.specs.declared.command.Command.{Command}
 use Rattle.office_step.specs.declared.refusal.Refusal.TheVariants as refusal
-use Rattle.office_step.specs.Known.{Known, known_of, own_in}
-use Rattle.office_step.specs.Households.{change_by}
-use Rattle.office_step.specs.Made.{record_of}
-use Rattle.office_step.specs.After.{households_after}
-use Rattle.office_step.specs.Refusals.{unit_taken}
-use Rattle.office_step.specs.Step.{reached_empty, reached_more}
-use Rattle.office_laws.specs.Accepted.{Accepted}
-use Rattle.office_laws.specs.Kept.{IsOneOf}
-use Rattle.office_laws.specs.Tenancy.{IsInOrder, NoUnitIsShared}
-use Rattle.office_laws.proofs.Lists.{filter_all}
 use Rattle.office_laws.proofs.Inversion.{accepted, passes}
-use Rattle.office_step.proofs.Passed.{Passed}
 use Rattle.office_laws.proofs.Known.{known_after_each}
 use Rattle.office_laws.proofs.Own.{made_held, own_after_none, own_after_made, own_after_other}
 use Rattle.office_laws.proofs.Tried.{Placed, taken_by_none, moved_out, kept, tried}
@@ -42,27 +18,17 @@ Apart own =
 -- nobody has a unit by no records
 not_there : (households : List (List Record)) (household day unit : ℕ) → occupied_unit_on (live_records (records_of households household)) day ≡ Some unit →
     IsOneOf (length households) household
-not_there households household day unit has = by_place (cases_eq household 0) (cases_lt (length households) household)
+not_there households household day unit has = elim (records_cases households household) [
+  | inl none ↦ absurd (none_on (sym (ap (λ (own : List Record). occupied_unit_on (live_records own) day) none) ∙ has))
+  | inr there ↦ record { least = there.0; most = there.1 }
+]
   where
-    none_of : records_of households household ≡ [] → IsOneOf (length households) household
-    none_of none =
-        let nowhere : None ≡ Some unit = sym (ap (λ (own : List Record). occupied_unit_on (live_records own) day) none) ∙ has in
-        absurd (cc)
-
-    by_place : (household ≡ 0) ⊎ (household ≡ 0 → ⊥) → (length households < household) ⊎ (household ≤ length households) → IsOneOf (length households) household
-    by_place (inl is_zero) within = none_of (ap (records_of households) is_zero)
-    by_place (inr other) (inl past) =
-        none_of (ap (λ (none : Bool). if none then [] else get_or households (household - 1) []) (ne_eqb household 0 other)
-        ∙ get_or_past households (household - 1) [] (omega (arith, past)))
-    by_place (inr other) (inr within) = record { least = omega (arith, other); most = within }
+    none_on : None ≡ Some unit → ⊥
+    none_on nowhere = absurd (cc)
 
 none_taken : (households : List (List Record)) (household : ℕ) (change : Change) → unit_taken households household change ≡ None →
     first_double_use households household change ≡ None
-none_taken households household change none = by_found (first_double_use households household change) none
-  where
-    by_found : (found : Option (ℕ × ℕ)) → option_map (λ (found : ℕ × ℕ). refusal.UnitTaken found.0 found.1) found ≡ None → found ≡ None
-    by_found None none = refl
-    by_found (Some found) none = absurd (cc)
+none_taken households household change none = option_map_none _ (first_double_use households household change) none
 
 module _ (known : Known) (most today : ℕ) (asked : Command) (r : Record) (free : Passed known most today asked)
     (is : record_of known asked ≡ Some r) (own : IsInOrder (own_in known r.household)) where
@@ -86,7 +52,7 @@ module _ (known : Known) (most today : ℕ) (asked : Command) (r : Record) (free
   rises : AllPairs (λ (held next : Record). held.number < next.number) lived
   rises =
       AllPairs-filter (λ (held next : Record). held.number < next.number) (is_live (own_in known r.household)) (own_in known r.household)
-      (λ i j d before within. omega (arith, own.numbered.number i d (omega (arith, before, within)), own.numbered.number j d within))
+      (rise (own_in known r.household) own.numbered)
 
   -- the household comes to no unit that another has
   own_apart : Apart (own_in known) → (other day unit : ℕ) → r.household ≢ other → day ≤ 80353 →

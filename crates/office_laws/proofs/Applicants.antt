@@ -1,14 +1,5 @@
 -- The reply to an act by which somebody applied, by the acts of the applications.
-use Rattle.std.proofs.Common.{◌≡◌, ◌∙◌, sym, ap, refl, ℕ, ◌<◌, arith, Bool, true, false, List, [], ◌∷◌, Option, Some, None, length, AllPairs, cond, filter, filter_map, nat_le}
-use Rattle.std.specs.List.{cons_option}
-use Rattle.std.specs.Option.{option_map}
-use Rattle.book_rows.specs.declared.applicants.ApplyAct.{ApplyAct}
-use Rattle.book_rows.specs.declared.rows.ActRow.{ActRow}
-use Rattle.office_step.specs.declared.known.Application.{Application}
-use Rattle.office_step.specs.Acts.{Act, act_of, acts_of, apply_in, application_by, applications_of}
-use Rattle.office_laws.specs.Kept.{AreActs}
-use Rattle.office_laws.specs.AtHand.{ApplicantReplies, ApplicationsRise}
-use Rattle.office_laws.proofs.Lists.{option_map_some, AllPairs-filter_map}
+use Rattle.office_laws.proofs.Words.{◌≡◌, ◌∙◌, sym, ap, refl, ℕ, ◌<◌, arith, Bool, true, false, List, [], ◌∷◌, Option, Some, None, length, AllPairs, cond, filter, filter_map, nat_le, cons_option, option_map, ApplyAct, ActRow, Application, Act, act_of, acts_of, apply_in, application_by, applications_of, AreActs, ApplicantReplies, ApplicationsRise, option_map_some, AllPairs-filter_map, common_steps}
 use Rattle.office_laws.proofs.NewReplies.{act_numbered}
 use Rattle.office_laws.proofs.Reached.{books_are_kept}
 
@@ -18,33 +9,10 @@ use Rattle.office_laws.proofs.Reached.{books_are_kept}
 abbrev brought : Act → Option Application
 brought act = option_map (application_by act.n) (apply_in act.command)
 
-module _ (n : ℕ) (act : Act) (acts : List Act) where
-  abbrev kept : List Act
-  kept = filter (λ act. nat_le act.n n) acts
-
-  abbrev kept_of : List Application → List Application
-  kept_of applications = filter (λ application. nat_le application.act n) applications
-
-  kept_or_not : (b : Bool) →
-      filter_map brought (cond b (act ∷ kept) kept) ≡ cond b (cons_option (brought act) (filter_map brought kept)) (filter_map brought kept)
-  kept_or_not true = refl
-  kept_or_not false = refl
-
-  one_kept : (b : Bool) → nat_le act.n n ≡ b → (apply : Option ApplyAct) → applications_of kept ≡ kept_of (applications_of acts) →
-      cond b (cons_option (option_map (application_by act.n) apply) (applications_of kept)) (applications_of kept) ≡
-      kept_of (cons_option (option_map (application_by act.n) apply) (applications_of acts))
-  one_kept true is None rest = rest
-  one_kept false is None rest = rest
-  one_kept b is (Some apply) rest =
-      ap (λ (more : List Application). cond b (application_by act.n apply ∷ more) more) rest
-      ∙ sym (ap (λ (b : Bool). cond b (application_by act.n apply ∷ kept_of (applications_of acts)) (kept_of (applications_of acts))) is)
-
 applications_up_to : (n : ℕ) (acts : List Act) →
     applications_of (filter (λ act. nat_le act.n n) acts) ≡ filter (λ application. nat_le application.act n) (applications_of acts)
 applications_up_to n [] = refl
-applications_up_to n (act ∷ acts) =
-    kept_or_not n act acts (nat_le act.n n)
-    ∙ one_kept n act acts (nat_le act.n n) refl (apply_in act.command) (applications_up_to n acts)
+applications_up_to n (act ∷ acts) = grind (arith, common_steps, applications_up_to n acts)
 
 pub applicant_replies : ApplicantReplies
 applicant_replies capacity book reached n = ap (length {A = Application}) (applications_up_to n (acts_of book.acts))

@@ -1,14 +1,9 @@
 -- The day of the next act, the household of its record, and how much a book holds.
-use Rattle.std.proofs.Common.{◌≡◌, refl, ◌+◌, ◌≤◌, arith, Option, Some, None, length, option_to_list, IfSome}
-use Rattle.record_history.specs.declared.records.Record.{Record}
-use Rattle.office_step.specs.Acts.{name_given}
-use Rattle.office_step.specs.Made.{record_of}
-use Rattle.office_laws.specs.Kept.{IsOneOf}
-use Rattle.office_laws.specs.AtHand.{LastDayIsLived, NextDayIsLived, NextDayStays, NextRecords, ActsAreWithinRoom, LinesAreWithinRoom}
+use Rattle.office_laws.proofs.Words.{◌≡◌, refl, ◌+◌, ◌≤◌, arith, Option, Some, None, length, option_to_list, IfSome, Record, name_given, record_of, IsOneOf, LastDayIsLived, NextDayIsLived, NextDayStays, NextRecords, ActsAreWithinRoom, LinesAreWithinRoom, passed, length-option}
 use Rattle.office_laws.proofs.Rows.{last_within}
-use Rattle.office_step.proofs.Passed.{passed}
 use Rattle.office_laws.proofs.Heading.{made_within}
 use Rattle.office_laws.proofs.Reached.{books_are_kept}
+use Rattle.list_laws.proofs.Options.{IfSome-each}
 
 -- ---- days
 
@@ -23,20 +18,11 @@ next_day_stays capacity book reached clock = omega (arith, last_day_is_lived cap
 
 -- ---- the household of the next record
 
-at_most_one : {X : Type 0} (o : Option X) → length (option_to_list o) ≤ 1
-at_most_one None = omega arith
-at_most_one (Some x) = omega arith
-
 pub next_records : NextRecords
-next_records known most today asked allowed = by_made (record_of known asked) (λ r is. made_within known asked r (passed known most today asked allowed).no_such is)
-  where
-    by_made : (made : Option Record) →
-        ((r : Record) → made ≡ Some r → IsOneOf (length known.households + length (option_to_list (name_given known.applications asked))) r.household) →
-        IfSome made (λ r. (1 ≤ r.household) × (r.household ≤ length known.households + 1))
-    by_made None there = tt
-    by_made (Some r) there =
-        let is : IsOneOf (length known.households + length (option_to_list (name_given known.applications asked))) r.household = there r refl in
-        (is.least, omega (arith, is.most, at_most_one (name_given known.applications asked)))
+next_records known most today asked allowed =
+    IfSome-each (λ r. (1 ≤ r.household) × (r.household ≤ length known.households + 1)) (record_of known asked) (λ r is.
+    (let there = made_within known asked r (passed known most today asked allowed).no_such is in
+    (there.least, omega (arith, there.most, length-option (name_given known.applications asked)))))
 
 -- ---- room
 

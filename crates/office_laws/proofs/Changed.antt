@@ -1,25 +1,10 @@
 -- What is known of applicants, households and requests once there is one act more.
-use Rattle.std.proofs.Common.{◌≡◌, ◌∙◌, sym, ap, ap₂, refl, ℕ, ◌+◌, ◌-◌, arith, Bool, true, false, not, ◌&&◌, ◌||◌, List, [], ◌∷◌, ◌++◌, Option, Some, None, length, map, filter, filter_map, option_to_list, All, IfSome, ◌==◌, if◌then◌else◌, cond, slice_set, slice_index_or}
-use Rattle.std.specs.List.{list_any, range_with_len}
-use Rattle.std.specs.Option.{option_map, option_or}
-use Rattle.std.proofs.lemmas.Bool.{eq-eqb, ne_eqb, false_from_ne_true}
-use Rattle.std.proofs.lemmas.List.{append-nil}
-use Rattle.std.proofs.lemmas.List.Elements.{All-weaker, filter-append, filter_agree}
-use Rattle.std.proofs.lemmas.List.Folds.{list_any-append, list_any_none}
-use Rattle.std.proofs.lemmas.List.FromFn.{get_or-map-range_with_len}
-use Rattle.row_choice.proofs.LatestLemmas.{filter-filter}
-use Rattle.record_history.specs.declared.records.Record.{Record}
-use Rattle.record_history.specs.Held.{records_of, with_record}
-use Rattle.wait_list.specs.declared.applicant.Applicant.{Applicant}
+use Rattle.office_laws.proofs.Words.{◌≡◌, ◌∙◌, sym, ap, ap₂, refl, ℕ, ◌+◌, ◌-◌, arith, Bool, true, false, not, ◌&&◌, ◌||◌, List, [], ◌∷◌, ◌++◌, Option, Some, None, length, map, filter, filter_map, option_to_list, All, IfSome, ◌==◌, if◌then◌else◌, cond, slice_set, slice_index_or, list_any, range_with_len, option_map, option_or, eq-eqb, ne_eqb, false_from_ne_true, append-nil, All-weaker, filter-append, filter_agree, list_any-append, list_any_none, get_or-map-range_with_len, Record, records_of, with_record, Applicant, Command, Act, apply_in, application_by, applications_of, applicant_of, applicants_of, numbered, takes_off_list, ask_in, waiting_of, request_of, request_by, last_request, last_in, own_of, households_of, IsOneOf, NamesOnlyThose, map-agree, filter_none, filter-filter, filter_map_none, filter_map_more, common_steps}
 use Rattle.book_rows.specs.declared.moves.AskTransferAct.{AskTransferAct}
-use Rattle.book_rows.specs.declared.command.Command.{Command}
 use Rattle.book_rows.specs.declared.command.Command.TheVariants as command
 use Rattle.office_step.specs.declared.known.Request.{Request}
-use Rattle.office_step.specs.Acts.{Act, apply_in, application_by, applications_of, applicant_of, applicants_of, numbered, takes_off_list, ask_in, waiting_of, request_of, request_by, last_request, last_in}
-use Rattle.office_step.specs.Households.{own_of, households_of}
-use Rattle.office_laws.specs.Kept.{IsOneOf, NamesOnlyThose}
-use Rattle.office_laws.proofs.Lists.{numbered-append, map-set, map-longer, map-agree, filter_none, filter_map_none, last_in-append}
-use Rattle.office_laws.proofs.Grown.{filter_map-more, applications-more}
+use Rattle.office_laws.proofs.Lists.{numbered-append, map-set, map-longer, last_in-append}
+use Rattle.office_laws.proofs.Grown.{applications-more}
 
 -- ---- applicants
 
@@ -46,9 +31,7 @@ module _ (acts : List Act) (records : List Record) (only : NamesOnlyThose acts r
       ∙ by_tests (is_off acts applicant) (takes_off_list applicant.number asked)
     where
       by_tests : (was takes : Bool) → not (was || (takes || false)) ≡ (not was && not takes)
-      by_tests true takes = refl
-      by_tests false true = refl
-      by_tests false false = refl
+      by_tests was takes = grind (arith, common_steps)
 
   -- nobody took off who comes next
   none_took : list_any (λ act. takes_off_list next act.command) acts ≡ false
@@ -140,7 +123,7 @@ module _ (acts : List Act) (n : ℕ) (asked : Command) where
 
   last_request-more : (household : ℕ) → last_request (acts ++ its ∷ []) household ≡ option_or (request_of household its) (last_request acts household)
   last_request-more household =
-      ap (last_in {A = Request}) (filter_map-more (request_of household) acts its)
+      ap (last_in {A = Request}) (filter_map_more (request_of household) acts its)
       ∙ last_in-append (filter_map (request_of household) acts) (request_of household its)
 
   -- an act that asks for no other unit leaves what was said

@@ -1,37 +1,10 @@
 -- After any acts the lines total what was certified at the last closing.
-use Rattle.std.proofs.Common.{◌≡◌, ◌∙◌, sym, ap, refl, subst, ℕ, ◌+◌, ◌-◌, ◌<◌, ◌≤◌, ◌⊎◌, inl, inr, arith, pos, Bool, true, false, ◌&&◌, List, [], ◌∷◌, ◌++◌, Option, Some, None, length, All, IfSome, if◌then◌else◌, ◌==◌, get_or, nat_le, nat_lt}
-use Rattle.std.specs.Option.{option_map, option_map_or, option_or, option_and_then}
-use Rattle.std.proofs.lemmas.Bool.{eq-eqb, cases_eq, ne_eqb, eqb-true, leb-true, leb-false, and_parts, and_cases}
-use Rattle.std.proofs.lemmas.Option.{same_Some}
-use Rattle.std.proofs.lemmas.List.{append-nil, get_or_past}
-use Rattle.std.proofs.lemmas.List.Elements.{All-nil, All-cons}
-use Rattle.record_history.specs.declared.records.Record.{Record}
-use Rattle.record_history.specs.Records.{as_of}
-use Rattle.record_history.specs.Held.{records_of}
-use Rattle.rent_table.specs.declared.plan.Plan.{Plan}
-use Rattle.voucher_core.specs.declared.line.Line.{Line}
+use Rattle.office_laws.proofs.Words.{◌≡◌, ◌∙◌, sym, ap, refl, subst, ℕ, ◌+◌, ◌-◌, ◌<◌, ◌≤◌, ◌⊎◌, inl, inr, arith, pos, Bool, true, false, ◌&&◌, List, [], ◌∷◌, ◌++◌, Option, Some, None, length, All, IfSome, if◌then◌else◌, ◌==◌, get_or, nat_le, nat_lt, option_map, option_map_or, option_or, option_and_then, eq-eqb, cases_eq, ne_eqb, eqb-true, leb-true, leb-false, and_parts, and_cases, same_Some, append-nil, get_or_past, All-nil, All-cons, Record, as_of, records_of, Plan, Line, closing_lines, placed, paid, none_settled, closing_settles, pays_no_other, settled_stays, Book, Command, CloseAct, Capacity, Closed, plan_in, month_in, Known, known_of, own_in, record_of, last_close, lines_of, known_after, households_after, month_after, next_to_close, is_plan, no_such, wrong_month, Passed, test_passed, IsReached, reached_empty, reached_more, Accepted, IsOneOf, records_past, cond_both, cond_some, common_steps, IfSome_then}
 use Rattle.voucher_core.specs.Certified.{certified_amount}
-use Rattle.voucher_core.specs.Lines.{closing_lines, placed, paid}
 use Rattle.voucher_core.specs.Law.{IsSettled}
-use Rattle.voucher_core.proofs.Settled.{none_settled, closing_settles, pays_no_other, settled_stays}
-use Rattle.book_rows.specs.Book.{Book}
-use Rattle.book_rows.specs.declared.command.Command.{Command}
 use Rattle.book_rows.specs.declared.command.Command.TheVariants as command
-use Rattle.book_rows.specs.declared.closings.CloseAct.{CloseAct}
-use Rattle.office_step.specs.declared.call.Capacity.{Capacity}
-use Rattle.office_step.specs.declared.known.Closed.{Closed}
 use Rattle.office_step.specs.declared.refusal.Refusal.TheVariants as refusal
-use Rattle.office_step.specs.Acts.{plan_in, month_in}
-use Rattle.office_step.specs.Known.{Known, known_of, own_in}
-use Rattle.office_step.specs.Made.{record_of, last_close, lines_of}
-use Rattle.office_step.specs.After.{known_after, households_after}
 use Rattle.office_step.specs.Refusals as test
-use Rattle.office_step.specs.Refusals.{month_after, next_to_close}
-use Rattle.office_step.specs.Against.{is_plan, no_such, wrong_month}
-use Rattle.office_step.proofs.Passed.{Passed}
-use Rattle.office_step.specs.Step.{IsReached, reached_empty, reached_more}
-use Rattle.office_laws.specs.Accepted.{Accepted}
-use Rattle.office_laws.specs.Kept.{IsOneOf}
 use Rattle.office_laws.specs.Conserved.{AreSettled, LinesAreSettled, due_for, LinesTotalWhatIsDue}
 use Rattle.office_laws.proofs.Inversion.{accepted, passes}
 use Rattle.office_laws.proofs.Planned.{plan_there}
@@ -47,13 +20,9 @@ IsThere known = IfSome known.closing (λ closing. IsOneOf known.count closing.ac
 closing_there_more : (known : Known) (asked : Command) (made : Option Record) → IsThere known → IsThere (known_after known asked made)
 closing_there_more known asked made there = by_month (month_in asked)
   where
-    stays : (closing : Option Closed) → IfSome closing (λ closing. IsOneOf known.count closing.act) → IfSome closing (λ closing. IsOneOf (known.count + 1) closing.act)
-    stays None there = tt
-    stays (Some closing) there = record { least = there.least; most = omega (arith, there.most) }
-
     by_month : (month : Option ℕ) →
         IfSome (option_or (option_map (λ month. record { act = known.count + 1; month = month }) month) known.closing) (λ closing. IsOneOf (known.count + 1) closing.act)
-    by_month None = stays known.closing there
+    by_month None = IfSome_then known.closing there (λ closing is. record { least = is.least; most = omega (arith, is.most) })
     by_month (Some month) = record { least = omega arith; most = omega arith }
 
 pub closing_there : (capacity : Capacity) (book : Book) → IsReached capacity book → IsThere (known_of book)
@@ -90,11 +59,10 @@ own_more known asked named (Some r) is household = by_household (cases_eq househ
 pub later_than : (known : Known) (asked : Command) (act : ℕ) → act ≤ known.count → (made : Option Record) → record_of known asked ≡ made →
     (household : ℕ) → All (λ r. act < r.act) (more_of made household)
 later_than known asked act by None is household = All-nil (λ r. act < r.act)
-later_than known asked act by (Some r) is household = by_test (household == r.household)
-  where
-    by_test : (b : Bool) → All (λ r. act < r.act) (if b then r ∷ [] else [])
-    by_test false = All-nil (λ r. act < r.act)
-    by_test true = All-cons (λ r. act < r.act) r [] (let last = record_names_act known asked r is in omega arith) (All-nil (λ r. act < r.act))
+later_than known asked act by (Some r) is household =
+    cond_both (household == r.household) (r ∷ []) [] (All (λ r. act < r.act))
+    (λ _. All-cons (λ r. act < r.act) r [] (let last = record_names_act known asked r is in omega arith) (All-nil (λ r. act < r.act)))
+    (λ _. All-nil (λ r. act < r.act))
 
 module _ (known : Known) (asked : Command) (named : no_such known asked ≡ None) (made : Option Record)
     (is : record_of known asked ≡ made) (lines : List Line) where
@@ -117,18 +85,10 @@ module _ (known : Known) (asked : Command) (named : no_such known asked ≡ None
 
 next_month : (next : Option ℕ) (month : ℕ) → test.wrong_month next month ≡ None → next ≡ Some month
 next_month None month none = absurd (cc)
-next_month (Some next) month none = ap (λ (m : ℕ). Some m) (eqb-true next month (passes (next == month) none))
-  where
-    passes : (b : Bool) → (if b then None else Some (refusal.WrongMonth (Some next))) ≡ None → b ≡ true
-    passes true none = refl
-    passes false none = absurd (cc)
+next_month (Some next) month none = ap (λ (m : ℕ). Some m) (eqb-true next month (test_passed (next == month) _ none))
 
 month_next : (closed month : ℕ) → month_after closed ≡ Some month → closed + 1 ≡ month
-month_next closed month is = by_test (nat_lt closed 2639) is
-  where
-    by_test : (b : Bool) → (if b then Some (closed + 1) else None) ≡ Some month → closed + 1 ≡ month
-    by_test true is = same_Some (closed + 1) month is
-    by_test false is = absurd (cc)
+month_next closed month is = (cond_some (nat_lt closed 2639) (closed + 1) month is).1
 
 close_settles : (own : ℕ → List Record) (count : ℕ) → ((household : ℕ) → count < household → own household ≡ []) →
     (plan : Plan) (closing : Option Closed) (acts : ℕ) → IfSome closing (λ closing. IsOneOf acts closing.act) → (month act : ℕ) (lines : List Line) →
@@ -154,11 +114,6 @@ close_settles own count past plan (Some closing) acts there month act lines righ
 
 -- ---- one act more
 
-none_past : (known : Known) (household : ℕ) → length known.households < household → own_in known household ≡ []
-none_past known household past =
-    ap (λ (is_zero : Bool). if is_zero then [] else get_or known.households (household - 1) []) (ne_eqb household 0 (λ zero. absurd (omega arith)))
-    ∙ get_or_past known.households (household - 1) [] (omega arith)
-
 closed_more : (known : Known) (close : CloseAct) → (plan : Plan) × (known.plan ≡ Some plan) →
     wrong_month known (command.Close close) ≡ None → (lines : List Line) → IsThere known → AreSettled known.plan known.closing (own_in known) lines →
     AreSettled (option_or known.plan None) (Some (record { act = known.count + 1; month = close.month }))
@@ -174,7 +129,7 @@ closed_more known close (plan, has) right lines there settled =
     × IsSettled own plan.first (close.month + 1) (known.count + 1)
     (lines ++ placed 1 (closing_lines (own_in known) (length known.households) close.month plan.first (last_close known) (known.count + 1))))
     (λ i household. sym (own_after_none known (command.Close close) household) i)
-    (close_settles (own_in known) (length known.households) (none_past known) plan known.closing known.count there close.month (known.count + 1) lines
+    (close_settles (own_in known) (length known.households) (records_past known.households) plan known.closing known.count there close.month (known.count + 1) lines
     (subst (λ (found : Option Plan). test.wrong_month (option_and_then (λ (plan : Plan). next_to_close plan.first (option_map (λ (closing : Closed). closing.month) known.closing)) found) close.month ≡ None) has
     right)
     (subst (λ (found : Option Plan). AreSettled found known.closing (own_in known) lines) has settled)))

@@ -1,17 +1,6 @@
 -- The household of an act's record is one that is there, or the next.
-use Rattle.std.proofs.Common.{◌≡◌, ◌∙◌, sym, ap, refl, subst, ℕ, ◌+◌, arith, Option, Some, None, length}
-use Rattle.std.proofs.lemmas.Option.{same_Some}
-use Rattle.record_history.specs.declared.records.Record.{Record}
-use Rattle.book_rows.specs.declared.command.Command.{Command}
+use Rattle.office_laws.proofs.Words.{◌≡◌, ◌∙◌, sym, ap, refl, subst, ℕ, ◌+◌, arith, Option, Some, None, length, same_Some, Record, Command, Heading, Known, names_given, heading_of, record_of, no_household, no_such_in, no_such, or_none, household_there, IsHeaded, made_is_headed, of_household, IsOneOf}
 use Rattle.book_rows.specs.declared.command.Command.TheVariants as command
-use Rattle.office_step.specs.declared.heading.Heading.{Heading}
-use Rattle.office_step.specs.Known.{Known}
-use Rattle.office_step.specs.After.{names_given}
-use Rattle.office_step.specs.Made.{heading_of, record_of}
-use Rattle.office_step.specs.Against.{no_household, no_such_in, no_such}
-use Rattle.office_step.proofs.Passed.{or_none, household_there}
-use Rattle.office_step.proofs.Headed.{IsHeaded, made_is_headed, of_household}
-use Rattle.office_laws.specs.Kept.{IsOneOf}
 
 of_new : (known : Known) (own heading : Heading) → own.household ≡ length known.households + 1 → Some own ≡ Some heading →
     IsOneOf (length known.households + 1) heading.household

@@ -1,14 +1,5 @@
 -- Every row of a book was appended by one act.
-use Rattle.std.proofs.Common.{◌≡◌, ◌∙◌, sym, ap, ℕ, ◌⊎◌, inl, inr, arith, [], ◌∷◌, Option, Some, None, Contains, slice_index_or, option_to_list}
-use Rattle.std.proofs.lemmas.List.Elements.{Contains-append_cases, Contains-push_cases}
-use Rattle.record_history.specs.declared.records.Record.{Record}
-use Rattle.voucher_core.specs.declared.line.Line.{Line}
-use Rattle.book_rows.specs.declared.rows.ActRow.{ActRow}
-use Rattle.book_rows.specs.declared.rows.Batch.{Batch}
-use Rattle.book_rows.specs.Book.{Book, appended}
-use Rattle.office_step.specs.declared.call.Capacity.{Capacity}
-use Rattle.office_step.specs.Step.{IsAppended, IsReached, reached_empty, reached_more}
-use Rattle.office_laws.specs.History.{later_same, later_more, Past, CameByActs, RowsCameByActs}
+use Rattle.office_laws.proofs.Words.{◌≡◌, ◌∙◌, sym, ap, ℕ, ◌⊎◌, inl, inr, arith, [], ◌∷◌, Option, Some, None, Contains, slice_index_or, option_to_list, Contains-append_cases, Contains-push_cases, Record, Line, ActRow, Batch, Book, appended, Capacity, IsAppended, IsReached, reached_empty, reached_more, later_same, later_more, Past, CameByActs, RowsCameByActs}
 
 nothing_in : {X : Type 0} (x : X) → Contains [] x → ⊥
 nothing_in x (k, within, same) = absurd (omega arith)
@@ -35,24 +26,15 @@ module _ (capacity : Capacity) (book : Book) (rows : Batch) (reached : IsReached
   now = record { earlier = book; rows = rows; reached = reached; appends = appends; later = later_same }
 
   act_came : (row : ActRow) → Contains book.acts row ⊎ (rows.act ≡ row) → (past : Past capacity (appended book rows)) × (past.rows.act ≡ row)
-  act_came row (inl before) = by_past (came.acts row before)
-    where
-      by_past : (past : Past capacity book) × (past.rows.act ≡ row) → (past : Past capacity (appended book rows)) × (past.rows.act ≡ row)
-      by_past (past, same) = (still past, same)
+  act_came row (inl before) = let past = came.acts row before in (still past.0, past.1)
   act_came row (inr last) = (now, last)
 
   record_came : (r : Record) → Contains book.records r ⊎ Contains (option_to_list rows.made) r → (past : Past capacity (appended book rows)) × (past.rows.made ≡ Some r)
-  record_came r (inl before) = by_past (came.records r before)
-    where
-      by_past : (past : Past capacity book) × (past.rows.made ≡ Some r) → (past : Past capacity (appended book rows)) × (past.rows.made ≡ Some r)
-      by_past (past, same) = (still past, same)
+  record_came r (inl before) = let past = came.records r before in (still past.0, past.1)
   record_came r (inr last) = (now, one_in rows.made r last)
 
   line_came : (line : Line) → Contains book.lines line ⊎ Contains rows.lines line → (past : Past capacity (appended book rows)) × Contains past.rows.lines line
-  line_came line (inl before) = by_past (came.lines line before)
-    where
-      by_past : (past : Past capacity book) × Contains past.rows.lines line → (past : Past capacity (appended book rows)) × Contains past.rows.lines line
-      by_past (past, there) = (still past, there)
+  line_came line (inl before) = let past = came.lines line before in (still past.0, past.1)
   line_came line (inr last) = (now, last)
 
   came_more : CameByActs capacity (appended book rows)

@@ -1,35 +1,11 @@
 -- The records of every household are in order.
-use Rattle.std.proofs.Common.{◌≡◌, ◌∙◌, sym, ap, refl, subst, ℕ, ◌+◌, ◌-◌, ◌<◌, ◌≤◌, ◌⊎◌, inl, inr, max, arith, Bool, true, false, not, List, [], ◌∷◌, ◌++◌, Option, Some, None, length, map, All, if◌then◌else◌, ◌==◌, get_or, slice_index_or}
-use Rattle.std.specs.Option.{option_map}
-use Rattle.std.proofs.lemmas.Bool.{cases_eq, cases_lt, eqb-true, ne_eqb}
-use Rattle.std.proofs.lemmas.Bool.Decides.{nat_tests}
-use Rattle.row_choice.specs.Latest.{comes_before as pair_comes_before}
-use Rattle.std.proofs.lemmas.List.{get_or_append_left, get_or_push, length_push, get_or_past}
-use Rattle.std.proofs.lemmas.List.Sums.{fold-append}
-use Rattle.std.proofs.lemmas.List.Elements.{All-push, All-append, All-nil, All-map, All-set}
-use Rattle.record_history.specs.declared.records.Record.{Record}
-use Rattle.record_history.specs.Records.{is_withdrawal, live_records, latest, newest_number}
-use Rattle.record_history.specs.Held.{AreNumbered, records_of}
-use Rattle.tenancy_rules.specs.declared.change.Change.{Change}
-use Rattle.tenancy_rules.specs.Changed.{changed_records}
-use Rattle.tenancy_rules.specs.Order.{may_begin, is_in_order, earliest, is_out_of_order, first_out_of_order}
+use Rattle.office_laws.proofs.Words.{◌≡◌, ◌∙◌, sym, ap, refl, subst, ℕ, ◌+◌, ◌-◌, ◌<◌, ◌≤◌, ◌⊎◌, inl, inr, max, arith, Bool, true, false, not, List, [], ◌∷◌, ◌++◌, Option, Some, None, length, map, All, if◌then◌else◌, ◌==◌, get_or, slice_index_or, option_map, cases_eq, cases_lt, eqb-true, ne_eqb, nat_tests, pair_comes_before, get_or_append_left, get_or_push, length_push, get_or_past, fold-append, All-push, All-append, All-nil, All-map, All-set, Record, is_withdrawal, live_records, latest, newest_number, AreNumbered, records_of, Change, changed_records, may_begin, is_in_order, earliest, is_out_of_order, first_out_of_order, Command, Known, known_of, own_in, change_by, record_of, households_after, names_given, disorder, reached_empty, reached_more, Accepted, IsInOrder, HouseholdsAreInOrder, Passed, IsHeaded, made_is_headed, numbered_push, records_are, none_above, option_map_none, find_holds}
 use Rattle.tenancy_rules.proofs.LiveLaws.{change_is_what_lives}
-use Rattle.book_rows.specs.declared.command.Command.{Command}
 use Rattle.office_step.specs.declared.refusal.Refusal.TheVariants as refusal
-use Rattle.office_step.specs.Known.{Known, known_of, own_in}
-use Rattle.office_step.specs.Households.{change_by}
-use Rattle.office_step.specs.Made.{record_of}
-use Rattle.office_step.specs.After.{households_after, names_given}
-use Rattle.office_step.specs.Refusals.{disorder}
-use Rattle.office_step.specs.Step.{reached_empty, reached_more}
-use Rattle.office_laws.specs.Accepted.{Accepted}
-use Rattle.office_laws.specs.Tenancy.{IsInOrder, HouseholdsAreInOrder}
 use Rattle.office_laws.proofs.Inversion.{accepted, passes}
-use Rattle.office_step.proofs.Passed.{Passed}
-use Rattle.office_step.proofs.Headed.{IsHeaded, made_is_headed}
 use Rattle.office_laws.proofs.Known.{known_after_each}
 use Rattle.office_laws.proofs.Own.{own-longer}
-use Rattle.office_laws.proofs.Tried.{Ordered, begins, judged, Names, names_none, names_one, Tried, tried, find_holds}
+use Rattle.office_laws.proofs.Tried.{Ordered, begins, judged, Names, names_none, names_one, Tried, tried}
 
 in_order_none : IsInOrder []
 in_order_none = record {
@@ -37,32 +13,6 @@ in_order_none = record {
   corrects = All-nil (λ r. r.corrects < r.number);
   live = refl;
 }
-
-pub numbered_push : (own : List Record) (r : Record) → AreNumbered own → r.number ≡ newest_number own + 1 → AreNumbered (own ++ r ∷ [])
-numbered_push own r are next = record {
-  number = λ place d within. by_place place d within (cases_lt place (length own));
-  newest = newest;
-}
-  where
-    long : r.number ≡ length own + 1
-    long = next ∙ ap (λ (n : ℕ). n + 1) are.newest
-
-    by_place : (place : ℕ) (d : Record) → place < length (own ++ r ∷ []) → (place < length own) ⊎ (length own ≤ place) →
-        (slice_index_or (own ++ r ∷ []) place d).number ≡ place + 1
-    by_place place d within (inl before) = ap (λ (r : Record). r.number) (get_or_append_left own (r ∷ []) d place before) ∙ are.number place d before
-    by_place place d within (inr past) =
-        let last : length own ≡ place = omega (arith, within, length_push own r) in
-        ap (λ (r : Record). r.number) (get_or_push own r d place last) ∙ long ∙ ap (λ (n : ℕ). n + 1) last
-
-    newest : newest_number (own ++ r ∷ []) ≡ length (own ++ r ∷ [])
-    newest =
-        let number = long in
-        let had = are.newest in
-        let most : max (newest_number own) r.number ≡ length (own ++ r ∷ []) = omega (arith, length_push own r) in
-        fold-append (λ (most : ℕ) (r : Record). max most r.number) 0 own (r ∷ []) ∙ most
-
-pub below_next : (own : List Record) → AreNumbered own → All (λ r. r.number < newest_number own + 1) own
-below_next own are = λ k d within. (let number = are.number k d within in let had = are.newest in omega arith)
 
 -- a record that may begin is in order alone
 alone_in_order : (r : Record) → may_begin r.kind ≡ true → first_out_of_order (r ∷ []) ≡ None
@@ -77,11 +27,9 @@ alone_in_order r may =
 
 -- no fault is found where no disorder stands
 no_fault : (own : List Record) (change : Change) → disorder own change ≡ None → first_out_of_order (changed_records own change) ≡ None
-no_fault own change none = by_fault (first_out_of_order (changed_records own change)) none
-  where
-    by_fault : (found : Option Record) → option_map (λ target. refusal.Disorder target) (option_map (λ (r : Record). r.number) found) ≡ None → found ≡ None
-    by_fault None none = refl
-    by_fault (Some r) none = absurd (cc)
+no_fault own change none =
+    option_map_none (λ (r : Record). r.number) (first_out_of_order (changed_records own change))
+    (option_map_none refusal.Disorder (option_map (λ (r : Record). r.number) (first_out_of_order (changed_records own change))) none)
 
 -- ---- one record more of a household
 
@@ -103,7 +51,7 @@ module _ (known : Known) (most today : ℕ) (asked : Command) (r : Record) (free
       by_names (names_none zero) = (let next = number_next in omega arith)
       by_names (names_one target found) =
           let both = find_holds (λ (held : Record). held.number == r.corrects) (λ (held : Record). held.number < newest_number (own_in known r.household) + 1)
-          (own_in known r.household) target found (below_next (own_in known r.household) own.numbered) in
+          (own_in known r.household) target found (none_above (own_in known r.household) own.numbered) in
           let below : target.number < newest_number (own_in known r.household) + 1 = both.0 in
           let same : target.number ≡ r.corrects = eqb-true target.number r.corrects both.1 in
           let next = number_next in
@@ -111,7 +59,7 @@ module _ (known : Known) (most today : ℕ) (asked : Command) (r : Record) (free
 
   pub all_smaller : All (λ (held : Record). held.corrects < r.number) (own_in known r.household)
   all_smaller = λ k d within.
-      (let below = below_next (own_in known r.household) own.numbered k d within in
+      (let below = none_above (own_in known r.household) own.numbered k d within in
       let corrects = own.corrects k d within in
       let next = number_next in
       omega arith)
@@ -141,17 +89,7 @@ module _ (known : Known) (most today : ℕ) (asked : Command) (r : Record) (free
 -- ---- every household
 
 pub own_in_order : (households : List (List Record)) → All IsInOrder households → (household : ℕ) → IsInOrder (records_of households household)
-own_in_order households all household = by_zero (cases_eq household 0)
-  where
-    by_place : (household - 1 < length households) ⊎ (length households ≤ household - 1) → IsInOrder (get_or households (household - 1) [])
-    by_place (inl within) = all (household - 1) [] within
-    by_place (inr past) = subst IsInOrder (sym (get_or_past households (household - 1) [] past)) in_order_none
-
-    by_zero : (household ≡ 0) ⊎ (household ≡ 0 → ⊥) → IsInOrder (records_of households household)
-    by_zero (inl is_zero) = subst (λ (household : ℕ). IsInOrder (records_of households household)) (sym is_zero) in_order_none
-    by_zero (inr other) =
-        subst (λ (none : Bool). IsInOrder (if none then [] else get_or households (household - 1) [])) (sym (ne_eqb household 0 other))
-        (by_place (cases_lt (household - 1) (length households)))
+own_in_order households all household = records_are IsInOrder households household all in_order_none
 
 all_longer : (known : Known) (asked : Command) → All IsInOrder known.households → All IsInOrder (known.households ++ map (λ name. []) (names_given known asked))
 all_longer known asked all =

@@ -144,7 +144,7 @@ day_range_in known today (change.Correct correct) = from_range known correct.fro
 day_range_in known today (change.Transfer transfer) = from_range known transfer.from
 day_range_in known today (change.MoveOut move_out) = range (against.plan_day known) 80352 move_out.last
 day_range_in known today (change.Terminate terminate) = from_range known terminate.from
-day_range_in known today (change.Withdraw withdraw) = tt
+day_range_in known today _ = tt
 
 day_range : (known : Known) (today : ℕ) (asked : Command) → IsUnder 9 (against.day_range known today asked)
 day_range known today (command.Rents rents) = range 43829 80353 rents.from
@@ -187,6 +187,7 @@ wrong_interim known household interim made = by_plan known.plan
   where
     right : Plan → Option ℕ
     right plan = Some (interim_right (others_of (own_in known household) 0) interim.dates made.ttp plan.report_days)
+
     by_plan : (plan : Option Plan) → IsUnder 13 (option_and_then (λ plan. test.wrong_day (right plan) interim.from) plan)
     by_plan None = tt
     by_plan (Some plan) = right_day (right plan) interim.from
@@ -196,6 +197,7 @@ wrong_correction known household correct made = by_plan known.plan (record_at (o
   where
     right : Plan → Record → Option ℕ
     right plan target = corrected_right (own_in known household) target made.ttp plan.report_days correct.from
+
     by_plan : (plan : Option Plan) (target : Option Record) →
         IsUnder 13 (option_and_then (λ plan. option_and_then (λ target. test.wrong_day (right plan target) correct.from) target) plan)
     by_plan None target = tt
@@ -233,6 +235,7 @@ of_move_in number known mover refused is = by_plan known.plan mover
     by_unit : (plan : Plan) (mover : MoveIn) (row : Option UnitRow) → IsUnder number (option_and_then (λ row. refused plan row mover) row)
     by_unit plan mover None = tt
     by_unit plan mover (Some row) = is plan row mover
+
     by_plan : (plan : Option Plan) (mover : Option MoveIn) → IsUnder number (option_and_then (λ plan. option_and_then (λ mover.
         option_and_then (λ row. refused plan row mover) (unit_at known.units mover.unit)) mover) plan)
     by_plan None mover = tt

@@ -1,23 +1,6 @@
 -- What it comes to that rows are appended.
-use Rattle.std.proofs.Common.{◌≡◌, ◌∙◌, sym, ap, ap₂, refl, subst, ℕ, arith, true, ◌&&◌, nat_le, List, [], ◌∷◌, Option, Some, None, length, slice_index_or}
-use Rattle.voucher_core.specs.declared.line.Line.{Line}
-use Rattle.book_rows.specs.declared.rows.ActRow.{ActRow}
-use Rattle.book_rows.specs.declared.rows.Batch.{Batch}
-use Rattle.book_rows.specs.Book.{Book}
-use Rattle.book_rows.specs.Fit.{is_within, is_fit}
-use Rattle.command_forms.specs.Commands.{body_of, command_in}
+use Rattle.office_laws.proofs.Words.{◌≡◌, ◌∙◌, sym, ap, ap₂, refl, subst, ℕ, arith, true, ◌&&◌, nat_le, List, [], ◌∷◌, Option, Some, None, length, slice_index_or, Line, ActRow, Batch, Book, is_within, is_fit, body_of, command_in, Call, Capacity, and_parts, Refusal, known_of, lines_of, first_of, repeated, request_reused, lines_full, tests_of, refused_by, none_at, first_of-around, Passed, passed, last_act_day, day_after, act_day, refusal_of, rows_for, step, appends, unless_refused, unless_repeated, is_fit_call, IsAppended, Accepted, AppendedIsAccepted, NewIsAppended}
 use Rattle.command_forms.proofs.CommandAgain.{body_again}
-use Rattle.office_step.specs.declared.call.Call.{Call}
-use Rattle.office_step.specs.declared.call.Capacity.{Capacity}
-use Rattle.std.proofs.lemmas.Bool.{and_parts}
-use Rattle.office_step.specs.declared.refusal.Refusal.{Refusal}
-use Rattle.office_step.specs.Known.{known_of}
-use Rattle.office_step.specs.Made.{lines_of}
-use Rattle.office_step.specs.Refusals.{first_of, repeated, request_reused, lines_full}
-use Rattle.office_step.specs.Against.{tests_of, refused_by}
-use Rattle.office_step.proofs.Passed.{none_at, first_of-around, Passed, passed}
-use Rattle.office_step.specs.Step.{last_act_day, day_after, act_day, refusal_of, rows_for, step, appends, unless_refused, unless_repeated, is_fit_call, IsAppended}
-use Rattle.office_laws.specs.Accepted.{Accepted, AppendedIsAccepted, NewIsAppended}
 
 -- what is appended is neither a repeat nor refused
 not_refused : (book : Book) (found : Option ActRow) (refused : Option Refusal) (own rows : Batch) →
@@ -28,38 +11,32 @@ not_refused book (Some row) refused own rows same = absurd (cc)
 
 pub accepted : AppendedIsAccepted
 accepted capacity book rows is =
-    by_parts (not_refused book _ _ (rows_for book rows.act.session (act_day book.acts rows.act.day) is.call) rows is.same)
-  where
-    by_parts : (repeated book.acts is.call.clerk is.call.request (body_of is.call.command) ≡ None)
-        × (refusal_of book capacity (act_day book.acts rows.act.day) is.call ≡ None)
-        × (rows_for book rows.act.session (act_day book.acts rows.act.day) is.call ≡ rows) →
-        Accepted capacity book is.call rows
-    by_parts (found, free, same) =
-        let all : List (Option Refusal) =
-        request_reused book.acts is.call.clerk is.call.request (body_of is.call.command)
-        ∷ refused_by (known_of book) capacity.acts (act_day book.acts rows.act.day) is.call.command
-        ∷ lines_full (length book.lines) (length (lines_of (known_of book) is.call.command)) capacity.lines ∷ [] in
-        let none : first_of all ≡ None =
-        sym (first_of-around (request_reused book.acts is.call.clerk is.call.request (body_of is.call.command))
-        (tests_of (known_of book) capacity.acts (act_day book.acts rows.act.day) is.call.command)
-        (lines_full (length book.lines) (length (lines_of (known_of book) is.call.command)) capacity.lines)) ∙ free in
-        let allowed : refused_by (known_of book) capacity.acts (act_day book.acts rows.act.day) is.call.command ≡ None = none_at all 1 none in
-        let room : lines_full (length book.lines) (length (lines_of (known_of book) is.call.command)) capacity.lines ≡ None = none_at all 2 none in
-        let today : act_day book.acts rows.act.day ≡ rows.act.day = ap (λ (r : Batch). r.act.day) same in
-        let lines : lines_of (known_of book) is.call.command ≡ rows.lines = ap (λ (r : Batch). r.lines) same in
-        record {
-          is_new = found;
-          is_unused = none_at all 0 none;
-          is_allowed = subst (λ (day : ℕ). refused_by (known_of book) capacity.acts day is.call.command ≡ None) today allowed;
-          has_room = subst (λ (made : List Line). lines_full (length book.lines) (length made) capacity.lines ≡ None) lines room;
-          n = sym (ap (λ (r : Batch). r.act.n) same);
-          clerk = sym (ap (λ (r : Batch). r.act.clerk) same);
-          request = sym (ap (λ (r : Batch). r.act.request) same);
-          day = sym today;
-          body = sym (ap (λ (r : Batch). r.act.body) same);
-          made = sym (ap (λ (r : Batch). r.made) same);
-          lines = sym lines;
-        }
+    let parts = not_refused book _ _ (rows_for book rows.act.session (act_day book.acts rows.act.day) is.call) rows is.same in
+    let all : List (Option Refusal) =
+    request_reused book.acts is.call.clerk is.call.request (body_of is.call.command)
+    ∷ refused_by (known_of book) capacity.acts (act_day book.acts rows.act.day) is.call.command
+    ∷ lines_full (length book.lines) (length (lines_of (known_of book) is.call.command)) capacity.lines ∷ [] in
+    let none : first_of all ≡ None =
+    sym (first_of-around (request_reused book.acts is.call.clerk is.call.request (body_of is.call.command))
+    (tests_of (known_of book) capacity.acts (act_day book.acts rows.act.day) is.call.command)
+    (lines_full (length book.lines) (length (lines_of (known_of book) is.call.command)) capacity.lines)) ∙ parts.1 in
+    let allowed : refused_by (known_of book) capacity.acts (act_day book.acts rows.act.day) is.call.command ≡ None = none_at all 1 none in
+    let room : lines_full (length book.lines) (length (lines_of (known_of book) is.call.command)) capacity.lines ≡ None = none_at all 2 none in
+    let today : act_day book.acts rows.act.day ≡ rows.act.day = ap (λ (r : Batch). r.act.day) parts.2 in
+    let lines : lines_of (known_of book) is.call.command ≡ rows.lines = ap (λ (r : Batch). r.lines) parts.2 in
+    record {
+      is_new = parts.0;
+      is_unused = none_at all 0 none;
+      is_allowed = subst (λ (day : ℕ). refused_by (known_of book) capacity.acts day is.call.command ≡ None) today allowed;
+      has_room = subst (λ (made : List Line). lines_full (length book.lines) (length made) capacity.lines ≡ None) lines room;
+      n = sym (ap (λ (r : Batch). r.act.n) parts.2);
+      clerk = sym (ap (λ (r : Batch). r.act.clerk) parts.2);
+      request = sym (ap (λ (r : Batch). r.act.request) parts.2);
+      day = sym today;
+      body = sym (ap (λ (r : Batch). r.act.body) parts.2);
+      made = sym (ap (λ (r : Batch). r.made) parts.2);
+      lines = sym lines;
+    }
 
 -- nothing stood against the call
 pub passes : (capacity : Capacity) (book : Book) (rows : Batch) → (is : IsAppended capacity book rows) →
@@ -80,25 +57,19 @@ fit_command call fit =
 pub appended_again : (capacity : Capacity) (book : Book) (session clock : ℕ) (call : Call) (rows : Batch) → is_fit_call call ≡ true →
     command_in (body_of call.command) ≡ Some call.command → step book capacity session clock call ≡ appends rows → IsAppended capacity book rows
 appended_again capacity book session clock call rows fit reads same =
-    by_parts (not_refused book _ _ (rows_for book session (act_day book.acts clock) call) rows same)
-  where
-    by_parts : (repeated book.acts call.clerk call.request (body_of call.command) ≡ None)
-        × (refusal_of book capacity (act_day book.acts clock) call ≡ None)
-        × (rows_for book session (act_day book.acts clock) call ≡ rows) →
-        IsAppended capacity book rows
-    by_parts (found, free, own) =
-        let day : act_day book.acts rows.act.day ≡ act_day book.acts clock =
-        ap (act_day book.acts) (sym (ap (λ (r : Batch). r.act.day) own)) ∙ same_day (last_act_day book.acts) clock in
-        record {
-          call = call;
-          fit = fit;
-          read = ap command_in (sym (ap (λ (r : Batch). r.act.body) own)) ∙ reads;
-          same =
-              ap₂ (λ (of_session today : ℕ). unless_repeated book (repeated book.acts call.clerk call.request (body_of call.command))
-              (unless_refused (refusal_of book capacity today call) (rows_for book of_session today call)))
-              (sym (ap (λ (r : Batch). r.act.session) own)) day
-              ∙ same;
-        }
+    let parts = not_refused book _ _ (rows_for book session (act_day book.acts clock) call) rows same in
+    let day : act_day book.acts rows.act.day ≡ act_day book.acts clock =
+    ap (act_day book.acts) (sym (ap (λ (r : Batch). r.act.day) parts.2)) ∙ same_day (last_act_day book.acts) clock in
+    record {
+      call = call;
+      fit = fit;
+      read = ap command_in (sym (ap (λ (r : Batch). r.act.body) parts.2)) ∙ reads;
+      same =
+          ap₂ (λ (of_session today : ℕ). unless_repeated book (repeated book.acts call.clerk call.request (body_of call.command))
+          (unless_refused (refusal_of book capacity today call) (rows_for book of_session today call)))
+          (sym (ap (λ (r : Batch). r.act.session) parts.2)) day
+          ∙ same;
+    }
 
 pub new_is_appended : NewIsAppended
 new_is_appended capacity book session clock call rows fit holdable same =

@@ -1,28 +1,9 @@
 -- What is known once there is one act more.
-use Rattle.std.proofs.Common.{◌≡◌, ◌∙◌, sym, ap, ap₂, refl, subst, ℕ, ◌+◌, arith, true, List, [], ◌∷◌, ◌++◌, Option, Some, None, length, map, option_to_list, cond, is_some, find, filter_map, IfSome}
-use Rattle.std.specs.List.{range_with_len, cons_option}
-use Rattle.std.specs.Option.{option_map, option_or}
-use Rattle.std.proofs.lemmas.List.{append-nil, length_push}
-use Rattle.std.proofs.lemmas.Option.{same_Some}
-use Rattle.record_history.specs.declared.records.Record.{Record}
-use Rattle.record_history.specs.Held.{with_record}
-use Rattle.rent_table.specs.declared.plan.Plan.{Plan}
-use Rattle.book_rows.specs.declared.command.Command.{Command}
+use Rattle.office_laws.proofs.Words.{◌≡◌, ◌∙◌, sym, ap, ap₂, refl, subst, ℕ, ◌+◌, arith, true, List, [], ◌∷◌, ◌++◌, Option, Some, None, length, map, option_to_list, cond, is_some, find, filter_map, IfSome, range_with_len, cons_option, option_map, option_or, append-nil, length_push, same_Some, Record, with_record, Plan, Command, Act, acts_of, plan_in, plan_of, plan_act, ask_in, first_in, applications_of, name_given, household_count, waiting_of, ranks_of, requests_of, last_request, households_of, Known, known_by, known_of, record_of, known_after, waiting_after, requests_after, households_after, plan_given, is_plan, refused_by, Accepted, IsOneOf, NamesOnlyThose, passed, option_or-none, common_steps}
 use Rattle.book_rows.specs.declared.command.Command.TheVariants as command
-use Rattle.office_step.specs.Acts.{Act, acts_of, plan_in, plan_of, plan_act, ask_in, first_in, applications_of, name_given, household_count, waiting_of, ranks_of, requests_of, last_request}
-use Rattle.office_step.specs.Households.{households_of}
-use Rattle.office_step.specs.Known.{Known, known_by, known_of}
-use Rattle.office_step.specs.Made.{record_of}
-use Rattle.office_step.specs.After.{known_after, waiting_after, requests_after, households_after}
-use Rattle.office_step.specs.Refusals.{plan_given}
-use Rattle.office_step.specs.Against.{is_plan, refused_by}
-use Rattle.office_laws.specs.Accepted.{Accepted}
 use Rattle.office_laws.specs.After.{KnownAfter}
-use Rattle.office_laws.specs.Kept.{IsOneOf, NamesOnlyThose}
-use Rattle.office_laws.proofs.Lists.{option_or-none}
 use Rattle.office_laws.proofs.Inversion.{accepted}
 use Rattle.office_laws.proofs.Grown.{plan-more, plan_act-more, units-more, rents-more, limits-more, applications-more, closing-more}
-use Rattle.office_step.proofs.Passed.{passed}
 use Rattle.office_laws.proofs.Naming.{asked_there, held_there}
 use Rattle.office_laws.proofs.Names.{names-more, count-more}
 use Rattle.office_laws.proofs.Changed.{waiting-more, households-longer, households-held, requests-longer, requests-said}
@@ -31,17 +12,7 @@ use Rattle.office_laws.proofs.Reached.{acts_appended, books_are_kept}
 -- no act gave a plan where none is named as the one that did
 unplanned : (acts : List Act) → plan_act acts ≡ None → plan_of acts ≡ None
 unplanned [] none = refl
-unplanned (act ∷ acts) none = by_plan (unplanned acts) (plan_in act.command) refl
-  where
-    by_plan : (plan_act acts ≡ None → plan_of acts ≡ None) → (plan : Option Plan) → plan_in act.command ≡ plan → plan_of (act ∷ acts) ≡ None
-    by_plan rest_is (Some plan) is =
-        let some : Some act.n ≡ None =
-        subst (λ (p : Option Plan). option_map (λ (a : Act). a.n) (cond (is_some p) (Some act) (find (λ a. is_some (plan_in a.command)) acts)) ≡ None) is none in
-        absurd (cc)
-    by_plan rest_is None is =
-        let rest : plan_act acts ≡ None =
-        subst (λ (p : Option Plan). option_map (λ (a : Act). a.n) (cond (is_some p) (Some act) (find (λ a. is_some (plan_in a.command)) acts)) ≡ None) is none in
-        ap (λ (p : Option Plan). first_in (cons_option p (filter_map (λ (a : Act). plan_in a.command) acts))) is ∙ rest_is rest
+unplanned (act ∷ acts) none = grind (arith, common_steps, none, unplanned acts)
 
 is_the_plan : (plan : Plan) (asked : Command) → plan_in asked ≡ Some plan → command.Plan plan ≡ asked
 is_the_plan plan (command.Plan other) is = ap (λ (plan : Plan). command.Plan plan) (sym (same_Some other plan is))
@@ -69,8 +40,7 @@ module _ (count : ℕ) (acts : List Act) (records : List Record) (only : NamesOn
           (subst (λ (asked : Command). plan_given (plan_act acts) (is_plan asked) ≡ None) (sym is) (passed known most today asked allowed).plan_given)))
         where
           none_given : (given : Option ℕ) → plan_given given true ≡ None → given ≡ None
-          none_given None free = refl
-          none_given (Some n) free = absurd (cc)
+          none_given given free = grind (arith, common_steps, free)
 
       -- a plan is the first act, and no other act sets the ranks
       by_plan : (plan : Option Plan) → plan_in asked ≡ plan → Waits acts asked

@@ -1,19 +1,7 @@
 -- The records and lines of an act name it.
-use Rattle.std.proofs.Common.{◌≡◌, ap, refl, ℕ, zero, suc, ◌+◌, ◌-◌, ◌<◌, arith, Bool, List, [], ◌∷◌, Option, Some, None, length, All, slice_index_or, ◌==◌, if◌then◌else◌, true, false}
-use Rattle.std.specs.List.{range_with_len, flat_map}
-use Rattle.std.specs.Option.{option_map_or}
-use Rattle.std.proofs.lemmas.List.Elements.{All-nil, All-append}
-use Rattle.record_history.specs.declared.records.Record.{Record}
-use Rattle.record_history.specs.Records.{as_of}
-use Rattle.rent_table.specs.declared.plan.Plan.{Plan}
-use Rattle.voucher_core.specs.declared.line.Line.{Line}
-use Rattle.voucher_core.specs.Lines.{month_lines, known_before, lines_for, adjustment_lines, closing_lines, placed}
+use Rattle.office_laws.proofs.Words.{◌≡◌, ap, refl, ℕ, zero, suc, ◌+◌, ◌-◌, ◌<◌, arith, Bool, List, [], ◌∷◌, Option, Some, None, length, All, slice_index_or, ◌==◌, if◌then◌else◌, true, false, range_with_len, flat_map, option_map_or, All-nil, All-append, Record, as_of, Plan, Line, month_lines, known_before, lines_for, adjustment_lines, closing_lines, placed, Command, Known, own_in, record_of, last_close, lines_of, made_is_headed, all_earlier}
 use Rattle.voucher_core.proofs.Paid.{each_line, all_pieces, all_placed}
-use Rattle.book_rows.specs.declared.command.Command.{Command}
 use Rattle.book_rows.specs.declared.command.Command.TheVariants as command
-use Rattle.office_step.specs.Known.{Known, own_in}
-use Rattle.office_step.specs.Made.{record_of, last_close, lines_of}
-use Rattle.office_step.proofs.Headed.{made_is_headed}
 
 pub record_names_act : (known : Known) (asked : Command) (r : Record) → record_of known asked ≡ Some r → r.act ≡ known.count + 1
 record_names_act known asked r is = ap (λ (r : Record). r.act) (made_is_headed known asked r is).under.is
@@ -30,11 +18,7 @@ module _ (own : ℕ → List Record) (count act : ℕ) where
       (λ h low high. each_line Names act closed h month (known_before before (own h)) (as_of act (own h)) (λ run. refl))
 
   adjustments_name : (closed first last : ℕ) → All Names (adjustment_lines own count act closed first last)
-  adjustments_name closed first last = by_test (last == 0)
-    where
-      by_test : (none : Bool) → All Names (if none then [] else flat_map (lines_for own count act closed (Some last)) (range_with_len first (closed - first)))
-      by_test true = All-nil Names
-      by_test false = all_pieces Names (lines_for own count act closed (Some last)) first (closed - first) (λ month low high. month_names closed (Some last) month)
+  adjustments_name closed first last = all_earlier own count act closed first last Names (λ month low high. month_names closed (Some last) month)
 
   closing_names : (closed first last : ℕ) → All Names (placed 1 (closing_lines own count closed first last act))
   closing_names closed first last =

@@ -1,17 +1,7 @@
 -- Acts and records name applicants and households that are there, and one more act leaves the names of households.
-use Rattle.std.proofs.Common.{◌≡◌, ◌∙◌, sym, ap, ap₂, refl, ℕ, ◌+◌, ◌-◌, ◌<◌, arith, Bool, true, false, List, [], ◌∷◌, ◌++◌, Option, Some, None, length, filter_map, option_to_list, slice_get, ◌==◌, if◌then◌else◌, unwrap_or}
-use Rattle.std.specs.Option.{option_map}
-use Rattle.std.proofs.lemmas.Bool.{eq-eqb, ne_eqb}
-use Rattle.std.proofs.lemmas.List.{append-nil, length-append}
-use Rattle.std.proofs.lemmas.List.Elements.{All-weaker}
-use Rattle.record_history.specs.declared.records.Record.{Record}
-use Rattle.book_rows.specs.declared.command.Command.{Command}
+use Rattle.office_laws.proofs.Words.{◌≡◌, ◌∙◌, sym, ap, ap₂, refl, ℕ, ◌+◌, ◌-◌, ◌<◌, arith, Bool, true, false, List, [], ◌∷◌, ◌++◌, Option, Some, None, length, filter_map, option_to_list, slice_get, ◌==◌, if◌then◌else◌, unwrap_or, option_map, eq-eqb, ne_eqb, append-nil, length-append, All-weaker, Record, Command, Application, Act, at_number, apply_in, application_by, applications_of, takes_off_list, name_given, names_of, household_count, IsOneOf, NamesOnlyThose, filter_map-agree, filter_map_more, slice_get-append}
 use Rattle.book_rows.specs.declared.command.Command.TheVariants as command
-use Rattle.office_step.specs.declared.known.Application.{Application}
-use Rattle.office_step.specs.Acts.{Act, at_number, apply_in, application_by, applications_of, takes_off_list, name_given, names_of, household_count}
-use Rattle.office_laws.specs.Kept.{IsOneOf, NamesOnlyThose}
-use Rattle.office_laws.proofs.Lists.{filter_map-agree, slice_get-append}
-use Rattle.office_laws.proofs.Grown.{filter_map-more, applications-more}
+use Rattle.office_laws.proofs.Grown.{applications-more}
 
 at_number-append : {X : Type 0} (xs ys : List X) (number : ℕ) → IsOneOf (length xs) number → at_number (xs ++ ys) number ≡ at_number xs number
 at_number-append {X} xs ys number there =
@@ -42,7 +32,7 @@ pub names-more : (acts : List Act) (records : List Record) (act : Act) → Names
 names-more acts records act only =
     let brought : List Application = option_to_list (option_map (application_by act.n) (apply_in act.command)) in
     ap (λ (all : List Application). filter_map (λ act. name_given all act.command) (acts ++ act ∷ [])) (applications-more acts act)
-    ∙ filter_map-more (λ act. name_given (applications_of acts ++ brought) act.command) acts act
+    ∙ filter_map_more (λ act. name_given (applications_of acts ++ brought) act.command) acts act
     ∙ ap₂ (λ (names : List (List ℕ)) (name : Option (List ℕ)). names ++ option_to_list name)
     (filter_map-agree (λ act. name_given (applications_of acts ++ brought) act.command) (λ act. name_given (applications_of acts) act.command) acts
     (All-weaker (λ act. (number : ℕ) → takes_off_list number act.command ≡ true → IsOneOf (length (applications_of acts)) number)

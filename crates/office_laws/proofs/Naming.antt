@@ -1,31 +1,10 @@
 -- Every act and record of a book that an office comes to names applicants and households that are there.
-use Rattle.std.proofs.Common.{◌≡◌, ◌∙◌, sym, ap, refl, subst, ℕ, suc, ◌+◌, ◌<◌, ◌≤◌, arith, Bool, true, false, not, List, [], ◌∷◌, ◌++◌, Option, Some, None, length, option_to_list, All, IfSome, ◌==◌, if◌then◌else◌, slice_index_or}
-use Rattle.std.specs.List.{list_any}
-use Rattle.std.specs.Option.{option_map, option_or}
-use Rattle.std.proofs.lemmas.Bool.{eqb-true}
-use Rattle.std.proofs.lemmas.List.{length-append}
-use Rattle.std.proofs.lemmas.List.Elements.{All-append, All-push, All-weaker, All-nil, All-cons, All-filter}
-use Rattle.std.proofs.lemmas.List.Folds.{Any-from_list_any}
-use Rattle.std.proofs.lemmas.List.FromFn.{length-map-range_with_len}
-use Rattle.std.proofs.lemmas.Option.{IfSome_then}
-use Rattle.record_history.specs.declared.records.Record.{Record}
-use Rattle.rent_table.specs.declared.plan.Plan.{Plan}
-use Rattle.wait_list.specs.declared.applicant.Applicant.{Applicant}
+use Rattle.office_laws.proofs.Words.{◌≡◌, ◌∙◌, sym, ap, refl, subst, ℕ, suc, ◌+◌, ◌<◌, ◌≤◌, arith, Bool, true, false, not, List, [], ◌∷◌, ◌++◌, Option, Some, None, length, option_to_list, All, IfSome, ◌==◌, if◌then◌else◌, slice_index_or, list_any, option_map, option_or, eqb-true, length-append, All-append, All-push, All-weaker, All-nil, All-cons, All-filter, Any-from_list_any, length-map-range_with_len, IfSome_then, Record, Plan, Applicant, Command, Application, Act, plan_in, plan_of, plan_act, apply_in, application_by, applications_of, applicant_of, applicants_of, numbered, takes_off_list, name_given, household_count, ask_in, waiting_of, ranks_of, own_of, Known, known_by, record_of, no_plan, no_applicant, no_unit, is_plan, no_such, refused_by, IsOneOf, NamesOnlyThose, passed, or_none, household_there, test_passed, All-option}
 use Rattle.wait_list.specs.Waiting.{is_listed}
-use Rattle.book_rows.specs.declared.command.Command.{Command}
 use Rattle.book_rows.specs.declared.command.Command.TheVariants as command
-use Rattle.office_step.specs.declared.known.Application.{Application}
 use Rattle.office_step.specs.declared.refusal.Refusal.TheVariants as refusal
 use Rattle.office_step.specs.declared.refusal.Named.TheVariants as named
-use Rattle.office_step.specs.Acts.{Act, plan_in, plan_of, plan_act, apply_in, application_by, applications_of, applicant_of, applicants_of, numbered, takes_off_list, name_given, household_count, ask_in, waiting_of, ranks_of}
-use Rattle.office_step.specs.Households.{own_of}
-use Rattle.office_step.specs.Known.{Known, known_by}
-use Rattle.office_step.specs.Made.{record_of}
-use Rattle.office_step.specs.Refusals.{no_plan, no_applicant, no_unit}
-use Rattle.office_step.specs.Against.{is_plan, no_such, refused_by}
-use Rattle.office_laws.specs.Kept.{IsOneOf, NamesOnlyThose}
 use Rattle.office_laws.proofs.Grown.{plan-more, applications-more}
-use Rattle.office_step.proofs.Passed.{passed, or_none, household_there}
 use Rattle.office_laws.proofs.Heading.{made_within}
 use Rattle.office_laws.proofs.Names.{count-more}
 
@@ -58,18 +37,9 @@ listed_there ranks acts applicant none =
     let waits : All (λ a. IsOneOf (length (applications_of acts)) a.number) (waiting_of ranks acts) =
     All-filter (λ (a : Applicant). not (list_any (λ act. takes_off_list a.number act.command) acts))
     (λ a. IsOneOf (length (applications_of acts)) a.number) (applicants_of ranks acts) (applicants-within ranks acts) in
-    by_place waits (Any-from_list_any (λ a. a.number == applicant) (waiting_of ranks acts) (passes (is_listed (waiting_of ranks acts) applicant) none))
-  where
-    passes : (b : Bool) → (if b then None else Some (refusal.NoSuch named.Applicant applicant)) ≡ None → b ≡ true
-    passes true none = refl
-    passes false none = absurd (cc)
-
-    by_place : All (λ a. IsOneOf (length (applications_of acts)) a.number) (waiting_of ranks acts) →
-        (k : ℕ) × (a : Applicant) × (k < length (waiting_of ranks acts)) × (slice_index_or (waiting_of ranks acts) k a ≡ a) × ((a.number == applicant) ≡ true) →
-        IsOneOf (length (applications_of acts)) applicant
-    by_place waits (k, a, within, same, is) =
-        subst (λ (number : ℕ). IsOneOf (length (applications_of acts)) number)
-        (ap (λ (a : Applicant). a.number) same ∙ eqb-true a.number applicant is) (waits k a within)
+    let found = Any-from_list_any (λ a. a.number == applicant) (waiting_of ranks acts) (test_passed (is_listed (waiting_of ranks acts) applicant) _ none) in
+    subst (λ (number : ℕ). IsOneOf (length (applications_of acts)) number)
+    (ap (λ (a : Applicant). a.number) found.3 ∙ eqb-true found.1.number applicant found.4) (waits found.0 found.1 found.2)
 
 -- ---- one act more
 
@@ -158,19 +128,12 @@ module _ (count : ℕ) (acts : List Act) (records : List Record) (only : NamesOn
       (λ a there. IfSome_then (ask_in a.command) there (λ ask is. longer (household_count acts) _ _ ask.household (count-more acts records act only) is)) acts only.asked)
       (IfSome_then (ask_in asked) asked_there (λ ask is. longer (household_count acts) _ _ ask.household (count-more acts records act only) is))
 
-  one_held : (made : Option Record) → ((r : Record) → made ≡ Some r → IsOneOf (household_count (acts ++ act ∷ [])) r.household) →
-      All (λ r. IsOneOf (household_count (acts ++ act ∷ [])) r.household) (option_to_list made)
-  one_held None there = All-nil (λ r. IsOneOf (household_count (acts ++ act ∷ [])) r.household)
-  one_held (Some r) there =
-      All-cons (λ r. IsOneOf (household_count (acts ++ act ∷ [])) r.household) r [] (there r refl)
-      (All-nil (λ r. IsOneOf (household_count (acts ++ act ∷ [])) r.household))
-
   helds : All (λ r. IsOneOf (household_count (acts ++ act ∷ [])) r.household) (records ++ option_to_list (record_of known asked))
   helds =
       All-append (λ r. IsOneOf (household_count (acts ++ act ∷ [])) r.household) records (option_to_list (record_of known asked))
       (All-weaker (λ r. IsOneOf (household_count acts) r.household) (λ r. IsOneOf (household_count (acts ++ act ∷ [])) r.household)
       (λ r is. longer (household_count acts) _ _ r.household (count-more acts records act only) is) records only.held)
-      (one_held (record_of known asked) held_there)
+      (All-option (λ r. IsOneOf (household_count (acts ++ act ∷ [])) r.household) (record_of known asked) held_there)
 
   pub names_only_more : NamesOnlyThose (acts ++ act ∷ []) (records ++ option_to_list (record_of known asked))
   names_only_more = record { planned = planned_more; off = offs; asked = asks; held = helds }

@@ -1,32 +1,7 @@
 -- The reply to a new act, by what was known before it and by its rows.
-use Rattle.std.proofs.Common.{◌≡◌, ◌∙◌, ap, refl, ℕ, ◌+◌, ◌≤◌, ◌<◌, arith, Bool, true, false, ◌==◌, List, [], ◌∷◌, ◌++◌, Option, Some, None, length, All, IfSome, cond, filter, find, option_to_list, nat_le}
-use Rattle.std.specs.Option.{option_map, option_map_or, option_or}
-use Rattle.std.proofs.lemmas.Bool.{eq-eqb, ne_eqb, le-leb}
-use Rattle.std.proofs.lemmas.List.{length_push}
-use Rattle.std.proofs.lemmas.List.Elements.{All-weaker, filter-append}
-use Rattle.std.proofs.lemmas.List.Folds.{find-append}
-use Rattle.record_history.specs.declared.records.Record.{Record}
-use Rattle.rent_table.specs.declared.rows.Unit.{Unit as UnitRow}
-use Rattle.voucher_core.specs.declared.line.Line.{Line}
-use Rattle.book_rows.specs.declared.property.UnitAct.{UnitAct}
-use Rattle.book_rows.specs.declared.applicants.ApplyAct.{ApplyAct}
-use Rattle.book_rows.specs.declared.rows.ActRow.{ActRow}
-use Rattle.book_rows.specs.declared.rows.Batch.{Batch}
-use Rattle.book_rows.specs.declared.command.Command.{Command}
+use Rattle.office_laws.proofs.Words.{◌≡◌, ◌∙◌, ap, refl, ℕ, ◌+◌, ◌≤◌, ◌<◌, arith, Bool, true, false, ◌==◌, List, [], ◌∷◌, ◌++◌, Option, Some, None, length, All, IfSome, cond, filter, find, option_to_list, nat_le, option_map, option_map_or, option_or, eq-eqb, ne_eqb, le-leb, length_push, All-weaker, filter-append, find-append, Record, UnitRow, Line, UnitAct, ApplyAct, ActRow, Batch, Command, Book, IsBatch, IsBefore, appended, command_in, Capacity, Application, Made, Act, act_of, acts_of, unit_in, unit_row, units_of, apply_in, application_by, applications_of, known_of, acts_up_to, certified, certified_by, closed, made_by, IsAppended, IsReached, reached_more, AreActs, made_now, NewReplies, filter_all, filter_none, find_fails, option_map_some, All-filter_map, find_last, filter_last}
 use Rattle.book_rows.specs.declared.command.Command.TheVariants as command
-use Rattle.book_rows.specs.Book.{Book, IsBatch, IsBefore, appended}
-use Rattle.command_forms.specs.Commands.{command_in}
-use Rattle.office_step.specs.declared.call.Capacity.{Capacity}
-use Rattle.office_step.specs.declared.known.Application.{Application}
-use Rattle.office_step.specs.declared.reply.Made.{Made}
 use Rattle.office_step.specs.declared.reply.Made.TheVariants as made
-use Rattle.office_step.specs.Acts.{Act, act_of, acts_of, unit_in, unit_row, units_of, apply_in, application_by, applications_of}
-use Rattle.office_step.specs.Known.{known_of}
-use Rattle.office_step.specs.Reply.{acts_up_to, certified, certified_by, closed, made_by}
-use Rattle.office_step.specs.Step.{IsAppended, IsReached, reached_more}
-use Rattle.office_laws.specs.Kept.{AreActs}
-use Rattle.office_laws.specs.AtHand.{made_now, NewReplies}
-use Rattle.office_laws.proofs.Lists.{filter_all, filter_none, find_fails, option_map_some, All-filter_map}
 use Rattle.office_laws.proofs.Grown.{units-more, applications-more}
 use Rattle.office_laws.proofs.Inversion.{accepted}
 use Rattle.office_laws.proofs.Reached.{act_made, acts_appended, books_are_kept, batches_follow}
@@ -86,25 +61,14 @@ module _ (capacity : Capacity) (book : Book) (rows : Batch) (reached : IsReached
   record_is : certified_by (appended book rows) n ≡ option_map_or certified rows.made made.Nothing
   record_is =
       ap (λ (found : Option Record). option_map_or certified found made.Nothing)
-      (find-append (λ (r : Record). r.act == n) book.records (option_to_list rows.made)
-      ∙ ap (λ (found : Option Record). option_or found (find (λ (r : Record). r.act == n) (option_to_list rows.made)))
-      (find_fails (λ (r : Record). r.act == n) book.records
-      (All-weaker (λ r. r.act < n) (λ r. (r.act == n) ≡ false) (λ r by. ne_eqb r.act n (λ same. absurd (omega arith))) book.records follow.1.records))
-      ∙ own rows.made follow.0.made)
+      (find_last (λ (r : Record). r.act) n book.records (option_to_list rows.made) follow.1.records ∙ own rows.made follow.0.made)
     where
       own : (more : Option Record) → IfSome more (λ r. r.act ≡ n) → find (λ (r : Record). r.act == n) (option_to_list more) ≡ more
       own None same = refl
       own (Some r) same = ap (λ (b : Bool). cond b (Some r) None) (eq-eqb r.act n same)
 
   lines_are : filter (λ line. line.act == n) (appended book rows).lines ≡ rows.lines
-  lines_are =
-      filter-append (λ (line : Line). line.act == n) book.lines rows.lines
-      ∙ ap (λ (before : List Line). before ++ filter (λ line. line.act == n) rows.lines)
-      (filter_none (λ (line : Line). line.act == n) book.lines
-      (All-weaker (λ line. line.act < n) (λ line. (line.act == n) ≡ false) (λ line by. ne_eqb line.act n (λ same. absurd (omega arith)))
-      book.lines follow.1.lines))
-      ∙ filter_all (λ (line : Line). line.act == n) rows.lines
-      (All-weaker (λ line. line.act ≡ n) (λ line. (line.act == n) ≡ true) (λ line same. eq-eqb line.act n same) rows.lines follow.0.lines)
+  lines_are = filter_last (λ (line : Line). line.act) n book.lines rows.lines follow.1.lines follow.0.lines
 
   made_is : (asked : Command) → appends.call.command ≡ asked → made_by (appended book rows) n asked ≡ made_now (known_of book) rows asked
   made_is (command.Unit unit) is =

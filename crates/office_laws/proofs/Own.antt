@@ -1,15 +1,5 @@
 -- The records of one household, once a record more is held.
-use Rattle.std.proofs.Common.{◌≡◌, ◌≢◌, ◌∙◌, sym, ap, refl, subst, ℕ, ◌+◌, zero, suc, ◌-◌, ◌⊎◌, inl, inr, arith, Bool, List, [], ◌∷◌, ◌++◌, Some, None, length, map, ◌==◌, if◌then◌else◌, get_or}
-use Rattle.std.proofs.lemmas.Bool.{cases_eq, ne_eqb}
-use Rattle.std.proofs.lemmas.List.{get_or-set_same, get_or-set_other, length-append, length-map}
-use Rattle.record_history.specs.declared.records.Record.{Record}
-use Rattle.record_history.specs.Held.{records_of, with_record}
-use Rattle.book_rows.specs.declared.command.Command.{Command}
-use Rattle.office_step.specs.Known.{Known, own_in}
-use Rattle.office_step.specs.After.{households_after, names_given}
-use Rattle.office_step.specs.Made.{record_of}
-use Rattle.office_step.specs.Against.{no_such}
-use Rattle.office_laws.specs.Kept.{IsOneOf}
+use Rattle.office_laws.proofs.Words.{◌≡◌, ◌≢◌, ◌∙◌, sym, ap, refl, subst, ℕ, ◌+◌, zero, suc, ◌-◌, ◌⊎◌, inl, inr, arith, Bool, List, [], ◌∷◌, ◌++◌, Some, None, length, map, ◌==◌, if◌then◌else◌, get_or, cases_eq, ne_eqb, get_or-set_same, get_or-set_other, length-append, length-map, Record, records_of, with_record, Command, Known, own_in, households_after, names_given, record_of, no_such, IsOneOf, records_at}
 use Rattle.office_laws.proofs.Heading.{made_within}
 
 abbrev nobody : List Record
@@ -32,14 +22,10 @@ pub own-longer : {Y : Type 0} (households : List (List Record)) (ys : List Y) (h
 own-longer households ys household =
     ap (λ (own : List Record). if household == 0 then [] else own) (none_more households ys (household - 1))
 
-own_at : (households : List (List Record)) (household : ℕ) → household ≢ 0 → records_of households household ≡ get_or households (household - 1) nobody
-own_at households household other =
-    ap (λ (is_zero : Bool). if is_zero then nobody else get_or households (household - 1) nobody) (ne_eqb household 0 other)
-
 own-held : (households : List (List Record)) (r : Record) → IsOneOf (length households) r.household →
     records_of (with_record households r) r.household ≡ records_of households r.household ++ r ∷ []
 own-held households r there =
-    own_at (with_record households r) r.household (λ zero. absurd (omega (arith, there.least)))
+    records_at (with_record households r) r.household there.least
     ∙ get_or-set_same households (r.household - 1) (records_of households r.household ++ r ∷ []) nobody (omega (arith, there.least, there.most))
 
 own-other : (households : List (List Record)) (r : Record) (household : ℕ) → IsOneOf (length households) r.household → household ≢ r.household →
@@ -50,10 +36,10 @@ own-other households r household there other = by_zero (cases_eq household 0)
     by_zero (inl is_zero) =
         ap (records_of (with_record households r)) is_zero ∙ sym (ap (records_of households) is_zero)
     by_zero (inr not_zero) =
-        own_at (with_record households r) household not_zero
+        records_at (with_record households r) household (omega (arith, not_zero))
         ∙ get_or-set_other households (r.household - 1) (household - 1) (records_of households r.household ++ r ∷ []) nobody
         (λ same. other (omega (arith, same, there.least, not_zero)))
-        ∙ sym (own_at households household not_zero)
+        ∙ sym (records_at households household (omega (arith, not_zero)))
 
 -- the household of the record that an act makes is one of those that are there after it
 pub made_held : (known : Known) (asked : Command) (r : Record) → no_such known asked ≡ None → record_of known asked ≡ Some r →

@@ -1,34 +1,8 @@
 -- Each line of a closing names its records, on every later book.
-use Rattle.std.proofs.Common.{◌≡◌, ◌∙◌, sym, ap, ap₂, refl, subst₂, ℕ, ◌+◌, ◌-◌, ◌<◌, ◌≤◌, arith, false, List, [], ◌++◌, Option, Some, None, length, All, IfSome, if◌then◌else◌, ◌==◌, nat_le}
-use Rattle.std.specs.Option.{option_map_or}
-use Rattle.std.specs.List.{range_with_len, flat_map}
-use Rattle.std.proofs.lemmas.Bool.{lt-leb}
-use Rattle.std.proofs.lemmas.List.{append-nil, length_push}
-use Rattle.std.proofs.lemmas.List.Elements.{All-weaker, filter-append}
-use Rattle.record_history.specs.declared.records.Record.{Record}
-use Rattle.record_history.specs.Records.{as_of}
-use Rattle.record_history.specs.Held.{records_of}
-use Rattle.rent_table.specs.declared.plan.Plan.{Plan}
-use Rattle.voucher_core.specs.declared.line.Line.{Line}
-use Rattle.voucher_core.specs.Lines.{month_lines, closing_lines, placed}
+use Rattle.office_laws.proofs.Words.{◌≡◌, ◌∙◌, sym, ap, ap₂, refl, subst₂, ℕ, ◌+◌, ◌-◌, ◌<◌, ◌≤◌, arith, false, List, [], ◌++◌, Option, Some, None, length, All, IfSome, if◌then◌else◌, ◌==◌, nat_le, option_map_or, range_with_len, flat_map, lt-leb, append-nil, length_push, All-weaker, filter-append, Record, as_of, records_of, Plan, Line, month_lines, closing_lines, placed, Batch, Book, appended, Command, Capacity, Closed, Known, known_of, own_in, record_of, last_close, lines_of, households_after, IsAppended, IsReached, reached_more, is_plan, Accepted, IsOneOf, IsLater, later_same, later_more, KnownAsOfStays, ClosingsNameTheirPairs, filter_none, known_stays}
 use Rattle.voucher_core.specs.Naming.{NameTheirPairs}
 use Rattle.voucher_core.proofs.Named.{lines_name_their_pairs}
-use Rattle.book_rows.specs.declared.rows.Batch.{Batch}
-use Rattle.book_rows.specs.Book.{Book, appended}
-use Rattle.book_rows.specs.declared.command.Command.{Command}
 use Rattle.book_rows.specs.declared.command.Command.TheVariants as command
-use Rattle.office_step.specs.declared.call.Capacity.{Capacity}
-use Rattle.office_step.specs.declared.known.Closed.{Closed}
-use Rattle.office_step.specs.Known.{Known, known_of, own_in}
-use Rattle.office_step.specs.Made.{record_of, last_close, lines_of}
-use Rattle.office_step.specs.After.{households_after}
-use Rattle.office_step.specs.Step.{IsAppended, IsReached, reached_more}
-use Rattle.office_step.specs.Against.{is_plan}
-use Rattle.office_laws.specs.Accepted.{Accepted}
-use Rattle.office_laws.specs.Kept.{IsOneOf}
-use Rattle.office_laws.specs.History.{IsLater, later_same, later_more}
-use Rattle.office_laws.specs.Closing.{KnownAsOfStays, ClosingsNameTheirPairs}
-use Rattle.office_laws.proofs.Lists.{filter_none}
 use Rattle.office_laws.proofs.Inversion.{accepted, passes}
 use Rattle.office_laws.proofs.Known.{known_after_each}
 use Rattle.office_laws.proofs.Own.{own_after_none}
@@ -39,13 +13,6 @@ use Rattle.office_laws.proofs.Conserved.{closing_there, own_more, later_than, mo
 
 -- ---- what is known as of an act
 
-as_of-more : (act : ℕ) (own more : List Record) → All (λ r. act < r.act) more → as_of act (own ++ more) ≡ as_of act own
-as_of-more act own more past =
-    filter-append (λ (r : Record). nat_le r.act act) own more
-    ∙ ap (λ (known : List Record). as_of act own ++ known)
-    (filter_none (λ (r : Record). nat_le r.act act) more (All-weaker (λ r. act < r.act) (λ r. nat_le r.act act ≡ false) (λ r late. lt-leb r.act act late) more past))
-    ∙ append-nil (as_of act own)
-
 as_of_stays : (capacity : Capacity) (book : Book) (rows : Batch) → IsReached capacity book → IsAppended capacity book rows →
     (act household : ℕ) → act ≤ length book.acts →
     as_of act (own_in (known_of (appended book rows)) household) ≡ as_of act (own_in (known_of book) household)
@@ -53,7 +20,7 @@ as_of_stays capacity book rows reached appends act household by =
     let is : Accepted capacity book appends.call rows = accepted capacity book rows appends in
     ap (λ (known : Known). as_of act (own_in known household)) (known_after_each capacity book rows reached appends)
     ∙ ap (as_of act) (sym (own_more (known_of book) appends.call.command (passes capacity book rows appends).no_such rows.made (sym is.made) household))
-    ∙ as_of-more act (own_in (known_of book) household) (more_of rows.made household)
+    ∙ known_stays (own_in (known_of book) household) (more_of rows.made household) act
     (later_than (known_of book) appends.call.command act by rows.made (sym is.made) household)
 
 longer : (capacity : Capacity) (book later : Book) → IsLater capacity book later → length book.acts ≤ length later.acts

@@ -1,14 +1,5 @@
 -- There is a plan wherever another act is accepted.
-use Rattle.std.proofs.Common.{◌≡◌, refl, subst, Bool, false, List, [], Option, Some, None}
-use Rattle.rent_table.specs.declared.plan.Plan.{Plan}
-use Rattle.book_rows.specs.declared.rows.Batch.{Batch}
-use Rattle.book_rows.specs.Book.{Book}
-use Rattle.office_step.specs.declared.call.Capacity.{Capacity}
-use Rattle.office_step.specs.Acts.{Act, acts_of, plan_of, plan_act}
-use Rattle.office_step.specs.Known.{known_of}
-use Rattle.office_step.specs.Refusals.{no_plan}
-use Rattle.office_step.specs.Step.{IsAppended, IsReached}
-use Rattle.office_step.specs.Against.{is_plan}
+use Rattle.office_laws.proofs.Words.{◌≡◌, refl, subst, Bool, false, List, [], Option, Some, None, Plan, Batch, Book, Capacity, Act, acts_of, plan_of, plan_act, known_of, no_plan, IsAppended, IsReached, is_plan}
 use Rattle.office_laws.proofs.Inversion.{passes}
 use Rattle.office_laws.proofs.Reached.{books_are_kept}
 

@@ -1,27 +1,12 @@
 -- What holds of every book that an office comes to, by induction on how it comes to it.
-use Rattle.std.proofs.Common.{◌≡◌, ◌∙◌, sym, ap, refl, true, false, subst, subst₂, ℕ, ◌+◌, ◌≤◌, ◌<◌, arith, Bool, List, [], ◌∷◌, ◌++◌, Option, Some, None, length, option_to_list, All, IfSome, IsSomeAnd, slice_index_or, nat_le, nat_lt, if◌then◌else◌}
-use Rattle.std.proofs.lemmas.Bool.{leb-false, ltb-false, and_parts}
-use Rattle.std.proofs.lemmas.List.{length_push, length-append}
-use Rattle.std.proofs.lemmas.List.Elements.{All-nil, All-append, All-weaker}
-use Rattle.record_history.specs.declared.records.Record.{Record}
-use Rattle.voucher_core.specs.declared.line.Line.{Line}
-use Rattle.book_rows.specs.declared.rows.Batch.{Batch}
-use Rattle.book_rows.specs.Book.{Book, IsBatch, IsBefore, empty_book, appended}
-use Rattle.book_rows.specs.Fit.{is_fit}
-use Rattle.command_forms.specs.Commands.{command_in}
-use Rattle.office_step.specs.declared.call.Capacity.{Capacity}
+use Rattle.office_laws.proofs.Words.{◌≡◌, ◌∙◌, sym, ap, refl, true, false, subst, subst₂, ℕ, ◌+◌, ◌≤◌, ◌<◌, arith, Bool, List, [], ◌∷◌, ◌++◌, Option, Some, None, length, option_to_list, All, IfSome, IsSomeAnd, slice_index_or, nat_le, nat_lt, if◌then◌else◌, leb-false, ltb-false, and_parts, length_push, length-append, All-nil, All-append, All-weaker, Record, Line, Batch, Book, IsBatch, IsBefore, empty_book, appended, is_fit, command_in, Capacity, Act, acts_of, takes_off_list, ask_in, known_of, IsAppended, reached_empty, reached_more, Accepted, IsOneOf, IsOfOffice, AreActs, AreOfActs, NamesOnlyThose, FitsIn, Kept, BooksAreKept, BatchesFollow, All-option, AllPairs-option, if_none, AllPairs-append}
 use Rattle.office_step.specs.declared.refusal.Refusal.TheVariants as refusal
-use Rattle.office_step.specs.Acts.{Act, acts_of, takes_off_list, ask_in}
-use Rattle.office_step.specs.Known.{known_of}
-use Rattle.office_step.specs.Step.{IsAppended, reached_empty, reached_more}
-use Rattle.office_laws.specs.Accepted.{Accepted}
-use Rattle.office_laws.specs.Kept.{IsOneOf, IsOfOffice, AreActs, AreOfActs, NamesOnlyThose, FitsIn, Kept, BooksAreKept, BatchesFollow}
-use Rattle.office_laws.proofs.Lists.{All-option, AllPairs-append, AllPairs-option}
 use Rattle.office_laws.proofs.Inversion.{accepted, passes}
 use Rattle.office_laws.proofs.Grown.{acts-more}
 use Rattle.office_laws.proofs.Naming.{names_only_more}
 use Rattle.office_laws.proofs.Rows.{acts_more}
 use Rattle.office_laws.proofs.Makes.{record_names_act, lines_name_act, lines_have_places}
+use Rattle.list_laws.proofs.Options.{IfSome-each}
 
 -- the act of appended rows
 abbrev pub act_made : {capacity : Capacity} {book : Book} {rows : Batch} → IsAppended capacity book rows → Act
@@ -108,40 +93,28 @@ module _ (capacity : Capacity) (book : Book) (rows : Batch) (kept : Kept capacit
       arith,
       length_push book.acts rows.act,
       leb-false capacity.acts (length book.acts)
-          (not_full (nat_le capacity.acts (length book.acts)) (passes capacity book rows appends).book_full),
+          (if_none (nat_le capacity.acts (length book.acts)) _ (passes capacity book rows appends).book_full),
     );
     lines = omega (
       arith,
       length-append book.lines rows.lines,
       ltb-false capacity.lines (length book.lines + length rows.lines)
-          (not_over (nat_lt capacity.lines (length book.lines + length rows.lines)) is.has_room),
+          (if_none (nat_lt capacity.lines (length book.lines + length rows.lines)) _ is.has_room),
     );
   }
-    where
-      not_full : (b : Bool) → (if b then Some (refusal.BookFull (length book.acts)) else None) ≡ None → b ≡ false
-      not_full true none = absurd (cc)
-      not_full false none = refl
-
-      not_over : (b : Bool) → (if b then Some (refusal.LinesFull (length book.lines) (length rows.lines)) else None) ≡ None → b ≡ false
-      not_over true none = absurd (cc)
-      not_over false none = refl
 
   kept_more : Kept capacity (appended book rows)
   kept_more = record { acts = rows_more; made = of_acts_more; names = names_more; room = fits_more }
 
   batch : IsBatch rows
   batch = record {
-    made = of_made rows.made refl;
+    made = IfSome-each (λ r. r.act ≡ rows.act.n) rows.made (λ r made. made_act r made ∙ sym is.n);
     lines = All-weaker (λ line. line.act ≡ length book.acts + 1) (λ line. line.act ≡ rows.act.n) (λ line last. last ∙ sym is.n) rows.lines line_act;
     places = λ place d within.
         (let at = lines_have_places (known_of book) appends.call.command place d
         (subst (λ (lines : List Line). place < length lines) is.lines within) in
         ap (λ (lines : List Line). (slice_index_or lines place d).place) is.lines ∙ at ∙ (let same : 1 + place ≡ place + 1 = omega arith in same));
   }
-    where
-      of_made : (made : Option Record) → rows.made ≡ made → IfSome made (λ r. r.act ≡ rows.act.n)
-      of_made None same = tt
-      of_made (Some r) same = made_act r same ∙ sym is.n
 
   before_it : IsBefore book rows.act.n
   before_it = record {

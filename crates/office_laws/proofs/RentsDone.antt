@@ -1,50 +1,19 @@
 -- At each closing every record in force has its unit's rents.
-use Rattle.std.proofs.Common.{◌≡◌, ◌∙◌, sym, ap, refl, subst, ℕ, ◌+◌, ◌-◌, ◌<◌, ◌≤◌, ◌⊎◌, inl, inr, arith, Bool, true, false, not, ◌&&◌, List, [], ◌∷◌, Option, Some, None, length, map, All, IfSome, if◌then◌else◌, ◌==◌, get_or, filter, is_some, nat_le}
-use Rattle.std.specs.Option.{option_map, option_map_or, option_and_then}
-use Rattle.std.specs.List.{range_with_len, list_any}
-use Rattle.std.proofs.lemmas.Bool.{false≢true, cases_lt, cases_eq, eqb-true, ne_eqb, not-false, not-true, leb-true, and_from, and_parts}
-use Rattle.std.proofs.lemmas.List.{get_or_past}
-use Rattle.std.proofs.lemmas.List.Elements.{All-nil, All-cons, All-filter, All-weaker, filter_passes}
-use Rattle.std.proofs.lemmas.List.FromFn.{length-range_with_len, get_or-range_with_len}
-use Rattle.days_core.specs.declared.rents.Rents.{Rents}
+use Rattle.office_laws.proofs.Words.{◌≡◌, ◌∙◌, sym, ap, refl, subst, ℕ, ◌+◌, ◌-◌, ◌<◌, ◌≤◌, ◌⊎◌, inl, inr, arith, Bool, true, false, not, ◌&&◌, List, [], ◌∷◌, Option, Some, None, length, map, All, IfSome, if◌then◌else◌, ◌==◌, get_or, filter, is_some, nat_le, option_map, option_map_or, option_and_then, range_with_len, list_any, false≢true, cases_lt, cases_eq, eqb-true, ne_eqb, not-false, not-true, leb-true, and_from, and_parts, get_or_past, All-nil, All-cons, All-filter, All-weaker, filter_passes, length-range_with_len, get_or-range_with_len, Rents, Record, is_withdrawal, is_live, live_records, comes_before, in_force, records_of, Plan, ends_assistance, unit_rents_on, are_other_rents, has_stale_rents, is_rent_stale_on, rent_due_day_of, Command, CloseAct, Refusal, Known, known_of, own_in, first_of, household_rent_due, first_household, is_plan, plan_day, rent_due, Accepted, HasItsRents, RentsAreDoneAtClosings, latest-among, records_cases, common_steps, none_at, get_or-map-range_with_len}
 use Rattle.days_core.specs.Calendar.{first_of as first_day_of, last_of as last_day_of}
-use Rattle.record_history.specs.declared.records.Record.{Record}
-use Rattle.record_history.specs.Records.{is_withdrawal, is_live, live_records, comes_before, in_force}
-use Rattle.record_history.specs.Held.{records_of}
-use Rattle.rent_table.specs.declared.plan.Plan.{Plan}
 use Rattle.due_dates.specs.Least.{IsLeast}
-use Rattle.due_dates.specs.Stale.{ends_assistance, unit_rents_on, are_other_rents, has_stale_rents, is_rent_stale_on, rent_due_day_of}
 use Rattle.due_dates.proofs.LeastLemmas.{least_that-says}
-use Rattle.book_rows.specs.declared.command.Command.{Command}
 use Rattle.book_rows.specs.declared.command.Command.TheVariants as command
-use Rattle.book_rows.specs.declared.closings.CloseAct.{CloseAct}
-use Rattle.office_step.specs.declared.refusal.Refusal.{Refusal}
 use Rattle.office_step.specs.declared.refusal.Refusal.TheVariants as refusal
-use Rattle.office_step.specs.Known.{Known, known_of, own_in}
-use Rattle.office_step.specs.Refusals.{first_of, household_rent_due, first_household}
-use Rattle.office_step.specs.Against.{is_plan, plan_day, rent_due}
-use Rattle.office_laws.specs.Accepted.{Accepted}
-use Rattle.office_laws.specs.Closing.{HasItsRents, RentsAreDoneAtClosings}
 use Rattle.office_laws.proofs.Inversion.{passes}
 use Rattle.office_laws.proofs.Planned.{plan_there}
 use Rattle.office_laws.proofs.RentsStand.{BeganWithRents, all_of, rents-later, began_with_rents}
-use Rattle.row_choice.proofs.LatestLemmas.{latest-among}
 
 -- where nothing stands against the households, nothing does against one of them
-none_of : (refused : ℕ → Option Refusal) (numbers : List ℕ) → first_of (map refused numbers) ≡ None → All (λ number. refused number ≡ None) numbers
-none_of refused [] none = All-nil (λ number. refused number ≡ None)
-none_of refused (number ∷ numbers) none = by_first (none_of refused numbers) (refused number) refl none
-  where
-    by_first : (first_of (map refused numbers) ≡ None → All (λ number. refused number ≡ None) numbers) → (found : Option Refusal) → refused number ≡ found →
-        first_of (found ∷ map refused numbers) ≡ None → All (λ number. refused number ≡ None) (number ∷ numbers)
-    by_first rest None is none = All-cons (λ number. refused number ≡ None) number numbers is (rest none)
-    by_first rest (Some r) is none = absurd (cc)
-
-pub none_of_household : (refused : ℕ → Option Refusal) (count household : ℕ) → first_household refused count ≡ None → 1 ≤ household → household ≤ count → refused household ≡ None
+none_of_household : (refused : ℕ → Option Refusal) (count household : ℕ) → first_household refused count ≡ None → 1 ≤ household → household ≤ count → refused household ≡ None
 none_of_household refused count household none least most =
-    subst (λ (number : ℕ). refused number ≡ None)
-    (get_or-range_with_len 1 count (household - 1) 0 (omega (arith, least, most)) ∙ (let same : 1 + (household - 1) ≡ household = omega arith in same))
-    (none_of refused (range_with_len 1 count) none (household - 1) 0 (omega (arith, least, most, length-range_with_len 1 count)))
+    sym (get_or-map-range_with_len refused 1 count (household - 1) household None (omega (arith, least, most)) (omega (arith, least)))
+    ∙ none_at (map refused (range_with_len 1 count)) (household - 1) none
 
 module _ (known : Known) (first last household : ℕ) where
   -- a day on which rents are due is one on which a record is in force
@@ -81,16 +50,11 @@ module _ (known : Known) (first last household : ℕ) where
           same_rents : (own rents : Rents) → own.contract_rent ≡ rents.contract_rent → own.utility ≡ rents.utility → own ≡ rents
           same_rents own rents contract utility = λ i. record { contract_rent = contract i; utility = utility i }
 
-      of_kind : (r : Record) (ends : Bool) → ends ≡ false → (not ends && has_stale_rents known.units known.rents day r) ≡ false →
-          has_stale_rents known.units known.rents day r ≡ false
-      of_kind r true ends fresh = absurd (cc)
-      of_kind r false ends fresh = fresh
-
       by_force : (held : Option Record) →
           option_map_or (λ (r : Record). not (ends_assistance r.kind) && has_stale_rents known.units known.rents day r) held false ≡ false →
           IfSome held (λ r. ends_assistance r.kind ≡ false → IfSome (unit_rents_on known.units known.rents r.unit day) (λ rents. r.rents ≡ rents))
       by_force None fresh = tt
-      by_force (Some r) fresh = λ ends. by_rents r.rents (unit_rents_on known.units known.rents r.unit day) (of_kind r (ends_assistance r.kind) ends fresh)
+      by_force (Some r) fresh = λ ends. by_rents r.rents (unit_rents_on known.units known.rents r.unit day) (grind (arith, common_steps, ends, fresh))
 
 -- the record in force on the day has no other rents than its unit
 abbrev HasNoOther : Known → List Record → ℕ → Type 0
@@ -99,20 +63,14 @@ HasNoOther known own day =
 
 no_other : (known : Known) (close : CloseAct) (plan : Plan) → known.plan ≡ Some plan → rent_due known (command.Close close) ≡ None →
     (household day : ℕ) → first_day_of plan.first ≤ day → day ≤ last_day_of close.month → HasNoOther known (own_in known household) day
-no_other known close plan has none household day from to = by_place (cases_eq household 0) (cases_lt (length known.households) household)
+no_other known close plan has none household day from to = elim (records_cases known.households household) [
+  | inl empty ↦ subst (λ (own : List Record). HasNoOther known own day) (sym empty) tt
+  | inr there ↦ of_one there.0 there.1
+]
   where
-    of_none : own_in known household ≡ [] → HasNoOther known (own_in known household) day
-    of_none empty = subst (λ (own : List Record). HasNoOther known own day) (sym empty) tt
-
-    by_place : (household ≡ 0) ⊎ (household ≡ 0 → ⊥) → (length known.households < household) ⊎ (household ≤ length known.households) →
-        HasNoOther known (own_in known household) day
-    by_place (inl is_zero) within = of_none (ap (own_in known) is_zero)
-    by_place (inr other) (inl past) =
-        of_none (ap (λ (none : Bool). if none then [] else get_or known.households (household - 1) []) (ne_eqb household 0 other)
-        ∙ get_or_past known.households (household - 1) [] (omega (arith, past)))
-    by_place (inr other) (inr within) =
+    of_one : 1 ≤ household → household ≤ length known.households → HasNoOther known (own_in known household) day
+    of_one least within =
         let begins : plan_day known ≡ first_day_of plan.first = ap (λ (found : Option Plan). option_map_or (λ (plan : Plan). first_day_of plan.first) found 0) has in
-        let least : 1 ≤ household = omega (arith, other) in
         not_stale known 0 0 household day
         (none_due known (plan_day known) (last_day_of close.month) household
         (none_of_household (λ household. household_rent_due (records_of known.households household) known.units known.rents (plan_day known) (last_day_of close.month) household)
@@ -157,11 +115,9 @@ rents_done known close plan began has none household day from to =
     (no_other known close plan has none household day from to)
 
 pub rents_are_done_at_closings : RentsAreDoneAtClosings
-rents_are_done_at_closings capacity book rows reached appends close closes = by_plan (plan_there capacity book rows reached appends (ap is_plan closes))
-  where
-    by_plan : (plan : Plan) × ((known_of book).plan ≡ Some plan) → IfSome (known_of book).plan (HasItsRents (known_of book) close.month)
-    by_plan (plan, has) =
-        let free : rent_due (known_of book) (command.Close close) ≡ None =
-        subst (λ (asked : Command). rent_due (known_of book) asked ≡ None) closes (passes capacity book rows appends).rent_due in
-        subst (λ (found : Option Plan). IfSome found (HasItsRents (known_of book) close.month)) (sym has)
-        (rents_done (known_of book) close plan (began_with_rents capacity book reached) has free)
+rents_are_done_at_closings capacity book rows reached appends close closes =
+    let plan = plan_there capacity book rows reached appends (ap is_plan closes) in
+    let free : rent_due (known_of book) (command.Close close) ≡ None =
+    subst (λ (asked : Command). rent_due (known_of book) asked ≡ None) closes (passes capacity book rows appends).rent_due in
+    subst (λ (found : Option Plan). IfSome found (HasItsRents (known_of book) close.month)) (sym plan.1)
+    (rents_done (known_of book) close plan.0 (began_with_rents capacity book reached) plan.1 free)

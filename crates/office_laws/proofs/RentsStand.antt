@@ -1,69 +1,27 @@
 -- Every record that is neither a move-out, a termination nor a withdrawal began on a day on which its unit had rents.
-use Rattle.std.proofs.Common.{◌≡◌, ◌∙◌, sym, ap, refl, subst, ℕ, ◌-◌, ◌<◌, ◌≤◌, ◌⊎◌, inl, inr, arith, Bool, true, false, not, ◌&&◌, ◌||◌, List, [], ◌∷◌, ◌++◌, Option, Some, None, length, map, All, filter, fold, if◌then◌else◌, ◌==◌, is_some, nat_le, option_and_then, get_or}
-use Rattle.std.specs.Option.{option_map, option_or}
-use Rattle.std.specs.List.{list_any}
-use Rattle.std.proofs.lemmas.Bool.{both_ways, cases_lt, or_cases, or_left, or_right, le-leb, leb-true, and_parts, and_from}
-use Rattle.std.proofs.lemmas.Option.{option_and_then_some, same_Some}
-use Rattle.std.proofs.lemmas.List.{get_or_past}
-use Rattle.std.proofs.lemmas.List.Elements.{All-nil, All-push, All-append, All-map, All-set, All-weaker}
-use Rattle.std.proofs.lemmas.List.Folds.{find-append, list_any-append}
-use Rattle.row_choice.specs.Latest.{later as later_by, latest as latest_by}
-use Rattle.days_core.specs.declared.rents.Rents.{Rents}
-use Rattle.record_history.specs.declared.records.Kind.{Kind}
+use Rattle.office_laws.proofs.Words.{◌≡◌, ◌∙◌, sym, ap, refl, subst, ℕ, ◌-◌, ◌<◌, ◌≤◌, ◌⊎◌, inl, inr, arith, Bool, true, false, not, ◌&&◌, ◌||◌, List, [], ◌∷◌, ◌++◌, Option, Some, None, length, map, All, filter, fold, if◌then◌else◌, ◌==◌, is_some, nat_le, option_and_then, get_or, option_map, option_or, list_any, both_ways, cases_lt, or_cases, or_left, or_right, le-leb, leb-true, and_parts, and_from, option_and_then_some, same_Some, get_or_past, All-nil, All-push, All-append, All-map, All-set, All-weaker, find-append, list_any-append, later_by, latest_by, Rents, Kind, Record, is_withdrawal, records_of, UnitRow, unit_at, rents_before, rents_begin_by, rent_row_on, rents_on, ends_assistance, unit_rents_on, Book, empty_book, Command, Capacity, Heading, Known, known_of, own_in, record_at, continued, rents_in_unit, withdrawal_heading, Basis, from_facts, carried, nothing, certifies, basis_for, basis_of, made_on, heading_for, heading_of, record_of, known_after, households_after, names_given, IsReached, reached_empty, reached_more, under_own, HouseholdChange, option_map_some, records_are, common_steps}
 use Rattle.record_history.specs.declared.records.Kind.TheVariants as kind
-use Rattle.record_history.specs.declared.records.Record.{Record}
-use Rattle.record_history.specs.Records.{is_withdrawal}
-use Rattle.record_history.specs.Held.{records_of}
-use Rattle.rent_table.specs.declared.rows.Unit.{Unit as UnitRow}
 use Rattle.rent_table.specs.declared.rows.RentRow.{RentRow}
-use Rattle.rent_table.specs.Table.{unit_at, rents_before, rents_begin_by, rent_row_on, rents_on}
-use Rattle.due_dates.specs.Stale.{ends_assistance, unit_rents_on}
 use Rattle.facts_core.specs.declared.facts.Facts.{Facts}
-use Rattle.book_rows.specs.Book.{Book, empty_book}
-use Rattle.book_rows.specs.declared.command.Command.{Command}
 use Rattle.book_rows.specs.declared.command.Command.TheVariants as command
-use Rattle.office_step.specs.declared.call.Capacity.{Capacity}
-use Rattle.office_step.specs.declared.heading.Heading.{Heading}
-use Rattle.office_step.specs.Known.{Known, known_of, own_in}
-use Rattle.office_step.specs.Households.{record_at, continued}
-use Rattle.office_step.specs.Made.{rents_in_unit, withdrawal_heading, Basis, from_facts, carried, nothing, certifies, basis_for, basis_of, made_on, heading_for, heading_of, record_of}
-use Rattle.office_step.specs.After.{known_after, households_after, names_given}
-use Rattle.office_step.specs.Step.{IsReached, reached_empty, reached_more}
-use Rattle.office_laws.proofs.Lists.{option_map_some}
 use Rattle.office_laws.proofs.Inversion.{accepted}
 use Rattle.office_laws.proofs.Known.{known_after_each}
-use Rattle.office_step.proofs.Headed.{under_own}
-use Rattle.book_rows.specs.declared.household.HouseholdChange.{HouseholdChange}
 use Rattle.book_rows.specs.declared.household.HouseholdChange.TheVariants as change
 
 -- ---- rents that stand once stand on
 
 some_stays : {Row : Type 0} (before : Row → Row → Bool) (rows : List Row) (best : Row) → is_some (fold (later_by before) (Some best) rows) ≡ true
 some_stays before [] best = refl
-some_stays {Row} before (row ∷ rows) best = by_test (some_stays before rows) (before best row)
-  where
-    by_test : ((next : Row) → is_some (fold (later_by before) (Some next) rows) ≡ true) → (b : Bool) →
-        is_some (fold (later_by before) (if b then Some row else Some best) rows) ≡ true
-    by_test stays true = stays row
-    by_test stays false = stays best
+some_stays before (row ∷ rows) best = grind (arith, common_steps, some_stays before rows row, some_stays before rows best)
 
 -- there is a latest of the rows that pass where one passes
 latest-some : {Row : Type 0} (before : Row → Row → Bool) (p : Row → Bool) (rows : List Row) → is_some (latest_by before (filter p rows)) ≡ list_any p rows
 latest-some before p [] = refl
-latest-some {Row} before p (row ∷ rows) = by_test (latest-some before p rows) (p row)
-  where
-    by_test : is_some (latest_by before (filter p rows)) ≡ list_any p rows → (b : Bool) →
-        is_some (latest_by before (if b then row ∷ filter p rows else filter p rows)) ≡ (b || list_any p rows)
-    by_test rest true = some_stays before (filter p rows) row
-    by_test rest false = rest
+latest-some before p (row ∷ rows) = grind (arith, common_steps, latest-some before p rows, some_stays before (filter p rows) row)
 
 any-weaker : {X : Type 0} (p q : X → Bool) (xs : List X) → ((x : X) → p x ≡ true → q x ≡ true) → list_any p xs ≡ true → list_any q xs ≡ true
 any-weaker p q [] weaker any = any
-any-weaker {X} p q (x ∷ xs) weaker any = by_test (any-weaker p q xs weaker) (or_cases (p x) (list_any p xs) any)
-  where
-    by_test : (list_any p xs ≡ true → list_any q xs ≡ true) → (p x ≡ true) ⊎ (list_any p xs ≡ true) → (q x || list_any q xs) ≡ true
-    by_test rest (inl here) = or_left (q x) (list_any q xs) (weaker x here)
-    by_test rest (inr there) = or_right (q x) (list_any q xs) (rest there)
+any-weaker p q (x ∷ xs) weaker any = grind (arith, common_steps, any, weaker x, any-weaker p q xs weaker)
 
 -- the unit has rents on the day
 abbrev pub has_rents : List UnitRow → List RentRow → ℕ → ℕ → Bool
@@ -73,8 +31,7 @@ rents_on-some : (rows : List RentRow) (group day : ℕ) → is_some (rents_on ro
 rents_on-some rows group day = mapped (rent_row_on rows group day) ∙ latest-some rents_before (rents_begin_by group day) rows
   where
     mapped : (found : Option RentRow) → is_some (option_map (λ row. row.rents) found) ≡ is_some found
-    mapped None = refl
-    mapped (Some row) = refl
+    mapped found = grind (arith, common_steps)
 
 pub rents-later : (units : List UnitRow) (rents : List RentRow) (unit day later : ℕ) → day ≤ later → has_rents units rents unit day ≡ true →
     has_rents units rents unit later ≡ true
@@ -140,12 +97,7 @@ on_basis known household (change.Terminate terminate) heading is some =
 on_basis known household (change.Withdraw withdraw) heading is some =
     option_map_some (λ target. withdrawal_heading household target) (record_at (own_in known household) withdraw.target) heading is
     (λ target found same. absurd (both_ways (is_certifying heading.kind) (ap is_certifying (sym (ap (λ (h : Heading). h.kind) same))) some))
-on_basis known household (change.Annual annual) heading is some = refl
-on_basis known household (change.Interim interim) heading is some = refl
-on_basis known household (change.Resume resume) heading is some = refl
-on_basis known household (change.Correct correct) heading is some = refl
-on_basis known household (change.Gross gross) heading is some = refl
-on_basis known household (change.Transfer transfer) heading is some = refl
+on_basis known household _ heading is some = cc
 
 basis_there : (known : Known) (asked : Command) (heading : Heading) → heading_of known asked ≡ Some heading → is_certifying heading.kind ≡ true →
     certifies (basis_of asked) ≡ true
@@ -167,14 +119,7 @@ abbrev AllBegan : Known → List (List Record) → Type 0
 AllBegan known households = All (All (BeganWithRents known)) households
 
 pub all_of : (known : Known) (households : List (List Record)) → AllBegan known households → (household : ℕ) → All (BeganWithRents known) (records_of households household)
-all_of known households all household = by_test (household == 0) (cases_lt (household - 1) (length households))
-  where
-    by_test : (b : Bool) → (household - 1 < length households) ⊎ (length households ≤ household - 1) →
-        All (BeganWithRents known) (if b then [] else get_or households (household - 1) [])
-    by_test true place = All-nil (BeganWithRents known)
-    by_test false (inl within) = all (household - 1) [] within
-    by_test false (inr past) =
-        subst (All (BeganWithRents known)) (sym (get_or_past households (household - 1) [] past)) (All-nil (BeganWithRents known))
+all_of known households all household = records_are (All (BeganWithRents known)) households household all (All-nil (BeganWithRents known))
 
 began_later : (known : Known) (asked : Command) (made : Option Record) (r : Record) → BeganWithRents known r → BeganWithRents (known_after known asked made) r
 began_later known asked made r began certifying =

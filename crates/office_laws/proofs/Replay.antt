@@ -1,19 +1,6 @@
 -- A book is what its acts give when they are done again.
-use Rattle.std.proofs.Common.{◌≡◌, ◌∙◌, sym, ap, refl, ℕ, Bool, true, false, List, [], ◌∷◌, Option, Some, None, option_and_then, if◌then◌else◌, bytes_eq}
-use Rattle.std.specs.Option.{option_map}
-use Rattle.std.specs.Cmp.Lexicographic.{bytes_decides}
-use Rattle.std.proofs.lemmas.Option.{option_and_then_some, same_Some}
-use Rattle.std.proofs.lemmas.List.Sums.{fold-append}
-use Rattle.book_rows.specs.declared.rows.Batch.{Batch}
-use Rattle.book_rows.specs.Book.{Book, empty_book, appended}
-use Rattle.book_rows.specs.declared.command.Command.{Command}
-use Rattle.command_forms.specs.Commands.{body_of, only_own, command_from, command_in}
-use Rattle.office_step.specs.declared.call.Call.{Call}
-use Rattle.office_step.specs.declared.call.Capacity.{Capacity}
-use Rattle.office_step.specs.Step.{Outcome, again, refused, appends, step, IsAppended, reached_empty, reached_more}
-use Rattle.office_laws.specs.Accepted.{Accepted}
+use Rattle.office_laws.proofs.Words.{◌≡◌, ◌∙◌, sym, ap, refl, ℕ, Bool, true, false, List, [], ◌∷◌, Option, Some, None, option_and_then, if◌then◌else◌, bytes_eq, option_map, bytes_decides, option_and_then_some, same_Some, fold-append, Batch, Book, empty_book, appended, Command, body_of, only_own, command_from, command_in, Call, Capacity, Outcome, again, refused, appends, step, IsAppended, reached_empty, reached_more, Accepted, option_map_some, cond_some}
 use Rattle.office_laws.specs.Replay.{call_in, rows_in, redone, after_redoing, ActsGiveTheBook, RedoneIsAppended}
-use Rattle.office_laws.proofs.Lists.{option_map_some}
 use Rattle.office_laws.proofs.Inversion.{accepted, appended_again}
 
 -- the act that was appended is done again
@@ -37,26 +24,22 @@ acts_give_the_book capacity _ (reached_more {book} {rows} reached appended_now) 
 own_body : (body : List ℕ) (asked : Command) → command_in body ≡ Some asked → body_of asked ≡ body
 own_body body asked is =
     option_and_then_some (only_own body) (command_from body) asked is (λ found read own.
-    by_test found asked (bytes_eq (body_of found) body) refl own)
-  where
-    by_test : (found asked : Command) (b : Bool) → bytes_eq (body_of found) body ≡ b → (if b then Some found else None) ≡ Some asked → body_of asked ≡ body
-    by_test found asked true same own =
-        ap body_of (sym (same_Some found asked own)) ∙ (bytes_decides (body_of found) body).0 same
-    by_test found asked false same own = absurd (cc)
+    (let both = cond_some (bytes_eq (body_of found) body) found asked own in
+    ap body_of (sym both.1) ∙ (bytes_decides (body_of found) body).0 both.0))
+
+pub rows_appended : (outcome : Outcome) (rows : Batch) → rows_in outcome ≡ Some rows → outcome ≡ appends rows
+rows_appended (again done) rows is = absurd (cc)
+rows_appended (refused refusal) rows is = absurd (cc)
+rows_appended (appends own) rows is = ap (λ (own : Batch). appends own) (same_Some own rows is)
 
 pub redone_is_appended : RedoneIsAppended
 redone_is_appended capacity book row call rows is fit again_now =
     option_map_some _ (command_in row.body) call is (λ asked read same.
     appended_again capacity book row.session row.day call rows fit
     (reads asked read (ap (λ (call : Call). call.command) same))
-    (by_outcome (step book capacity row.session row.day call)
+    (rows_appended (step book capacity row.session row.day call) rows
     (sym (ap (option_and_then (λ (call : Call). rows_in (step book capacity row.session row.day call))) is) ∙ again_now)))
   where
     reads : (asked : Command) → command_in row.body ≡ Some asked → asked ≡ call.command → command_in (body_of call.command) ≡ Some call.command
     reads asked read same =
         ap command_in (ap body_of (sym same) ∙ own_body row.body asked read) ∙ read ∙ ap (λ (asked : Command). Some asked) same
-
-    by_outcome : (outcome : Outcome) → rows_in outcome ≡ Some rows → outcome ≡ appends rows
-    by_outcome (again done) is = absurd (cc)
-    by_outcome (refused refusal) is = absurd (cc)
-    by_outcome (appends own) is = ap (λ (own : Batch). appends own) (same_Some own rows is)

@@ -1,35 +1,9 @@
 -- A repeat gets the reply that its act got.
-use Rattle.std.proofs.Common.{◌≡◌, ◌∙◌, sym, ap, ap₂, refl, subst, ℕ, ◌<◌, ◌≤◌, arith, Bool, true, false, ◌&&◌, ◌==◌, List, [], ◌∷◌, ◌++◌, Option, Some, None, length, Contains, filter, find, cond, get_or, slice_get, option_to_list, nat_le, bytes_eq, IfSome}
-use Rattle.std.specs.Option.{option_map_or, option_or}
-use Rattle.std.specs.Cmp.Lexicographic.{bytes_decides}
-use Rattle.std.proofs.lemmas.Bool.{ne_eqb, eq-eqb, lt-leb, and_from, and_left}
-use Rattle.std.proofs.lemmas.Option.{slice_get-get_or}
-use Rattle.std.proofs.lemmas.List.{append-nil}
-use Rattle.std.proofs.lemmas.List.Elements.{All-weaker, filter-append, Contains-append_left, Contains-push}
-use Rattle.std.proofs.lemmas.List.Folds.{find-append, find_at}
-use Rattle.std.proofs.lemmas.List.Sums.{position_or_len_is}
-use Rattle.record_history.specs.declared.records.Record.{Record}
-use Rattle.voucher_core.specs.declared.line.Line.{Line}
-use Rattle.book_rows.specs.declared.rows.ActRow.{ActRow}
-use Rattle.book_rows.specs.declared.rows.Batch.{Batch}
-use Rattle.book_rows.specs.Book.{Book, IsBatch, appended}
-use Rattle.book_rows.specs.declared.command.Command.{Command}
+use Rattle.office_laws.proofs.Words.{◌≡◌, ◌∙◌, sym, ap, ap₂, refl, subst, ℕ, ◌<◌, ◌≤◌, arith, Bool, true, false, ◌&&◌, ◌==◌, List, [], ◌∷◌, ◌++◌, Option, Some, None, length, Contains, filter, find, cond, get_or, slice_get, option_to_list, nat_le, bytes_eq, IfSome, option_map_or, option_or, bytes_decides, ne_eqb, eq-eqb, lt-leb, and_from, and_left, slice_get-get_or, append-nil, All-weaker, filter-append, Contains-append_left, Contains-push, find-append, find_at, position_or_len_is, Record, Line, ActRow, Batch, Book, IsBatch, appended, Command, body_of, command_in, Call, Capacity, Made, Act, acts_of, units_of, applications_of, acts_up_to, certified, certified_by, closed, made_by, done_of, is_request_of, repeated, IsAppended, IsReached, reached_more, again, act_day, rows_for, refusal_of, unless_refused, unless_repeated, Accepted, AreActs, IsLater, later_same, later_more, filter_none, find_first, find_earlier, filter_earlier, All-IfSome}
 use Rattle.book_rows.specs.declared.command.Command.TheVariants as command
-use Rattle.command_forms.specs.Commands.{body_of, command_in}
-use Rattle.office_step.specs.declared.call.Call.{Call}
-use Rattle.office_step.specs.declared.call.Capacity.{Capacity}
 use Rattle.office_step.specs.declared.reply.Done.{Done}
-use Rattle.office_step.specs.declared.reply.Made.{Made}
 use Rattle.office_step.specs.declared.reply.Made.TheVariants as made
-use Rattle.office_step.specs.Acts.{Act, acts_of, units_of, applications_of}
-use Rattle.office_step.specs.Reply.{acts_up_to, certified, certified_by, closed, made_by, done_of}
-use Rattle.office_step.specs.Refusals.{is_request_of, repeated}
-use Rattle.office_step.specs.Step.{IsAppended, IsReached, reached_more, again, act_day, rows_for, refusal_of, unless_refused, unless_repeated}
-use Rattle.office_laws.specs.Accepted.{Accepted}
-use Rattle.office_laws.specs.Kept.{AreActs}
-use Rattle.office_laws.specs.History.{IsLater, later_same, later_more}
 use Rattle.office_laws.specs.Replies.{IsOf, RepliesStay, RepeatsAreAnswered, FirstRepliesAreGivenAgain}
-use Rattle.office_laws.proofs.Lists.{filter_none}
 use Rattle.office_laws.proofs.Inversion.{accepted}
 use Rattle.office_laws.proofs.Reached.{acts_appended, act_made, books_are_kept, batches_follow}
 
@@ -53,28 +27,11 @@ module _ (capacity : Capacity) (book : Book) (rows : Batch) (reached : IsReached
   record_stays : certified_by (appended book rows) n ≡ certified_by book n
   record_stays =
       ap (λ (found : Option Record). option_map_or certified found made.Nothing)
-      (find-append (λ (r : Record). r.act == n) book.records (option_to_list rows.made)
-      ∙ none_more (find (λ (r : Record). r.act == n) book.records) rows.made refl)
-    where
-      none_more : (found : Option Record) (more : Option Record) → rows.made ≡ more →
-          option_or found (find (λ (r : Record). r.act == n) (option_to_list more)) ≡ found
-      none_more (Some r) more is = refl
-      none_more None None is = refl
-      none_more None (Some r) is = ap (λ (b : Bool). cond b (Some r) None) (ne_eqb r.act n other)
-        where
-          other : r.act ≡ n → ⊥
-          other same =
-              let last : r.act ≡ rows.act.n = subst (λ (made : Option Record). IfSome made (λ r. r.act ≡ rows.act.n)) is batch.made in
-              absurd (let later = after in omega arith)
+      (find_earlier (λ (r : Record). r.act) n rows.act.n book.records (option_to_list rows.made) after
+      (All-IfSome (λ r. r.act ≡ rows.act.n) rows.made batch.made))
 
   lines_stay : filter (λ line. line.act == n) (appended book rows).lines ≡ filter (λ line. line.act == n) book.lines
-  lines_stay =
-      filter-append (λ (line : Line). line.act == n) book.lines rows.lines
-      ∙ ap (λ (more : List Line). filter (λ line. line.act == n) book.lines ++ more)
-      (filter_none (λ (line : Line). line.act == n) rows.lines
-      (All-weaker (λ line. line.act ≡ rows.act.n) (λ line. (line.act == n) ≡ false)
-      (λ line last. ne_eqb line.act n (λ same. absurd (let later = after in omega arith))) rows.lines batch.lines))
-      ∙ append-nil (filter (λ line. line.act == n) book.lines)
+  lines_stay = filter_earlier (λ (line : Line). line.act) n rows.act.n book.lines rows.lines after batch.lines
 
   made_stays : (asked : Command) → made_by (appended book rows) n asked ≡ made_by book n asked
   made_stays (command.Unit unit) = ap (λ (acts : List Act). made.Unit (length (units_of acts))) acts_stay
@@ -115,13 +72,6 @@ replies_stay capacity book _ reached (later_more {later} {rows} is appends) row 
     ∙ replies_stay capacity book later reached is row there
 
 -- ---- repeats
-
-find_first : {X : Type 0} (p : X → Bool) (xs : List X) (k : ℕ) (d : X) → k < length xs → p (get_or xs k d) ≡ true →
-    ((i : ℕ) → i < k → p (get_or xs i d) ≡ false) → find p xs ≡ Some (get_or xs k d)
-find_first p xs k d within passes before =
-    find_at p xs
-    ∙ ap (slice_get xs) (position_or_len_is p xs k d (let le : k ≤ length xs = omega arith in le) before (λ _. passes))
-    ∙ slice_get-get_or xs k d within
 
 repeat_found : (rows : List ActRow) → AreActs rows → (row : ActRow) → Contains rows row → (call : Call) → IsOf call row →
     repeated rows call.clerk call.request (body_of call.command) ≡ Some row

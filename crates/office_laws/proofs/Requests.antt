@@ -1,33 +1,7 @@
 -- One act at most is of a clerk and request.
-use Rattle.std.proofs.Common.{◌≡◌, ◌∙◌, sym, ap, ap₂, refl, ℕ, suc, arith, Bool, true, false, not, ◌&&◌, ◌==◌, List, [], ◌∷◌, Option, Some, None, AllPairs, cond, find, get_or, bytes_eq}
-use Rattle.std.specs.Prelude.{option_and_then}
-use Rattle.std.specs.Option.{option_map}
-use Rattle.std.proofs.lemmas.Bool.{true≢false, false_from_ne_true, and_left, and_parts, eqb-true}
-use Rattle.book_rows.specs.declared.rows.ActRow.{ActRow}
+use Rattle.office_laws.proofs.Words.{◌≡◌, ◌∙◌, sym, ap, ap₂, refl, ℕ, suc, arith, Bool, true, false, not, ◌&&◌, ◌==◌, List, [], ◌∷◌, Option, Some, None, AllPairs, cond, find, get_or, bytes_eq, option_and_then, option_map, true≢false, false_from_ne_true, and_left, and_parts, eqb-true, ActRow, is_request_of, AreActs, NewRequests, RepeatedRequests, ReusedRequests, find_fails, find_both}
 use Rattle.office_step.specs.declared.refusal.Refusal.TheVariants as refusal
-use Rattle.office_step.specs.Refusals.{is_request_of}
-use Rattle.office_laws.specs.Kept.{AreActs}
-use Rattle.office_laws.specs.AtHand.{NewRequests, RepeatedRequests, ReusedRequests}
-use Rattle.office_laws.proofs.Lists.{find_fails}
 use Rattle.office_laws.proofs.Reached.{books_are_kept}
-
--- where no two items pass the first test, what passes both is the one that passes it, if that passes the second
-find_both : {X : Type 0} (p q : X → Bool) (xs : List X) → AllPairs (λ x y. p x ≡ true → p y ≡ false) xs →
-    find (λ x. p x && q x) xs ≡ option_and_then (λ x. cond (q x) (Some x) None) (find p xs)
-find_both p q [] once = refl
-find_both {X} p q (x ∷ xs) once =
-    by_test (p x) (find_both p q xs (λ i j d before within. once (suc i) (suc j) d (omega arith) (omega arith))) none_after
-  where
-    none_after : p x ≡ true → find (λ x. p x && q x) xs ≡ None
-    none_after passes =
-        find_fails (λ x. p x && q x) xs
-        (λ k d within. and_left (p (get_or xs k d)) (q (get_or xs k d)) (once 0 (suc k) d (omega arith) (omega arith) passes))
-
-    by_test : (b : Bool) → find (λ x. p x && q x) xs ≡ option_and_then (λ x. cond (q x) (Some x) None) (find p xs) →
-        (b ≡ true → find (λ x. p x && q x) xs ≡ None) →
-        cond (b && q x) (Some x) (find (λ x. p x && q x) xs) ≡ option_and_then (λ x. cond (q x) (Some x) None) (cond b (Some x) (find p xs))
-    by_test true rest none = ap (λ (found : Option X). cond (q x) (Some x) found) (none refl)
-    by_test false rest none = rest
 
 apart : (clerk request : ℕ) (row next : ActRow) → is_request_of next.clerk next.request row ≡ false → is_request_of clerk request row ≡ true →
     is_request_of clerk request next ≡ false

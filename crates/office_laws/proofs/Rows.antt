@@ -1,19 +1,7 @@
 -- The acts of a book: their numbers, commands, days and requests.
-use Rattle.std.proofs.Common.{◌≡◌, ◌∙◌, sym, ap, refl, subst, ℕ, suc, ◌+◌, ◌<◌, ◌≤◌, ◌⊎◌, inl, inr, arith, Bool, true, false, not, ◌&&◌, List, [], ◌∷◌, ◌++◌, Option, Some, None, length, All, AllPairs, IsSomeAnd, slice_index_or, find, bytes_eq}
-use Rattle.std.proofs.lemmas.Bool.{cases_lt}
-use Rattle.std.proofs.lemmas.List.{length_push, get_or_append_left, get_or_push}
-use Rattle.std.proofs.lemmas.List.Elements.{All-push, All-nil, All-cons, All-head, All-tail}
+use Rattle.office_laws.proofs.Words.{◌≡◌, ◌∙◌, sym, ap, refl, subst, ℕ, suc, ◌+◌, ◌<◌, ◌≤◌, ◌⊎◌, inl, inr, arith, Bool, true, false, not, ◌&&◌, List, [], ◌∷◌, ◌++◌, Option, Some, None, length, All, AllPairs, IsSomeAnd, slice_index_or, find, bytes_eq, cases_lt, length_push, get_or_append_left, get_or_push, All-push, All-nil, All-cons, All-head, All-tail, ActRow, Command, is_fit, command_in, option_map, is_request_of, repeated, request_reused, last_act_day, act_day, IsOfOffice, AreActs, find_none, places_push, option_map_none, common_steps}
 use Rattle.std.proofs.lemmas.List.Quantifiers.{all_pairs_push}
-use Rattle.book_rows.specs.declared.rows.ActRow.{ActRow}
-use Rattle.book_rows.specs.declared.command.Command.{Command}
-use Rattle.book_rows.specs.Fit.{is_fit}
-use Rattle.command_forms.specs.Commands.{command_in}
-use Rattle.std.specs.Option.{option_map}
 use Rattle.office_step.specs.declared.refusal.Refusal.TheVariants as refusal
-use Rattle.office_step.specs.Refusals.{is_request_of, repeated, request_reused}
-use Rattle.office_step.specs.Step.{last_act_day, act_day}
-use Rattle.office_laws.specs.Kept.{IsOfOffice, AreActs}
-use Rattle.office_laws.proofs.Lists.{find_none}
 
 -- ---- days
 
@@ -43,16 +31,10 @@ none_before rows clerk request body new unused = λ k d within.
     neither (is_request_of clerk request (slice_index_or rows k d)) (bytes_eq (slice_index_or rows k d).body body)
     (find_none (λ row. is_request_of clerk request row && bytes_eq row.body body) rows new k d within)
     (find_none (λ row. is_request_of clerk request row && not (bytes_eq row.body body)) rows
-    (none_found (find (λ row. is_request_of clerk request row && not (bytes_eq row.body body)) rows) unused) k d within)
+    (option_map_none _ (find (λ row. is_request_of clerk request row && not (bytes_eq row.body body)) rows) unused) k d within)
   where
-    none_found : (found : Option ActRow) → option_map (λ row. refusal.RequestReused row.n) found ≡ None → found ≡ None
-    none_found None none = refl
-    none_found (Some row) none = absurd (cc)
-
     neither : (is same : Bool) → (is && same) ≡ false → (is && not same) ≡ false → is ≡ false
-    neither false same one other = refl
-    neither true true one other = one
-    neither true false one other = other
+    neither is same one other = grind (arith, common_steps, one, other)
 
 -- ---- one act more
 
@@ -60,13 +42,7 @@ module _ (rows : List ActRow) (are : AreActs rows) (row : ActRow) (asked : Comma
     (read : command_in row.body ≡ Some asked) (fit : is_fit asked ≡ true) (day : row.day ≡ act_day rows row.day)
     (new : repeated rows row.clerk row.request row.body ≡ None) (unused : request_reused rows row.clerk row.request row.body ≡ None) where
   numbers-more : (place : ℕ) (d : ActRow) → place < length (rows ++ row ∷ []) → (slice_index_or (rows ++ row ∷ []) place d).n ≡ place + 1
-  numbers-more place d within = by_place (cases_lt place (length rows))
-    where
-      by_place : (place < length rows) ⊎ (length rows ≤ place) → (slice_index_or (rows ++ row ∷ []) place d).n ≡ place + 1
-      by_place (inl before) = ap (λ (row : ActRow). row.n) (get_or_append_left rows (row ∷ []) d place before) ∙ are.numbers place d before
-      by_place (inr past) =
-          let last : length rows ≡ place = omega (arith, within, length_push rows row) in
-          ap (λ (row : ActRow). row.n) (get_or_push rows row d place last) ∙ n ∙ ap (λ (k : ℕ). k + 1) last
+  numbers-more = places_push (λ place (row : ActRow). row.n ≡ place + 1) rows row are.numbers n
 
   pub acts_more : AreActs (rows ++ row ∷ [])
   acts_more = record {

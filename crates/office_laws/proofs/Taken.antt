@@ -1,26 +1,14 @@
 -- Admissions and transfers take the next candidate.
-use Rattle.std.proofs.Common.{◌≡◌, ap, refl, subst, ℕ, Bool, true, false, List, Option, Some, None, is_some, if◌then◌else◌, option_and_then}
-use Rattle.std.proofs.lemmas.Bool.{eqb-true}
-use Rattle.rent_table.specs.declared.plan.Plan.{Plan}
-use Rattle.rent_table.specs.declared.rows.Unit.{Unit as UnitRow}
-use Rattle.rent_table.specs.Table.{unit_at, limits_on}
+use Rattle.office_laws.proofs.Words.{◌≡◌, ap, refl, subst, ℕ, Bool, true, false, List, Option, Some, None, is_some, if◌then◌else◌, option_and_then, eqb-true, Plan, UnitRow, unit_at, limits_on, Command, Known, known_of, no_unit, is_same_candidate, not_next, HouseholdChange, MoveIn, Passed, or_none, test_passed, is_plan, no_household, no_such_in, move_in_for, of_move_in, out_of_turn, Accepted}
 use Rattle.wait_list.specs.declared.ask.Candidate.{Candidate}
 use Rattle.wait_list.specs.declared.ask.Candidate.TheVariants as candidate
 use Rattle.wait_list.specs.Next.{next_candidate}
-use Rattle.book_rows.specs.declared.command.Command.{Command}
 use Rattle.book_rows.specs.declared.command.Command.TheVariants as command
 use Rattle.office_step.specs.declared.refusal.Refusal.TheVariants as refusal
 use Rattle.office_step.specs.declared.refusal.Named.TheVariants as named
-use Rattle.office_step.specs.Known.{Known, known_of}
 use Rattle.office_step.specs.Candidates.{asked_of}
 use Rattle.office_step.specs.Refusals as test
-use Rattle.office_step.specs.Refusals.{no_unit, is_same_candidate, not_next}
-use Rattle.book_rows.specs.declared.household.HouseholdChange.{HouseholdChange}
 use Rattle.book_rows.specs.declared.household.HouseholdChange.TheVariants as change
-use Rattle.office_step.specs.declared.moving.MoveIn.{MoveIn}
-use Rattle.office_step.proofs.Passed.{Passed, or_none}
-use Rattle.office_step.specs.Against.{is_plan, no_household, no_such_in, move_in_for, of_move_in, out_of_turn}
-use Rattle.office_laws.specs.Accepted.{Accepted}
 use Rattle.office_laws.specs.Taken.{TakesNextBy, IsNextFor, TakesNext, NextIsTaken}
 use Rattle.office_laws.proofs.Inversion.{passes}
 use Rattle.office_laws.proofs.Planned.{plan_there}
@@ -43,27 +31,21 @@ same_candidate (candidate.Household number) (candidate.Applicant other) is = abs
 
 is_the_next : (next : Option Candidate) (asked : Candidate) → not_next next asked ≡ None → next ≡ Some asked
 is_the_next None asked none = absurd (cc)
-is_the_next (Some c) asked none = ap (λ (c : Candidate). Some c) (same_candidate c asked (passes (is_same_candidate c asked) none))
-  where
-    passes : (b : Bool) → (if b then None else Some (refusal.NotNext (Some c))) ≡ None → b ≡ true
-    passes true none = refl
-    passes false none = absurd (cc)
+is_the_next (Some c) asked none = ap (λ (c : Candidate). Some c) (same_candidate c asked (test_passed (is_same_candidate c asked) _ none))
 
 next_for : (known : Known) (mover : MoveIn) → (plan : Plan) × (known.plan ≡ Some plan) → test.no_unit known.units mover.unit ≡ None →
     of_move_in known (Some mover) (out_of_turn known) ≡ None → IsNextFor known mover.unit mover.from mover.candidate
-next_for known mover (plan, is_plan) there none = by_unit (unit_there known.units mover.unit there)
-  where
-    by_unit : (row : UnitRow) × (unit_at known.units mover.unit ≡ Some row) → IsNextFor known mover.unit mover.from mover.candidate
-    by_unit (row, is_unit) =
-        let of_plan : option_and_then (λ (row : UnitRow). out_of_turn known plan row mover) (unit_at known.units mover.unit) ≡ None =
-        subst (λ (found : Option Plan). option_and_then (λ (plan : Plan). option_and_then (λ (row : UnitRow). out_of_turn known plan row mover) (unit_at known.units mover.unit)) found ≡ None) is_plan none in
-        record {
-          plan = plan;
-          row = row;
-          is_plan = is_plan;
-          is_unit = is_unit;
-          is_next = is_the_next _ mover.candidate (subst (λ (found : Option UnitRow). option_and_then (λ (row : UnitRow). out_of_turn known plan row mover) found ≡ None) is_unit of_plan);
-        }
+next_for known mover (plan, is_plan) there none =
+    let unit = unit_there known.units mover.unit there in
+    let of_plan : option_and_then (λ (row : UnitRow). out_of_turn known plan row mover) (unit_at known.units mover.unit) ≡ None =
+    subst (λ (found : Option Plan). option_and_then (λ (plan : Plan). option_and_then (λ (row : UnitRow). out_of_turn known plan row mover) (unit_at known.units mover.unit)) found ≡ None) is_plan none in
+    record {
+      plan = plan;
+      row = unit.0;
+      is_plan = is_plan;
+      is_unit = unit.1;
+      is_next = is_the_next _ mover.candidate (subst (λ (found : Option UnitRow). option_and_then (λ (row : UnitRow). out_of_turn known plan row mover) found ≡ None) unit.1 of_plan);
+    }
 
 takes_next : (known : Known) (most today : ℕ) (asked : Command) → (is_plan asked ≡ false → (plan : Plan) × (known.plan ≡ Some plan)) →
     Passed known most today asked → TakesNext known asked

@@ -1,28 +1,11 @@
 -- What was tried before an act made its record.
-use Rattle.std.proofs.Common.{◌≡◌, ◌∙◌, sym, ap, refl, subst, subst₂, ℕ, ◌+◌, ◌-◌, arith, Bool, true, false, List, [], ◌∷◌, Option, Some, None, length, find, All, option_and_then, if◌then◌else◌, ◌==◌, get_or}
-use Rattle.std.specs.Option.{option_map, option_map_or}
-use Rattle.std.proofs.lemmas.Bool.{eqb-true, ne_eqb}
-use Rattle.std.proofs.lemmas.List.{get_or_past}
-use Rattle.std.proofs.lemmas.Option.{same_Some}
-use Rattle.std.proofs.lemmas.List.Elements.{All-head, All-tail}
+use Rattle.office_laws.proofs.Words.{◌≡◌, ◌∙◌, sym, ap, refl, subst, subst₂, ℕ, ◌+◌, ◌-◌, arith, Bool, true, false, List, [], ◌∷◌, Option, Some, None, length, find, All, option_and_then, if◌then◌else◌, ◌==◌, get_or, option_map, option_map_or, eqb-true, ne_eqb, get_or_past, same_Some, All-head, All-tail, Record, is_withdrawal, may_begin, is_transfer, is_move_out, Command, HouseholdChange, Heading, Refusal, Known, own_in, record_at, change_by, correction_heading, withdrawal_heading, heading_for, heading_of, record_of, disorder, unit_taken, of_made, may_collide_in, Passed, under_own, IsHeaded, made_is_headed, of_household, records_past, find_passes}
 use Rattle.record_history.specs.declared.records.Kind.TheVariants as kind
-use Rattle.record_history.specs.declared.records.Record.{Record}
-use Rattle.record_history.specs.Records.{is_withdrawal}
-use Rattle.tenancy_rules.specs.Order.{may_begin, is_transfer, is_move_out}
-use Rattle.book_rows.specs.declared.command.Command.{Command}
 use Rattle.book_rows.specs.declared.command.Command.TheVariants as command
 use Rattle.book_rows.specs.declared.household.HouseholdAct.{HouseholdAct}
-use Rattle.book_rows.specs.declared.household.HouseholdChange.{HouseholdChange}
 use Rattle.book_rows.specs.declared.household.HouseholdChange.TheVariants as change
-use Rattle.office_step.specs.declared.heading.Heading.{Heading}
-use Rattle.office_step.specs.declared.refusal.Refusal.{Refusal}
-use Rattle.office_step.specs.Known.{Known, own_in}
-use Rattle.office_step.specs.Households.{record_at, change_by}
-use Rattle.office_step.specs.Made.{correction_heading, withdrawal_heading, heading_for, heading_of, record_of}
-use Rattle.office_step.specs.Refusals.{disorder, unit_taken}
-use Rattle.office_step.specs.Against.{of_made, may_collide_in}
-use Rattle.office_step.proofs.Passed.{Passed}
-use Rattle.office_step.proofs.Headed.{option_map_some, under_own, IsHeaded, made_is_headed, of_household}
+use Rattle.office_step.proofs.Headed.{option_map_some}
+pub use Rattle.list_laws.proofs.Finds.{find_holds}
 
 -- the record is the household's first, or was judged among its records
 pub data Ordered (known : Known) (r : Record) : Type 0 where
@@ -57,25 +40,6 @@ order_of : (known : Known) (asked : Command) (r : Record) → record_of known as
     of_made known asked (λ made. disorder (own_in known made.household) (change_by made)) ≡ None → disorder (own_in known r.household) (change_by r) ≡ None
 order_of known asked = of_one known asked (λ made. disorder (own_in known made.household) (change_by made))
 
--- the household that comes next has no records
-none_yet : (known : Known) (household : ℕ) → household ≡ length known.households + 1 → own_in known household ≡ []
-none_yet known household next =
-    ap (λ (is_zero : Bool). if is_zero then [] else get_or known.households (household - 1) []) (ne_eqb household 0 (λ zero. absurd (omega arith)))
-    ∙ get_or_past known.households (household - 1) [] (omega arith)
-
-pub find_holds : {X : Type 0} (p : X → Bool) (P : X → Type 0) (xs : List X) (x : X) → find p xs ≡ Some x → All P xs → P x × (p x ≡ true)
-find_holds p P [] x is all = absurd (cc)
-find_holds {X} p P (y ∷ ys) x is all = by_test (find_holds p P ys x) (p y) refl is
-  where
-    by_test : (find p ys ≡ Some x → All P ys → P x × (p x ≡ true)) → (b : Bool) → p y ≡ b → (if b then Some y else find p ys) ≡ Some x → P x × (p x ≡ true)
-    by_test rest true passes is =
-        let same : y ≡ x = same_Some y x is in
-        (subst P same (All-head P y ys all), subst (λ (x : X). p x ≡ true) same passes)
-    by_test rest false passes is = rest is (All-tail P y ys all)
-
-find_passes : {X : Type 0} (p : X → Bool) (xs : List X) (x : X) → find p xs ≡ Some x → p x ≡ true
-find_passes p xs x is = (find_holds p (λ x. Unit {0}) xs x is (λ k d within. tt)).1
-
 -- ---- the first record of a household
 
 first_tried : (known : Known) (asked : Command) (r : Record) (heading : Heading) → record_of known asked ≡ Some r → heading_of known asked ≡ Some heading →
@@ -86,7 +50,7 @@ first_tried known asked r heading is own new may zero counts free =
     let kind : r.kind ≡ heading.kind = ap (λ (r : Record). r.kind) under.is in
     let corrects : r.corrects ≡ 0 = ap (λ (r : Record). r.corrects) under.is ∙ zero in
     record {
-      ordered = begins (none_yet known r.household (ap (λ (r : Record). r.household) under.is ∙ new)) (ap may_begin kind ∙ may) corrects (ap is_withdrawal kind ∙ counts);
+      ordered = begins (records_past known.households r.household (omega (arith, ap (λ (r : Record). r.household) under.is, new))) (ap may_begin kind ∙ may) corrects (ap is_withdrawal kind ∙ counts);
       placed = taken_by_none free;
       names = names_none corrects;
     }
@@ -125,13 +89,7 @@ module _ (known : Known) (act : HouseholdAct) (r : Record) (is : record_of known
   names_by (change.Withdraw withdraw) own =
       option_map_some (λ target. withdrawal_heading act.household target) (record_at (own_in known act.household) withdraw.target) headed.heading own
       (λ target found same. one_of withdraw.target target found (ap (λ (h : Heading). h.corrects) same))
-  names_by (change.Annual annual) own = names_none (corrects ∙ sym (its_corrects own))
-  names_by (change.Interim interim) own = names_none (corrects ∙ sym (its_corrects own))
-  names_by (change.Resume resume) own = names_none (corrects ∙ sym (its_corrects own))
-  names_by (change.Gross gross) own = names_none (corrects ∙ sym (its_corrects own))
-  names_by (change.Transfer transfer) own = names_none (corrects ∙ sym (its_corrects own))
-  names_by (change.MoveOut move_out) own = names_none (corrects ∙ sym (its_corrects own))
-  names_by (change.Terminate terminate) own = names_none (corrects ∙ sym (its_corrects own))
+  names_by _ own = let zero = corrects in names_none cc
 
   -- it stays, by a kind that neither begins a tenancy, nor moves or withdraws
   stays : {own : Heading} → is_withdrawal own.kind ≡ false → may_begin own.kind ≡ false → is_transfer own.kind ≡ false → own.corrects ≡ 0 → Some own ≡ Some headed.heading → Placed known r
@@ -139,20 +97,22 @@ module _ (known : Known) (act : HouseholdAct) (r : Record) (is : record_of known
       let same = kind_is ∙ sym (its_kind own) in
       kept (ap is_withdrawal same ∙ counts) (ap may_begin same ∙ later_one) (ap is_transfer same ∙ transfers) (corrects ∙ sym (its_corrects own) ∙ zero)
 
-  placed_by : (done : HouseholdChange) → heading_for known act.household done ≡ Some headed.heading →
-      (if may_collide_in done then of_made known (command.Household act) (λ made. unit_taken known.households made.household (change_by made)) else None) ≡ None →
-      Placed known r
-  placed_by (change.Annual annual) own free = stays refl refl refl refl own
-  placed_by (change.Interim interim) own free = stays refl refl refl refl own
-  placed_by (change.Gross gross) own free = stays refl refl refl refl own
-  placed_by (change.Terminate terminate) own free = stays refl refl refl refl own
-  placed_by (change.MoveOut move_out) own free =
+  -- a change by which no unit comes to be another household's
+  stays_by : (done : HouseholdChange) → heading_for known act.household done ≡ Some headed.heading → may_collide_in done ≡ false → Placed known r
+  stays_by (change.Annual annual) own apart = stays refl refl refl refl own
+  stays_by (change.Interim interim) own apart = stays refl refl refl refl own
+  stays_by (change.Gross gross) own apart = stays refl refl refl refl own
+  stays_by (change.Terminate terminate) own apart = stays refl refl refl refl own
+  stays_by (change.MoveOut move_out) own apart =
       let same = kind_is ∙ sym (its_kind own) in
       moved_out (ap is_withdrawal same) (ap is_move_out same) (corrects ∙ sym (its_corrects own))
-  placed_by (change.Resume resume) own free = taken_by_none (taken_of known (command.Household act) r is free)
-  placed_by (change.Correct correct) own free = taken_by_none (taken_of known (command.Household act) r is free)
-  placed_by (change.Transfer transfer) own free = taken_by_none (taken_of known (command.Household act) r is free)
-  placed_by (change.Withdraw withdraw) own free = taken_by_none (taken_of known (command.Household act) r is free)
+  stays_by _ own apart = absurd (cc)
+
+  placed_by : (done : HouseholdChange) (may : Bool) → may_collide_in done ≡ may → heading_for known act.household done ≡ Some headed.heading →
+      (if may then of_made known (command.Household act) (λ made. unit_taken known.households made.household (change_by made)) else None) ≡ None →
+      Placed known r
+  placed_by done true may own free = taken_by_none (taken_of known (command.Household act) r is free)
+  placed_by done false may own free = stays_by done own may
 
 pub tried : (known : Known) (most today : ℕ) (asked : Command) (r : Record) → Passed known most today asked → record_of known asked ≡ Some r → Tried known r
 tried known most today (command.Start start) r free is =
@@ -161,7 +121,7 @@ tried known most today (command.Admit admit) r free is =
     first_tried known (command.Admit admit) r _ is refl refl refl refl refl (taken_of known (command.Admit admit) r is free.unit_taken)
 tried known most today (command.Household act) r free is = record {
   ordered = judged (order_of known (command.Household act) r is free.disorder);
-  placed = placed_by known act r is act.change (headed known act r is).is_its free.unit_taken;
+  placed = placed_by known act r is act.change (may_collide_in act.change) refl (headed known act r is).is_its free.unit_taken;
   names = names_by known act r is act.change (headed known act r is).is_its;
 }
 tried known most today _ r free is = absurd (cc)

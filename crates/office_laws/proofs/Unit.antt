@@ -1,19 +1,7 @@
 -- A record for the unit of the record before it, and a move-out, bring a household to no other unit.
-use Rattle.std.proofs.Common.{◌≡◌, ◌∙◌, sym, ap, refl, subst, ℕ, ◌<◌, ◌≤◌, ◌⊎◌, inl, inr, arith, Bool, true, false, not, List, [], ◌∷◌, ◌++◌, Option, Some, None, All, Contains, IfSome, IsSomeAnd, filter, if◌then◌else◌, option_and_then, ◌==◌, get_or, nat_le}
-use Rattle.std.proofs.lemmas.Bool.{false≢true, and_parts, eqb-true, not-false, false_from_ne_true, cases_order, le-leb, leb-true}
-use Rattle.std.proofs.lemmas.Bool.Decides.{nat_tests}
-use Rattle.std.proofs.lemmas.List.{append-nil, get_or_default}
-use Rattle.std.proofs.lemmas.List.Elements.{All-contains, Contains-push, filter-append}
-use Rattle.std.proofs.lemmas.List.Sums.{fold-append}
-use Rattle.row_choice.specs.Latest.{comes_before as pair_comes_before, IsLatest}
-use Rattle.row_choice.proofs.LatestLemmas.{latest-is, pairs_order, pairs_order-turned}
-use Rattle.record_history.specs.declared.records.Kind.{Kind}
+use Rattle.office_laws.proofs.Words.{◌≡◌, ◌∙◌, sym, ap, refl, subst, ℕ, ◌<◌, ◌≤◌, ◌⊎◌, inl, inr, arith, Bool, true, false, not, List, [], ◌∷◌, ◌++◌, Option, Some, None, All, Contains, IfSome, IsSomeAnd, filter, if◌then◌else◌, option_and_then, ◌==◌, get_or, nat_le, false≢true, and_parts, eqb-true, not-false, false_from_ne_true, cases_order, le-leb, leb-true, nat_tests, append-nil, get_or_default, All-contains, Contains-push, filter-append, fold-append, pair_comes_before, IsLatest, latest-is, pairs_order, pairs_order-turned, Kind, Record, comes_before, later, latest, NumbersRise, may_begin, is_transfer, is_move_out, may_follow, has_its_unit, record_before, is_in_order, comes_after, is_out_of_order, first_out_of_order, unit_kept, occupied_unit_on, common_steps}
 use Rattle.record_history.specs.declared.records.Kind.TheVariants as kind
-use Rattle.record_history.specs.declared.records.Record.{Record}
-use Rattle.record_history.specs.Records.{comes_before, later, latest}
-use Rattle.tenancy_rules.specs.Changed.{NumbersRise}
-use Rattle.tenancy_rules.specs.Order.{may_begin, is_transfer, is_move_out, may_follow, has_its_unit, record_before, is_in_order, comes_after, is_out_of_order, first_out_of_order}
-use Rattle.tenancy_rules.specs.Occupancy.{unit_kept, occupied_unit_on}
+use Rattle.tenancy_rules.proofs.OrderLaws.{in_order, same_record, neither, followed}
 
 abbrev has_begun : ℕ → Record → Bool
 has_begun day r = nat_le r.from day
@@ -57,8 +45,7 @@ module _ (live : List Record) (r : Record) (day unit : ℕ) (on : option_and_the
 -- ---- a move-out
 
 no_unit : (moves : Bool) (own unit : ℕ) → moves ≡ true → (if moves then None else Some own) ≡ Some unit → ⊥
-no_unit true own unit is on = absurd (cc)
-no_unit false own unit is on = absurd (cc)
+no_unit moves own unit is on = grind (arith, common_steps, is, on)
 
 pub moved_out_had : (live : List Record) (r : Record) (day unit : ℕ) → is_move_out r.kind ≡ true →
     occupied_unit_on (live ++ r ∷ []) day ≡ Some unit → occupied_unit_on live day ≡ Some unit
@@ -67,47 +54,11 @@ moved_out_had live r day unit moves on =
 
 -- ---- a record for the unit of the one before
 
-in_order : (records : List Record) → first_out_of_order records ≡ None → All (λ r. is_in_order (record_before records r) r ≡ true) records
-unfolding is_out_of_order
-in_order records none k d within =
-    let law = latest-is comes_after (is_out_of_order records) records (pairs_order-turned (λ r. r.from) (λ r. r.number)) in
-    not-false (is_in_order (record_before records (get_or records k d)) (get_or records k d))
-    (false_from_ne_true (is_out_of_order records (get_or records k d)) (λ out. nobody (first_out_of_order records) none (law.last k d within out)))
-  where
-    nobody : (answer : Option Record) → answer ≡ None → IsSomeAnd answer (λ best. comes_after best (get_or records k d) ≡ false) → ⊥
-    nobody None is some = some
-    nobody (Some best) is some = absurd (cc)
-
--- of two records with one number both are the same
-same_record : (records : List Record) (first second : Record) → NumbersRise records → Contains records first → Contains records second →
-    first.number ≡ second.number → first ≡ second
-same_record records first second rise (k, within, is) (k', within', is') same = by_order (cases_order k k')
-  where
-    second_is : get_or records k' first ≡ second
-    second_is = get_or_default records k' first second within' ∙ is'
-
-    by_order : (k ≡ k') ⊎ ((k < k') ⊎ (k' < k)) → first ≡ second
-    by_order (inl one) = sym is ∙ ap (λ (place : ℕ). get_or records place first) one ∙ second_is
-    by_order (inr (inl less)) =
-        absurd (omega (arith, rise k k' first less within', ap (λ (r : Record). r.number) is, ap (λ (r : Record). r.number) second_is, same))
-    by_order (inr (inr more)) =
-        absurd (omega (arith, rise k' k first more within, ap (λ (r : Record). r.number) is, ap (λ (r : Record). r.number) second_is, same))
-
--- two records of which neither comes before the other have one number
-neither : (from number other_from other_number : ℕ) → pair_comes_before from number other_from other_number ≡ false →
-    pair_comes_before other_from other_number from number ≡ false → number ≡ other_number
-neither from number other_from other_number e f = grind (arith, nat_tests)
-
 not_itself : (from number : ℕ) → pair_comes_before from number from number ≡ false
 not_itself from number = grind (arith, nat_tests)
 
 begins_by : (from number other_from other_number : ℕ) → pair_comes_before from number other_from other_number ≡ true → from ≤ other_from
 begins_by from number other_from other_number before = grind (arith, nat_tests)
-
--- a kind that something may follow is no move-out
-followed : (earlier next : Kind) → may_follow earlier next ≡ true → is_move_out earlier ≡ false
-followed kind.MO next is = absurd (false≢true is)
-followed _ next is = refl
 
 module _ (live : List Record) (r : Record) (rise : NumbersRise live) (order : first_out_of_order (live ++ r ∷ []) ≡ None)
     (later_one : may_begin r.kind ≡ false) (stays : is_transfer r.kind ≡ false) where
@@ -143,12 +94,10 @@ module _ (live : List Record) (r : Record) (rise : NumbersRise live) (order : fi
             where
               own_unit : (p : Record) (transfers : Bool) → transfers ≡ false → (if transfers then not (r.unit == p.unit) else r.unit == p.unit) ≡ true →
                   (r.unit == p.unit) ≡ true
-              own_unit p true stays has = absurd (cc)
-              own_unit p false stays has = has
+              own_unit p transfers stays has = grind (arith, common_steps, stays, has)
 
               own_kept : (moves : Bool) → (if moves then None else Some r.unit) ≡ Some unit → Some r.unit ≡ Some unit
-              own_kept true is = absurd (cc)
-              own_kept false is = is
+              own_kept moves is = grind (arith, common_steps, is)
 
           by_both : (p : Option Record) → is_in_order p r ≡ true → IsLatest comes_before (λ earlier. comes_before earlier r) live p →
               (was : Option Record) → IsLatest comes_before (has_begun day) live was → IfSome was (λ q. comes_before q r ≡ true) →

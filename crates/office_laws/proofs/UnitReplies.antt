@@ -1,29 +1,8 @@
 -- The reply to an act that made a unit, by the unit's name.
-use Rattle.std.proofs.Common.{◌≡◌, ◌∙◌, sym, ap, refl, subst, ℕ, ◌+◌, ◌⊎◌, inl, inr, arith, Bool, List, [], ◌∷◌, ◌++◌, Option, Some, None, length, Contains, cond, find, option_to_list}
-use Rattle.std.specs.Option.{option_map, option_or}
-use Rattle.std.specs.Cmp.Lexicographic.{bytes_decides}
-use Rattle.std.proofs.lemmas.Option.{same_Some}
-use Rattle.std.proofs.lemmas.List.{length_push}
-use Rattle.std.proofs.lemmas.List.Elements.{Contains-push_cases}
-use Rattle.std.proofs.lemmas.List.Folds.{find-append}
-use Rattle.rent_table.specs.declared.rows.Unit.{Unit as UnitRow}
-use Rattle.rent_table.specs.Table.{has_name, unit_named}
-use Rattle.book_rows.specs.declared.property.UnitAct.{UnitAct}
-use Rattle.book_rows.specs.declared.rows.ActRow.{ActRow}
-use Rattle.book_rows.specs.declared.rows.Batch.{Batch}
-use Rattle.book_rows.specs.declared.command.Command.{Command}
+use Rattle.office_laws.proofs.Words.{◌≡◌, ◌∙◌, sym, ap, refl, subst, ℕ, ◌+◌, ◌⊎◌, inl, inr, arith, Bool, List, [], ◌∷◌, ◌++◌, Option, Some, None, length, Contains, cond, find, option_to_list, option_map, option_or, bytes_decides, same_Some, length_push, Contains-push_cases, find-append, UnitRow, has_name, unit_named, UnitAct, ActRow, Batch, Command, Book, appended, command_in, Capacity, Act, acts_of, unit_in, unit_row, units_of, known_of, name_taken, acts_up_to, IsAppended, IsReached, reached_empty, reached_more, UnitReplies, option_map_none, common_steps}
 use Rattle.book_rows.specs.declared.command.Command.TheVariants as command
-use Rattle.book_rows.specs.Book.{Book, appended}
-use Rattle.command_forms.specs.Commands.{command_in}
-use Rattle.office_step.specs.declared.call.Capacity.{Capacity}
 use Rattle.office_step.specs.declared.refusal.Refusal.TheVariants as refusal
-use Rattle.office_step.specs.Acts.{Act, acts_of, unit_in, unit_row, units_of}
-use Rattle.office_step.specs.Known.{known_of}
-use Rattle.office_step.specs.Refusals.{name_taken}
 use Rattle.office_step.specs.Against as against
-use Rattle.office_step.specs.Reply.{acts_up_to}
-use Rattle.office_step.specs.Step.{IsAppended, IsReached, reached_empty, reached_more}
-use Rattle.office_laws.specs.AtHand.{UnitReplies}
 use Rattle.office_laws.proofs.Inversion.{passes}
 use Rattle.office_laws.proofs.Grown.{units-more}
 use Rattle.office_laws.proofs.Reached.{act_made, acts_appended, books_are_kept}
@@ -34,12 +13,7 @@ use Rattle.office_laws.proofs.NewReplies.{one_unit_more, whole}
 
 named_earlier : (units more : List UnitRow) (name : List ℕ) (number : ℕ) → unit_named units name ≡ Some number → unit_named (units ++ more) name ≡ Some number
 named_earlier units more name number is =
-    ap (option_map (λ unit. unit.number)) (find-append (has_name name) units more) ∙ by_found (find (has_name name) units) is
-  where
-    by_found : (found : Option UnitRow) → option_map (λ unit. unit.number) found ≡ Some number →
-        option_map (λ unit. unit.number) (option_or found (find (has_name name) more)) ≡ Some number
-    by_found None is = absurd (cc)
-    by_found (Some unit) is = is
+    ap (option_map (λ unit. unit.number)) (find-append (has_name name) units more) ∙ grind (arith, common_steps, is)
 
 named_next : (units : List UnitRow) (unit : UnitRow) → unit_named units unit.name ≡ None → unit_named (units ++ unit ∷ []) unit.name ≡ Some unit.number
 named_next units unit none =
@@ -52,11 +26,7 @@ named_next units unit none =
     by_found (Some unit) none = absurd (cc)
 
 untaken : (units : List UnitRow) (name : List ℕ) → name_taken units name ≡ None → unit_named units name ≡ None
-untaken units name free = by_named (unit_named units name) free
-  where
-    by_named : (named : Option ℕ) → option_map (λ unit. refusal.NameTaken unit) named ≡ None → named ≡ None
-    by_named None free = refl
-    by_named (Some unit) free = absurd (cc)
+untaken units name free = option_map_none refusal.NameTaken (unit_named units name) free
 
 -- ---- one act more
 

@@ -1,32 +1,14 @@
 -- That the record of an accepted act is the next of its household.
-use Rattle.std.proofs.Common.{◌≡◌, ◌∙◌, refl, sym, subst, ℕ, ◌+◌, ◌≤◌, List, Option, Some, None, Bool, true, false, arith, length}
-use Rattle.std.specs.Prelude.{IfSome, is_some, nat_le, ◌&&◌, if◌then◌else◌, option_and_then}
-use Rattle.std.specs.Option.{option_map}
-use Rattle.std.proofs.lemmas.Bool.{false≢true}
-use Rattle.std.proofs.lemmas.Bool.Decides.{nat_tests}
-use Rattle.std.proofs.lemmas.Option.{none-some}
+use Rattle.office_register.proofs.Words.{◌≡◌, ◌∙◌, refl, sym, ℕ, ◌≤◌, List, Option, Some, None, Bool, true, false, arith, length, is_some, if◌then◌else◌, option_and_then, option_map, false≢true, none-some, Record, UnitRow, RentRow, unit_at, rents_on, StartAct, AdmitAct, Command, Known, HouseholdAct, no_applicant, no_unit, no_rent, no_plan, or_none, test_passed, household_there, IsAccepted, IsNext, common_steps}
 use Rattle.facts_core.specs.declared.facts.Facts.{Facts}
-use Rattle.record_history.specs.declared.records.Record.{Record}
-use Rattle.rent_table.specs.declared.rows.Unit.{Unit as UnitRow}
-use Rattle.rent_table.specs.declared.rows.RentRow.{RentRow}
-use Rattle.rent_table.specs.Table.{unit_at, rents_on}
 use Rattle.due_dates.specs.Stale.{unit_rents_on}
-use Rattle.book_rows.specs.declared.certifications.StartAct.{StartAct}
-use Rattle.book_rows.specs.declared.certifications.AdmitAct.{AdmitAct}
-use Rattle.book_rows.specs.declared.command.Command.{Command}
 use Rattle.book_rows.specs.declared.command.Command.TheVariants as command
-use Rattle.office_step.specs.declared.refusal.Refusal.{Refusal}
 use Rattle.office_step.specs.declared.refusal.Refusal.TheVariants as refusal
 use Rattle.office_step.specs.declared.refusal.Named.TheVariants as named
 use Rattle.office_step.specs.declared.heading.Heading.{Heading}
-use Rattle.office_step.specs.Known.{Known, own_in}
-use Rattle.book_rows.specs.declared.household.HouseholdAct.{HouseholdAct}
 use Rattle.office_step.specs.Made.{record_of, rents_in_unit, made_of_facts, heading_of}
-use Rattle.office_step.specs.Refusals.{no_applicant, no_unit, no_rent, no_plan}
 use Rattle.office_step.specs.Against.{no_household, no_such_in}
-use Rattle.office_step.proofs.Passed.{or_none, test_passed, household_there}
 use Rattle.office_step.proofs.Headed.{IsHeaded, made_is_headed, IsNextUnder, next_under, of_household, under_own}
-use Rattle.office_register.specs.Accepted.{IsAccepted, IsNext}
 use Rattle.office_register.proofs.Standing.{passes}
 
 -- ---- a household that there is
@@ -68,8 +50,7 @@ and_then_there make None there is = absurd (false≢true there)
 and_then_there make (Some a) there is = is a
 
 map_there : {B C : Type 0} (make : B → C) (given : Option B) → is_some given ≡ true → is_some (option_map make given) ≡ true
-map_there make None there = there
-map_there make (Some b) there = refl
+map_there make given there = grind (arith, common_steps, there)
 
 rents_there : (units : List UnitRow) (rents : List RentRow) (unit day : ℕ) → no_unit units unit ≡ None → no_rent units rents unit day ≡ None →
     is_some (unit_rents_on units rents unit day) ≡ true

@@ -1,28 +1,12 @@
 -- What holds of everything that is known holds again when there is more.
-use Rattle.std.proofs.Common.{◌≡◌, refl, ℕ, ◌+◌, ◌-◌, ◌≤◌, ◌<◌, List, [], ◌∷◌, ◌++◌, length, set, get_or, Option, Some, None, Bool, true, false, inl, inr, arith}
-use Rattle.std.specs.Prelude.{All, IfSome, ◌⊎◌, not, ◌==◌, if◌then◌else◌, max, fold, sum_by}
-use Rattle.std.proofs.lemmas.Option.{IfSome_then}
-use Rattle.std.proofs.lemmas.List.{length_push, length-set, set_past}
+use Rattle.office_register.proofs.Words.{◌≡◌, refl, ℕ, ◌+◌, ◌-◌, ◌≤◌, ◌<◌, List, [], ◌∷◌, ◌++◌, length, set, get_or, Option, Some, None, Bool, true, false, inl, inr, arith, All, IfSome, ◌⊎◌, not, ◌==◌, if◌then◌else◌, max, fold, sum_by, IfSome_then, length_push, length-set, set_past, cases_lt, All-weaker, All-push, All-filter, All-set, All-nil, All-tail, Record, records_of, with_record, Plan, UnitRow, RentRow, Applicant, without, is_plan, are_rents, Known, HasDates, AreUnits, AreRents, AreLimits, AreApplicants, AreHouseholds, IsClosing, IsSound, with_household, with_further, cond_both}
 use Rattle.std.proofs.lemmas.List.Sums.{sum_by_push, sum_by-set}
-use Rattle.std.proofs.lemmas.Bool.{cases_lt}
-use Rattle.std.proofs.lemmas.List.Elements.{All-weaker, All-push, All-filter, All-set, All-nil, All-tail}
-use Rattle.record_history.specs.declared.records.Record.{Record}
-use Rattle.record_history.specs.Held.{records_of, with_record}
 use Rattle.record_history.specs.Records.{newest_act}
-use Rattle.rent_table.specs.declared.plan.Plan.{Plan}
-use Rattle.rent_table.specs.declared.rows.Unit.{Unit as UnitRow}
-use Rattle.rent_table.specs.declared.rows.RentRow.{RentRow}
 use Rattle.rent_table.specs.declared.rows.LimitRow.{LimitRow}
-use Rattle.wait_list.specs.declared.applicant.Applicant.{Applicant}
-use Rattle.wait_list.specs.Waiting.{without}
-use Rattle.book_rows.specs.Fit.{is_plan, are_rents}
 use Rattle.office_step.specs.declared.known.Application.{Application}
 use Rattle.office_step.specs.declared.known.Request.{Request}
 use Rattle.office_step.specs.declared.known.Closed.{Closed}
-use Rattle.office_step.specs.Known.{Known}
-use Rattle.office_register.specs.Registered.{HasDates, AreUnits, AreRents, AreLimits, AreApplicants, AreHouseholds, IsClosing, IsSound}
-use Rattle.office_register.specs.Accepted.{with_household, with_further}
-use Rattle.office_register.proofs.Lists.{at_place}
+use Rattle.record_history.proofs.Latest.{records_are}
 
 -- ---- after one more act
 
@@ -46,9 +30,6 @@ applicants_later {count} {applications} {waiting} are = record {
   acts = All-weaker (λ applicant. applicant.act ≤ count) (λ applicant. applicant.act ≤ count + 1) (λ applicant by. omega arith) waiting are.acts;
 }
 
-acts_by : ℕ → List Record → Type 0
-acts_by count records = All (λ r. r.act ≤ count) records
-
 households_later : {count : ℕ} {names : List (List ℕ)} {households : List (List Record)} {requests : List (Option Request)} →
     AreHouseholds count names households requests → AreHouseholds (count + 1) names households requests
 households_later {count} {names} {households} {requests} are = record {
@@ -64,17 +45,33 @@ households_later {count} {names} {households} {requests} are = record {
 closing_later : (count : ℕ) (closing : Option Closed) → IfSome closing (IsClosing count) → IfSome closing (IsClosing (count + 1))
 closing_later count closing is = IfSome_then closing is (λ closed by. record { month = by.month; act = omega (arith, by.act) })
 
-pub sound_pass : (known : Known) → IsSound known → known.count < 100000 → IsSound (record known { count = known.count + 1 })
-sound_pass known s few = record {
+-- after one more act, with these rows
+sound_next : (known : Known) → IsSound known → known.count < 100000 → {units : List UnitRow} {rents : List RentRow} {limits : List LimitRow}
+    {applications : List Application} {waiting : List Applicant} {names : List (List ℕ)} {households : List (List Record)} {requests : List (Option Request)}
+    {closing : Option Closed} → AreUnits (known.count + 1) units → AreRents (known.count + 1) rents → AreLimits (known.count + 1) limits →
+    AreApplicants (known.count + 1) applications waiting → AreHouseholds (known.count + 1) names households requests → IfSome closing (IsClosing (known.count + 1)) →
+    IsSound (record known {
+      count = known.count + 1;
+      units = units;
+      rents = rents;
+      limits = limits;
+      applications = applications;
+      waiting = waiting;
+      names = names;
+      households = households;
+      requests = requests;
+      closing = closing;
+    })
+sound_next known s few units rents limits applicants households closing = record {
   count = omega arith;
   plan = s.plan;
   plan_act = s.plan_act;
-  units = units_later s.units;
-  rents = rents_later s.rents;
-  limits = limits_later known.count known.limits s.limits;
-  applicants = applicants_later s.applicants;
-  households = households_later s.households;
-  closing = closing_later known.count known.closing s.closing;
+  units = units;
+  rents = rents;
+  limits = limits;
+  applicants = applicants;
+  households = households;
+  closing = closing;
 }
 
 -- ---- with a row more
@@ -107,17 +104,9 @@ units_push count units unit are number bedrooms =
 
 pub sound_unit : (known : Known) (unit : UnitRow) → IsSound known → known.count < 100000 → unit.number ≡ length known.units + 1 → unit.bedrooms ≤ 5 →
     IsSound (record known { count = known.count + 1; units = known.units ++ unit ∷ [] })
-sound_unit known unit s few number bedrooms = record {
-  count = omega arith;
-  plan = s.plan;
-  plan_act = s.plan_act;
-  units = units_push known.count known.units unit s.units number bedrooms;
-  rents = rents_later s.rents;
-  limits = limits_later known.count known.limits s.limits;
-  applicants = applicants_later s.applicants;
-  households = households_later s.households;
-  closing = closing_later known.count known.closing s.closing;
-}
+sound_unit known unit s few number bedrooms =
+    sound_next known s few (units_push known.count known.units unit s.units number bedrooms) (rents_later s.rents) (limits_later known.count known.limits s.limits) (applicants_later s.applicants)
+    (households_later s.households) (closing_later known.count known.closing s.closing)
 
 rents_push : (count : ℕ) (rents : List RentRow) (row : RentRow) → AreRents count rents → row.act ≡ count + 1 → are_rents row.rents ≡ true →
     AreRents (count + 1) (rents ++ row ∷ [])
@@ -130,31 +119,15 @@ rents_push count rents row are act within =
 
 pub sound_rents : (known : Known) (row : RentRow) → IsSound known → known.count < 100000 → row.act ≡ known.count + 1 → are_rents row.rents ≡ true →
     IsSound (record known { count = known.count + 1; rents = known.rents ++ row ∷ [] })
-sound_rents known row s few act within = record {
-  count = omega arith;
-  plan = s.plan;
-  plan_act = s.plan_act;
-  units = units_later s.units;
-  rents = rents_push known.count known.rents row s.rents act within;
-  limits = limits_later known.count known.limits s.limits;
-  applicants = applicants_later s.applicants;
-  households = households_later s.households;
-  closing = closing_later known.count known.closing s.closing;
-}
+sound_rents known row s few act within =
+    sound_next known s few (units_later s.units) (rents_push known.count known.rents row s.rents act within) (limits_later known.count known.limits s.limits) (applicants_later s.applicants)
+    (households_later s.households) (closing_later known.count known.closing s.closing)
 
 pub sound_limits : (known : Known) (row : LimitRow) → IsSound known → known.count < 100000 → row.act ≡ known.count + 1 →
     IsSound (record known { count = known.count + 1; limits = known.limits ++ row ∷ [] })
-sound_limits known row s few act = record {
-  count = omega arith;
-  plan = s.plan;
-  plan_act = s.plan_act;
-  units = units_later s.units;
-  rents = rents_later s.rents;
-  limits = All-push (λ r. r.act ≤ known.count + 1) known.limits row (limits_later known.count known.limits s.limits) (omega arith);
-  applicants = applicants_later s.applicants;
-  households = households_later s.households;
-  closing = closing_later known.count known.closing s.closing;
-}
+sound_limits known row s few act =
+    sound_next known s few (units_later s.units) (rents_later s.rents) (All-push (λ r. r.act ≤ known.count + 1) known.limits row (limits_later known.count known.limits s.limits) (omega arith)) (applicants_later s.applicants)
+    (households_later s.households) (closing_later known.count known.closing s.closing)
 
 applicants_push : (count : ℕ) (applications : List Application) (waiting : List Applicant) (application : Application) (applicant : Applicant) →
     AreApplicants count applications waiting → applicant.number ≡ length applications + 1 → applicant.act ≡ count + 1 →
@@ -173,17 +146,9 @@ applicants_push count applications waiting application applicant are number act 
 pub sound_application : (known : Known) (application : Application) (applicant : Applicant) → IsSound known → known.count < 100000 →
     applicant.number ≡ length known.applications + 1 → applicant.act ≡ known.count + 1 →
     IsSound (record known { count = known.count + 1; applications = known.applications ++ application ∷ []; waiting = known.waiting ++ applicant ∷ [] })
-sound_application known application applicant s few number act = record {
-  count = omega arith;
-  plan = s.plan;
-  plan_act = s.plan_act;
-  units = units_later s.units;
-  rents = rents_later s.rents;
-  limits = limits_later known.count known.limits s.limits;
-  applicants = applicants_push known.count known.applications known.waiting application applicant s.applicants number act;
-  households = households_later s.households;
-  closing = closing_later known.count known.closing s.closing;
-}
+sound_application known application applicant s few number act =
+    sound_next known s few (units_later s.units) (rents_later s.rents) (limits_later known.count known.limits s.limits) (applicants_push known.count known.applications known.waiting application applicant s.applicants number act)
+    (households_later s.households) (closing_later known.count known.closing s.closing)
 
 pub sound_without : (known : Known) (number : ℕ) → IsSound known → IsSound (record known { waiting = without number known.waiting })
 sound_without known number s = record {
@@ -202,52 +167,11 @@ sound_without known number s = record {
   closing = s.closing;
 }
 
-pub sound_closing : (known : Known) (closing : Closed) → IsSound known → known.count < 100000 → closing.month ≤ 2639 → closing.act ≡ known.count + 1 →
-    IsSound (record known { count = known.count + 1; closing = Some closing })
-sound_closing known closing s few month act = record {
-  count = omega arith;
-  plan = s.plan;
-  plan_act = s.plan_act;
-  units = units_later s.units;
-  rents = rents_later s.rents;
-  limits = limits_later known.count known.limits s.limits;
-  applicants = applicants_later s.applicants;
-  households = households_later s.households;
-  closing = record { month = month; act = omega arith };
-}
-
-pub sound_request : (known : Known) (place : ℕ) (request : Option Request) → IsSound known → known.count < 100000 →
-    IsSound (record known { count = known.count + 1; requests = set known.requests place request })
-sound_request known place request s few =
-    let later : AreHouseholds (known.count + 1) known.names known.households known.requests = households_later s.households in
-    record {
-      count = omega arith;
-      plan = s.plan;
-      plan_act = s.plan_act;
-      units = units_later s.units;
-      rents = rents_later s.rents;
-      limits = limits_later known.count known.limits s.limits;
-      applicants = applicants_later s.applicants;
-      households = record {
-        few = later.few;
-        records = later.records;
-        one_name = later.one_name;
-        one_request = rw length-set later.one_request;
-        acts = later.acts;
-        dates = later.dates;
-      };
-      closing = closing_later known.count known.closing s.closing;
-    }
-
 -- ---- with a record more
 
 -- the records of a household are among those of all
 records_kept : (P : Record → Type 0) (households : List (List Record)) (household : ℕ) → All (All P) households → All P (records_of households household)
-records_kept P households household all = either (household == 0)
-  where
-    either : (is : Bool) → All P (if is then [] else get_or households (household - 1) [])
-    either true = All-nil P
-    either false = at_place (All P) households (household - 1) [] all (All-nil P)
+records_kept P households household all = records_are (All P) households household all (All-nil P)
 
 record_pushed : (P : Record → Type 0) (households : List (List Record)) (r : Record) → All (All P) households → P r → All (All P) (with_record households r)
 record_pushed P households r all is =
@@ -256,11 +180,8 @@ record_pushed P households r all is =
 
 -- no household has more records than one more
 more_in_place : (households : List (List Record)) (household : ℕ) → length (records_of households household) ≤ length (get_or households (household - 1) [])
-more_in_place households household = either (household == 0)
-  where
-    either : (is : Bool) → length (if is then [] else get_or households (household - 1) []) ≤ length (get_or households (household - 1) [])
-    either true = omega arith
-    either false = omega arith
+more_in_place households household =
+    cond_both (household == 0) _ _ (λ own. length own ≤ length (get_or households (household - 1) [])) (λ _. omega arith) (λ _. omega arith)
 
 -- all have no more records than one more
 one_more : (households : List (List Record)) (r : Record) → sum_by length (with_record households r) ≤ sum_by length households + 1
@@ -290,17 +211,9 @@ households_push count names households requests r are act dates =
     }
 
 pub sound_further : (known : Known) (r : Record) → IsSound known → known.count < 100000 → r.act ≡ known.count + 1 → HasDates r → IsSound (with_further known r)
-sound_further known r s few act dates = record {
-  count = omega arith;
-  plan = s.plan;
-  plan_act = s.plan_act;
-  units = units_later s.units;
-  rents = rents_later s.rents;
-  limits = limits_later known.count known.limits s.limits;
-  applicants = applicants_later s.applicants;
-  households = households_push known.count known.names known.households known.requests r s.households act dates;
-  closing = closing_later known.count known.closing s.closing;
-}
+sound_further known r s few act dates =
+    sound_next known s few (units_later s.units) (rents_later s.rents) (limits_later known.count known.limits s.limits) (applicants_later s.applicants)
+    (households_push known.count known.names known.households known.requests r s.households act dates) (closing_later known.count known.closing s.closing)
 
 household_added : (count : ℕ) (names : List (List ℕ)) (households : List (List Record)) (requests : List (Option Request)) (name : List ℕ) (r : Record) →
     AreHouseholds count names households requests → r.act ≡ count + 1 → HasDates r →
@@ -321,17 +234,9 @@ household_added count names households requests name r are act dates =
 
 pub sound_household : (known : Known) (name : List ℕ) (r : Record) → IsSound known → known.count < 100000 → r.act ≡ known.count + 1 → HasDates r →
     IsSound (with_household known name r)
-sound_household known name r s few act dates = record {
-  count = omega arith;
-  plan = s.plan;
-  plan_act = s.plan_act;
-  units = units_later s.units;
-  rents = rents_later s.rents;
-  limits = limits_later known.count known.limits s.limits;
-  applicants = applicants_later s.applicants;
-  households = household_added known.count known.names known.households known.requests name r s.households act dates;
-  closing = closing_later known.count known.closing s.closing;
-}
+sound_household known name r s few act dates =
+    sound_next known s few (units_later s.units) (rents_later s.rents) (limits_later known.count known.limits s.limits) (applicants_later s.applicants)
+    (household_added known.count known.names known.households known.requests name r s.households act dates) (closing_later known.count known.closing s.closing)
 
 -- ---- the newest act
 

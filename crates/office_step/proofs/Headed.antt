@@ -82,10 +82,4 @@ of_household known household (change.Correct correct) heading is =
 of_household known household (change.Withdraw withdraw) heading is =
     option_map_some (λ target. withdrawal_heading household target) (record_at (own_in known household) withdraw.target) heading is
     (λ target found same. sym (ap (λ (h : Heading). h.household) same))
-of_household known household (change.Annual annual) heading is = sym (ap (λ (h : Heading). h.household) (same_Some _ heading is))
-of_household known household (change.Interim interim) heading is = sym (ap (λ (h : Heading). h.household) (same_Some _ heading is))
-of_household known household (change.Resume resume) heading is = sym (ap (λ (h : Heading). h.household) (same_Some _ heading is))
-of_household known household (change.Gross gross) heading is = sym (ap (λ (h : Heading). h.household) (same_Some _ heading is))
-of_household known household (change.Transfer transfer) heading is = sym (ap (λ (h : Heading). h.household) (same_Some _ heading is))
-of_household known household (change.MoveOut move_out) heading is = sym (ap (λ (h : Heading). h.household) (same_Some _ heading is))
-of_household known household (change.Terminate terminate) heading is = sym (ap (λ (h : Heading). h.household) (same_Some _ heading is))
+of_household known household _ heading is = cc

@@ -1,10 +1,5 @@
 -- One day more in stretches of days.
-use Rattle.std.proofs.Common.{◌≡◌, ℕ, zero, suc, refl, ◌-◌, ◌<◌, List, [], ◌∷◌, ◌++◌, length, reverse, get_or, set, Bool, true, false, ap, sym, ◌∙◌, subst, arith, length-append}
-use Rattle.std.proofs.Math.Seq.{set-append_seam, get_or-append_seam}
-use Rattle.std.proofs.lemmas.List.{set-get_or}
-use Rattle.std.proofs.lemmas.Grind.{reverse_onto}
-use Rattle.record_history.specs.declared.stretch.Stretch.{Stretch}
-use Rattle.record_history.specs.Stretch.{with_day}
+use Rattle.record_history.proofs.Words.{◌≡◌, ℕ, zero, suc, refl, ◌-◌, ◌<◌, List, [], ◌∷◌, ◌++◌, length, reverse, get_or, set, Bool, true, false, ap, sym, ◌∙◌, subst, arith, length-append, set-append_seam, get_or-append_seam, set-get_or, reverse_onto, Stretch, with_day}
 
 -- where a number above 0 is against the facts it is 0
 pub none_there : (n : ℕ) → (0 < n → false ≡ true) → n ≡ 0

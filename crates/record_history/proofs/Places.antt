@@ -1,12 +1,6 @@
 -- Vectors of which one changes.
-use Rattle.std.proofs.Common.{◌≡◌, ◌⊎◌, inl, inr, ℕ, ◌-◌, ◌<◌, ◌≤◌, List, [], ◌∷◌, length, get_or, set, ap, sym, ◌∙◌, subst, arith, refl, ◌++◌, zero, suc, Vec}
-use Rattle.std.specs.Prelude.{vec_items, vec_len, vec_capacity, nat_lt, false, if◌then◌else◌}
+use Rattle.record_history.proofs.Words.{◌≡◌, ◌⊎◌, inl, inr, ℕ, ◌-◌, ◌<◌, ◌≤◌, List, [], ◌∷◌, length, get_or, set, ap, sym, ◌∙◌, subst, arith, refl, ◌++◌, zero, suc, Vec, vec_items, vec_len, vec_capacity, nat_lt, false, if◌then◌else◌, length-map, length_push, map-set, get_or-map, get_or-set_same, get_or-set_other, get_or_past, get_or_push, set_at, map-set_same, cases_eq, nat_tests, with_place, lists_in, room_in}
 use Rattle.std.specs.declared.alloc.Global.{Global}
-use Rattle.std.proofs.lemmas.List.{length-map, length_push, map-set, get_or-map, get_or-set_same, get_or-set_other, get_or_past, get_or_push, set_at}
-use Rattle.std.proofs.Math.Seq.{map-set_same}
-use Rattle.std.proofs.lemmas.Bool.{cases_eq}
-use Rattle.std.proofs.lemmas.Bool.Decides.{nat_tests}
-use Rattle.record_history.specs.Held.{with_place, lists_in, room_in}
 
 -- where there is room there is a place
 there : (xs : List ℕ) (place : ℕ) → 1 ≤ get_or xs place 0 → place < length xs

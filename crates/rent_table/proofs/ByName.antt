@@ -1,22 +1,12 @@
 -- A unit by its name, found among the places in the order of names.
-use Rattle.std.proofs.Common.{◌≡◌, ◌∙◌, sym, ap, ℕ, ◌+◌, ◌≤◌, ◌<◌, nat_eq, Bool, true, false, List, [], ◌∷◌, ◌++◌, length, suc, get_or, subst, inl, inr, arith, length-append}
-use Rattle.std.specs.Prelude.{Option, Some, None, find, slice_get}
+use Rattle.rent_table.proofs.Words.{◌≡◌, ◌∙◌, sym, ap, ℕ, ◌+◌, ◌≤◌, ◌<◌, nat_eq, Bool, true, false, List, [], ◌∷◌, ◌++◌, length, suc, get_or, subst, inl, inr, arith, length-append, Option, Some, None, find, slice_get, pointwise, slice_cmp, same_text, insert, range_with_len, option_map_or, nat_list_cmp_total, ranks_by, UnitRow, name_at, is_before, AreByName, has_name, HaveOwnNames, find_key, IsSortedBy-insert, find_own, none_at_places, places_within, all_places-insert}
 use Rattle.std.specs.Cmp.{IsStrictWeakOrder}
-use Rattle.std.specs.Cmp.Lexicographic.{pointwise, slice_cmp, same_text}
-use Rattle.std.specs.List.{insert, range_with_len}
 use Rattle.std.specs.List.Sorted.{IsPartitionPoint, IsPermutation}
-use Rattle.std.specs.Option.{option_map_or}
 use Rattle.std.specs.Ordering.{nat_cmp, is_lt}
-use Rattle.std.proofs.lemmas.Cmp.{nat_list_cmp_total}
-use Rattle.std.proofs.lemmas.List.Sorted.{ranks_by}
 use Rattle.std.proofs.lemmas.Map.Text.{is_eq-slice_cmp}
 use Rattle.std.proofs.lemmas.Option.{none-some, slice_get_cases, slice_get_within, get_or_from_slice_get}
-use Rattle.rent_table.specs.declared.rows.Unit.{Unit as UnitRow}
-use Rattle.rent_table.specs.Names.{name_at, is_before, AreByName}
-use Rattle.rent_table.specs.Table.{has_name, HaveOwnNames}
 use Rattle.row_index.proofs.Points.{if_passes, found_not_there, nothing_there}
-use Rattle.row_index.proofs.Keyed.{find_key, IsSortedBy-insert}
-use Rattle.row_index.proofs.Places.{find_own, none_at_places, places_within, all_places-insert, slice_get-earlier, slice_get-last}
+use Rattle.list_laws.proofs.Elements.{slice_get-append, slice_get-last}
 
 -- the unit at that place has the name
 abbrev has_name_at : List UnitRow → List ℕ → ℕ → Bool
@@ -64,7 +54,7 @@ own_name units own name place unit at is =
 
 -- a unit more leaves each its name
 name_at-earlier : (units : List UnitRow) (unit : UnitRow) (place : ℕ) → place < length units → name_at (units ++ unit ∷ []) place ≡ name_at units place
-name_at-earlier units unit place within = ap (λ (there : Option UnitRow). option_map_or (λ u. u.name) there []) (slice_get-earlier units unit place within)
+name_at-earlier units unit place within = ap (λ (there : Option UnitRow). option_map_or (λ u. u.name) there []) (slice_get-append units (unit ∷ []) place within)
 
 name_at-last : (units : List UnitRow) (unit : UnitRow) → name_at (units ++ unit ∷ []) (length units) ≡ unit.name
 name_at-last units unit = ap (λ (there : Option UnitRow). option_map_or (λ u. u.name) there []) (slice_get-last units unit)

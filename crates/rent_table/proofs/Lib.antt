@@ -1,2 +1,3 @@
+pub mod Words
 pub mod ByName
 pub mod OwnLemmas

@@ -1,7 +1,7 @@
 -- The first day on which a test passes is found among the beginnings.
 use Rattle.std.proofs.Common.{◌≡◌, ◌∙◌, sym, ℕ, zero, suc, ◌+◌, ◌<◌, ◌≤◌, Bool, true, false, List, [], ◌∷◌, Option, Some, None, refl, ap, subst, arith, ◌⊎◌, inl, inr}
 use Rattle.std.specs.Prelude.{◌&&◌, nat_le, nat_lt, filter, All, Contains, IfSome, IsSomeAnd, if◌then◌else◌}
-use Rattle.std.proofs.lemmas.Bool.{false≢true, cases_lt, and_parts}
+use Rattle.std.proofs.lemmas.Bool.{false≢true, cases_lt, and_parts, leb-true, leb-false, le-leb, ltb-true, ltb-false, cases_order}
 use Rattle.std.proofs.lemmas.Bool.Decides.{nat_tests}
 use Rattle.std.proofs.lemmas.List.Elements.{All-nil, All-cons, All-head, All-tail}
 use Rattle.row_choice.specs.Latest.{IsRowOrder}
@@ -15,30 +15,20 @@ IsFirst passes first count (Some found) =
     (first ≤ found) × (found < first + count) × (passes found ≡ true)
     × ((day : ℕ) → first ≤ day → day < found → passes day ≡ false)
 
--- the first day itself, or a later one
-by_first : (first day : ℕ) → first ≤ day → (first ≡ day) ⊎ (first + 1 ≤ day)
-by_first first day le = (
-    let cases : (first < day) ⊎ (day ≤ first) = cases_lt first day in
-    either cases)
-  where
-    either : (first < day) ⊎ (day ≤ first) → (first ≡ day) ⊎ (first + 1 ≤ day)
-    either (inl lt) = inr (omega (arith, lt))
-    either (inr ge) = inl (omega (arith, ge, le))
+-- what fails on the first day and later fails from the first day on
+fails_from : (passes : ℕ → Bool) (first end : ℕ) → passes first ≡ false → ((day : ℕ) → first + 1 ≤ day → day < end → passes day ≡ false) →
+    (day : ℕ) → first ≤ day → day < end → passes day ≡ false
+fails_from passes first end fails later day from to = elim (cases_lt first day) [
+  | inl lt ↦ later day (omega (arith, lt)) to
+  | inr ge ↦ let same : first ≡ day = omega (arith, ge, from) in subst (λ (d : ℕ). passes d ≡ false) same fails
+]
 
 -- a day that fails stands before the days that were searched
 goes_on : (passes : ℕ → Bool) (first count : ℕ) → passes first ≡ false → (found : Option ℕ) →
     IsFirst passes (first + 1) count found → IsFirst passes first (suc count) found
-goes_on passes first count fails None none = λ day from to. by_case day from to (by_first first day from)
-  where
-    by_case : (day : ℕ) → first ≤ day → day < first + suc count → (first ≡ day) ⊎ (first + 1 ≤ day) → passes day ≡ false
-    by_case day from to (inl same) = subst (λ (d : ℕ). passes d ≡ false) same fails
-    by_case day from to (inr after) = none day after (omega (arith, to))
+goes_on passes first count fails None none = fails_from passes first (first + suc count) fails (λ day from to. none day from (omega (arith, to)))
 goes_on passes first count fails (Some found) (after, by, is, none) =
-    (omega (arith, after), omega (arith, by), is, λ day from to. by_case day from to (by_first first day from))
-  where
-    by_case : (day : ℕ) → first ≤ day → day < found → (first ≡ day) ⊎ (first + 1 ≤ day) → passes day ≡ false
-    by_case day from to (inl same) = subst (λ (d : ℕ). passes d ≡ false) same fails
-    by_case day from to (inr next) = none day next to
+    (omega (arith, after), omega (arith, by), is, fails_from passes first found fails none)
 
 pub first-is : (passes : ℕ → Bool) (first count : ℕ) → IsFirst passes first count (first_day passes first count)
 first-is passes first zero = λ day from to. absurd (omega (arith, from, to))
@@ -49,6 +39,18 @@ first-is passes first (suc count) = by_test (passes first) refl (first-is passes
     by_test true is rest = (omega arith, omega arith, is, λ day from to. absurd (omega (arith, from, to)))
     by_test false is rest = goes_on passes first count is (first_day passes (first + 1) count) rest
 
+-- there is one first day at most
+pub same_first : (passes : ℕ → Bool) (first count : ℕ) (found other : Option ℕ) → IsFirst passes first count found → IsFirst passes first count other → found ≡ other
+same_first passes first count None None none other = refl
+same_first passes first count None (Some day) none (from, to, is, before) = absurd (false≢true (sym (none day from to) ∙ is))
+same_first passes first count (Some day) None (from, to, is, before) none = absurd (false≢true (sym (none day from to) ∙ is))
+same_first passes first count (Some day) (Some other) (from, to, is, before) (from', to', is', before') = by_order (cases_order day other)
+  where
+    by_order : (day ≡ other) ⊎ ((day < other) ⊎ (other < day)) → Some day ≡ Some other
+    by_order (inl same) = ap (λ (d : ℕ). Some d) same
+    by_order (inr (inl less)) = absurd (false≢true (sym (before' day from less) ∙ is))
+    by_order (inr (inr more)) = absurd (false≢true (sym (before other from' more) ∙ is'))
+
 -- where a day lies between two that are alike to a third, it is alike to the later
 alike_between : (c first between day : ℕ) → first ≤ between → between ≤ day → nat_le c first ≡ nat_le c day → nat_le c between ≡ nat_le c day
 alike_between c first between day from to same = grind (arith, nat_tests)
@@ -56,15 +58,6 @@ alike_between c first between day from to same = grind (arith, nat_tests)
 -- one that hasn't begun by the later hasn't by the earlier
 not_begun : (c earlier later : ℕ) → earlier ≤ later → nat_le c later ≡ false → nat_le c earlier ≡ false
 not_begun c earlier later le not = grind (arith, nat_tests)
-
-begun : (c day : ℕ) → nat_le c day ≡ true → c ≤ day
-begun c day is = grind (arith, nat_tests)
-
-later : (c day : ℕ) → nat_le c day ≡ false → day ≤ c
-later c day is = grind (arith, nat_tests)
-
-itself : (c : ℕ) → nat_le c c ≡ true
-itself c = grind (arith, nat_tests)
 
 -- the last of the beginnings by a day has what each of them has, and nothing begins between
 last_beginning : (P : ℕ → Type 0) (beginnings : List ℕ) (first day : ℕ) → P first → All P beginnings → first ≤ day →
@@ -79,13 +72,13 @@ last_beginning P (c ∷ cs) first day of_first all le = by_rest (last_beginning 
     moves : (b : ℕ) → first ≤ b → NothingBegins cs b day → nat_le c day ≡ true → nat_le c b ≡ false →
         (b : ℕ) × P b × (first ≤ b) × (b ≤ day) × NothingBegins (c ∷ cs) b day
     moves b from none by after =
-        let no_later : c ≤ day = begun c day by in
-        let no_earlier : b ≤ c = later c b after in (
+        let no_later : c ≤ day = leb-true c day by in
+        let no_earlier : b ≤ c = (let past = leb-false c b after in omega (arith, past)) in (
           c,
           All-head P c cs all,
           omega (arith, from, no_earlier),
           no_later,
-          All-cons (λ (x : ℕ). nat_le x c ≡ nat_le x day) c cs (itself c ∙ sym by)
+          All-cons (λ (x : ℕ). nat_le x c ≡ nat_le x day) c cs (le-leb c c (omega arith) ∙ sym by)
               (λ k d within. alike_between _ b c day no_earlier no_later (none k d within)),
         )
 
@@ -115,16 +108,8 @@ within-is : (first count day : ℕ) → first ≤ day → day < first + count �
 within-is first count day from to = grind (arith, nat_tests)
 
 is-within : (first count day : ℕ) → is_within first count day ≡ true → (first ≤ day) × (day < first + count)
-is-within first count day is = (after first count day is, by first count day is)
-  where
-    after : (first count day : ℕ) → is_within first count day ≡ true → first ≤ day
-    after first count day is = grind (arith, nat_tests)
-
-    by : (first count day : ℕ) → is_within first count day ≡ true → day < first + count
-    by first count day is = grind (arith, nat_tests)
-
-no_earlier : (b e x : ℕ) → b ≤ x → nat_lt b e ≡ false → e ≤ x
-no_earlier b e x le is = grind (arith, nat_tests)
+is-within first count day is =
+    let parts = and_parts (nat_le first day) (nat_lt day (first + count)) is in (leb-true first day parts.0, ltb-true day (first + count) parts.1)
 
 module _ (passes : ℕ → Bool) (first count : ℕ) where
   -- a day within that passes
@@ -141,7 +126,7 @@ module _ (passes : ℕ → Bool) (first count : ℕ) where
   same_day found None b first_is counted le no_later = absurd no_later
   same_day found (Some e) b (from, to, is, none) counted le no_later =
       let parts = and_parts (is_within first count e) (passes e) counted in
-      by_order (cases_lt e found) (no_earlier b e found le no_later) (is-within first count e parts.0) parts.1
+      by_order (cases_lt e found) (let from_b = ltb-false b e no_later in omega (arith, from_b, le)) (is-within first count e parts.0) parts.1
     where
       by_order : (e < found) ⊎ (found ≤ e) → e ≤ found → (first ≤ e) × (e < first + count) → passes e ≡ true → Some found ≡ Some e
       by_order (inl less) by within passed = absurd (false≢true (sym (none e within.0 less) ∙ passed))

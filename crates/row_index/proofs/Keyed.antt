@@ -1,14 +1,9 @@
 -- Lists in the order of keys of any type, and where a binary search among them ends.
-use Rattle.std.proofs.Common.{◌≡◌, ℕ, ◌+◌, ◌-◌, ◌<◌, ◌≤◌, Bool, true, false, List, length, get_or, refl, sym, ◌∙◌, ap, subst, arith}
-use Rattle.std.specs.Prelude.{find, slice_get}
+use Rattle.row_index.proofs.Words.{◌≡◌, ℕ, ◌+◌, ◌-◌, ◌<◌, ◌≤◌, Bool, true, false, List, length, get_or, refl, sym, ◌∙◌, ap, subst, arith, find, slice_get, insert, IsPartitionPoint, IsPartitionedBy, IsSortedBy, IsSortedByKey, false≢true, ranks_by, sorted_far, common_steps}
 use Rattle.std.specs.Cmp.{IsTotalOrder, IsStrictWeakOrder}
-use Rattle.std.specs.List.{insert}
-use Rattle.std.specs.List.Sorted.{IsPartitionPoint, IsPartitionedBy, IsSortedBy, IsSortedByKey}
 use Rattle.std.specs.Ordering.{is_lt, is_eq, ordering_reverse}
 use Rattle.std.specs.declared.cmp.Ordering.{Ordering}
-use Rattle.std.specs.declared.cmp.Ordering.TheVariants.{Less, Equal, Greater}
-use Rattle.std.proofs.lemmas.Bool.{false≢true}
-use Rattle.std.proofs.lemmas.List.Sorted.{ranks_by, sorted_far}
+use Rattle.std.specs.declared.cmp.Ordering.TheVariants.{Equal}
 use Rattle.std.proofs.lemmas.List.Edits.{length-insert, get_or-insert_below, get_or-insert_at, get_or-insert_above}
 use Rattle.row_index.proofs.Points.{if_passes, find_at_point}
 
@@ -54,19 +49,13 @@ module _ {K : Type 0} {R : K → K → Ordering} (order : IsTotalOrder R) {X : T
       (sorted_far (λ x y. is_lt (R (key x) (key y))) on_elements xs sorted i j d low high) is)
     where
       not_equal : (o : Ordering) → is_lt o ≡ true → is_eq o ≡ false
-      not_equal Less lower = refl
-      not_equal Equal lower = absurd (false≢true lower)
-      not_equal Greater lower = absurd (false≢true lower)
+      not_equal o lower = grind (arith, common_steps, lower)
 
       equal : (o : Ordering) → is_eq o ≡ true → o ≡ Equal
-      equal Less is = absurd (false≢true is)
-      equal Equal is = refl
-      equal Greater is = absurd (false≢true is)
+      equal o is = grind (arith, common_steps, is)
 
       neither : (o : Ordering) → is_lt o ≡ false → is_lt (ordering_reverse o) ≡ false → is_eq (ordering_reverse o) ≡ true
-      neither Less lower higher = absurd (false≢true (sym lower))
-      neither Equal lower higher = refl
-      neither Greater lower higher = absurd (false≢true (sym higher))
+      neither o lower higher = grind (arith, common_steps, lower, higher)
 
       another : (k : K) → is_lt (R k a) ≡ true → same k ≡ false
       another k lower = sym (agrees k) ∙ not_equal (R k a) lower

@@ -1,24 +1,14 @@
 -- Rows by a list of their places.
-use Rattle.std.proofs.Common.{◌≡◌, ◌≢◌, ℕ, zero, suc, ◌+◌, ◌<◌, Bool, true, false, List, [], ◌∷◌, ◌++◌, length, get_or, Some, None, refl, sym, ◌∙◌, ap, subst, arith}
-use Rattle.std.specs.Prelude.{if◌then◌else◌, find, slice_get, All, AllPairs, Contains}
-use Rattle.std.specs.List.{insert, range_with_len}
-use Rattle.std.specs.List.Sorted.{IsPermutation}
-use Rattle.std.proofs.lemmas.List.Sorted.{IsPermutation-insert, IsPermutation-to_front, IsPermutation-cons, IsPermutation-trans, All-permutation, Contains-permutation}
+use Rattle.row_index.proofs.Words.{◌≡◌, ◌≢◌, ℕ, zero, suc, ◌<◌, Bool, true, false, List, [], ◌∷◌, ◌++◌, length, get_or, Some, None, sym, ◌∙◌, ap, subst, arith, find, slice_get, All, AllPairs, Contains, insert, range_with_len, IsPermutation, IsPermutation-insert, IsPermutation-to_front, IsPermutation-cons, IsPermutation-trans, All-permutation, Contains-permutation, All-contains, find_fails, find_none, common_steps}
 use Rattle.std.proofs.lemmas.List.FromFn.{length-range_with_len, get_or-range_with_len}
-use Rattle.std.proofs.lemmas.List.Elements.{All-contains}
 use Rattle.std.proofs.lemmas.Option.{none-some, slice_get_within, slice_get-get_or, get_or_from_slice_get}
-use Rattle.row_index.proofs.Points.{none_found, All-not_found}
-
--- the numbers from one on, and one more
-range_push : (a n last : ℕ) → last ≡ a + n → range_with_len a (suc n) ≡ range_with_len a n ++ last ∷ []
-range_push a zero last is = ap (λ k. k ∷ []) (omega (arith, is))
-range_push a (suc n) last is = ap (λ ks. a ∷ ks) (range_push (a + 1) n last (omega (arith, is)))
+use Rattle.list_laws.proofs.Ranges.{range_more}
 
 -- all places, and one more that is put in anywhere
 pub all_places-insert : (n i : ℕ) (places : List ℕ) → IsPermutation (range_with_len 0 n) places →
     IsPermutation (range_with_len 0 (suc n)) (insert places i n)
 all_places-insert n i places all =
-    subst (λ ks. IsPermutation ks (insert places i n)) {x = range_with_len 0 n ++ n ∷ []} (sym (range_push 0 n n (omega arith)))
+    subst (λ ks. IsPermutation ks (insert places i n)) {x = range_with_len 0 n ++ n ∷ []} (sym (range_more 0 n n (omega arith)))
     (IsPermutation-trans _ _ _ (IsPermutation-to_front (range_with_len 0 n) n)
     (IsPermutation-trans _ _ _ (IsPermutation-cons n (range_with_len 0 n) places all) (IsPermutation-insert places i n)))
 
@@ -43,9 +33,9 @@ pub none_at_places : {Row : Type 0} (passes : Row → Bool) (rows : List Row) (p
     ((place : ℕ) (row : Row) → slice_get rows place ≡ Some row → passes_at place ≡ passes row) →
     find passes_at places ≡ None → find passes rows ≡ None
 none_at_places passes rows places passes_at all agrees none =
-    none_found passes rows
+    find_fails passes rows
     (λ k d within. sym (agrees k (get_or rows k d) (slice_get-get_or rows k d within))
-    ∙ All-contains (λ place. passes_at place ≡ false) places k (All-not_found passes_at places none) (place_there (length rows) places all k within))
+    ∙ All-contains (λ place. passes_at place ≡ false) places k (find_none passes_at places none) (place_there (length rows) places all k within))
 
 -- a row that passes is the one that is found, where none that passes has another's key
 pub find_own : {Row K : Type 0} (key : Row → K) (a : K) (passes : Row → Bool) → ((row : Row) → passes row ≡ true → key row ≡ a) →
@@ -56,25 +46,9 @@ find_own key a passes means (first ∷ rows) own zero row is passed =
     let same : first ≡ row = get_or_from_slice_get (first ∷ rows) 0 row row is in
     rw (ap passes same ∙ passed) is
 find_own key a passes means (first ∷ rows) own (suc place) row is passed =
-    by (passes first) refl (find_own key a passes means rows (λ i j d before within. own (suc i) (suc j) d (omega arith) (omega (arith, within))) place row is passed)
+    grind (arith, common_steps, other, find_own key a passes means rows (λ i j d before within. own (suc i) (suc j) d (omega arith) (omega (arith, within))) place row is passed)
   where
     other : passes first ≡ true → ⊥
     other same =
         own 0 (suc place) row (omega arith) (omega (arith, slice_get_within rows place row is))
         (means first same ∙ sym (means row passed) ∙ ap key (sym (get_or_from_slice_get rows place row row is)))
-
-    by : (b : Bool) → passes first ≡ b → find passes rows ≡ Some row → (if b then Some first else find passes rows) ≡ Some row
-    by true same later = absurd (other same)
-    by false same later = later
-
--- a row more leaves each at its place
-pub slice_get-earlier : {Row : Type 0} (rows : List Row) (row : Row) (place : ℕ) → place < length rows →
-    slice_get (rows ++ row ∷ []) place ≡ slice_get rows place
-slice_get-earlier [] row place within = absurd (omega (arith, within))
-slice_get-earlier (first ∷ rows) row zero within = refl
-slice_get-earlier (first ∷ rows) row (suc place) within = slice_get-earlier rows row place (omega (arith, within))
-
--- and stands at the last
-pub slice_get-last : {Row : Type 0} (rows : List Row) (row : Row) → slice_get (rows ++ row ∷ []) (length rows) ≡ Some row
-slice_get-last [] row = refl
-slice_get-last (first ∷ rows) row = slice_get-last rows row

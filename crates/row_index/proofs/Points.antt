@@ -1,32 +1,9 @@
 -- What a list has at the point where a binary search ended.
-use Rattle.std.proofs.Common.{◌≡◌, ◌≢◌, ℕ, zero, suc, ◌<◌, ◌≤◌, Bool, true, false, List, [], ◌∷◌, length, get_or, Option, Some, None, eqb, refl, sym, ◌∙◌, ap, arith}
-use Rattle.std.specs.Prelude.{find, All, if◌then◌else◌, nat_lt, slice_get}
-use Rattle.std.specs.List.{AllWithin}
-use Rattle.std.specs.List.Sorted.{IsPartitionPoint, IsNonDecreasingBy}
-use Rattle.std.proofs.lemmas.Bool.{false≢true}
-use Rattle.std.proofs.lemmas.Bool.Decides.{nat_tests}
-use Rattle.std.proofs.lemmas.List.Elements.{All-nil, All-cons, All-head, All-tail}
+use Rattle.row_index.proofs.Words.{◌≡◌, ◌≢◌, ℕ, zero, suc, ◌<◌, ◌≤◌, Bool, true, false, List, [], ◌∷◌, length, get_or, Option, Some, None, eqb, refl, sym, ◌∙◌, ap, arith, find, if◌then◌else◌, nat_lt, slice_get, AllWithin, IsPartitionPoint, IsNonDecreasingBy, false≢true, nat_tests, find_fails, option_and_then}
 
 -- the element that is there, where it passes
 abbrev pub if_passes : {X : Type 0} → (X → Bool) → Option X → Option X
-if_passes passes None = None
-if_passes passes (Some x) = if passes x then Some x else None
-
--- where no element passes, none is found
-pub none_found : {X : Type 0} (passes : X → Bool) (xs : List X) → All (λ x. passes x ≡ false) xs → find passes xs ≡ None
-none_found passes [] none = refl
-none_found passes (x ∷ xs) none = rw (All-head (λ x. passes x ≡ false) x xs none) (none_found passes xs (All-tail (λ x. passes x ≡ false) x xs none))
-
--- whether the first element passes or not
-found_or_not : {X : Type 0} (passes : X → Bool) (x : X) (xs : List X) (b : Bool) → passes x ≡ b →
-    (if b then Some x else find passes xs) ≡ None → (find passes xs ≡ None → All (λ y. passes y ≡ false) xs) → All (λ y. passes y ≡ false) (x ∷ xs)
-found_or_not passes x xs true is none rest = absurd (cc)
-found_or_not passes x xs false is none rest = All-cons (λ y. passes y ≡ false) x xs is (rest none)
-
--- where none is found, no element passes
-pub All-not_found : {X : Type 0} (passes : X → Bool) (xs : List X) → find passes xs ≡ None → All (λ x. passes x ≡ false) xs
-All-not_found passes [] none = All-nil (λ x. passes x ≡ false)
-All-not_found passes (x ∷ xs) none = found_or_not passes x xs (passes x) refl none (All-not_found passes xs)
+if_passes passes = option_and_then (λ x. if passes x then Some x else None)
 
 -- no element before the place passes, and where one from there on passes, the one at the place does: then it alone may
 -- be the first that passes
@@ -43,7 +20,7 @@ find_at_point passes (x ∷ xs) zero le before from = by (passes x) refl
 
     by : (b : Bool) → passes x ≡ b → (if b then Some x else find passes xs) ≡ (if b then Some x else None)
     by true is = refl
-    by false is = none_found passes xs (λ k d within. by_rest is (passes (get_or xs k d)) k within d refl)
+    by false is = find_fails passes xs (λ k d within. by_rest is (passes (get_or xs k d)) k within d refl)
 find_at_point passes (x ∷ xs) (suc i) le before from =
     rw (before 0 x (omega arith) (omega arith))
     (find_at_point passes xs i (omega arith)

@@ -1,21 +1,6 @@
 -- The first day that passes is found among the days on which records begin.
-use Rattle.std.proofs.Common.{◌≡◌, ◌∙◌, sym, ap, subst, refl, ℕ, ◌<◌, Bool, true, false, List, [], ◌∷◌, Option, Some, None, arith}
-use Rattle.std.specs.Prelude.{◌&&◌, nat_lt, map, filter, fold, All, Contains, IfSome, IsSomeAnd, if◌then◌else◌}
-use Rattle.std.proofs.Math.ListN.{get_or-map, length-map}
-use Rattle.std.proofs.lemmas.Bool.{true≢false, and_parts, ltb-true}
-use Rattle.std.proofs.lemmas.Bool.Decides.{nat_tests}
-use Rattle.std.proofs.lemmas.List.Elements.{All-contains}
-use Rattle.row_choice.specs.Latest.{later}
-use Rattle.row_choice.specs.FirstDay.{earliest, is_within, ChangesAtBeginnings}
-use Rattle.row_choice.proofs.LatestLemmas.{latest-is}
-use Rattle.row_choice.proofs.FirstDayLemmas.{first_day-is, earliest_order}
-use Rattle.record_history.specs.declared.records.Record.{Record}
-use Rattle.tenancy_rules.specs.Occupancy.{first_day_before}
-use Rattle.tenancy_rules.specs.Beginnings.{sooner_beginning}
-
--- what holds of each image holds of what it is the image of
-pub All-unmap : {X Y : Type 0} (P : Y → Type 0) (f : X → Y) (xs : List X) → All P (map f xs) → All (λ x. P (f x)) xs
-All-unmap P f xs all k d within = subst P (get_or-map f xs k d) (all k (f d) (rw length-map within))
+use Rattle.tenancy_rules.proofs.Words.{◌≡◌, ◌∙◌, sym, ap, refl, ℕ, ◌<◌, Bool, true, false, List, [], ◌∷◌, Option, Some, None, arith, ◌&&◌, nat_lt, map, filter, fold, Contains, IfSome, IsSomeAnd, if◌then◌else◌, and_parts, nat_tests, All-contains, later, is_within, ChangesAtBeginnings, latest-is, first_day-is, earliest_order, Record, first_day_before, sooner_beginning, common_steps, cond_both}
+use Rattle.row_choice.specs.FirstDay.{earliest}
 
 -- the earlier of a day so far and another
 abbrev sooner_day : Option ℕ → ℕ → Option ℕ
@@ -44,11 +29,9 @@ zero_first passes days passed among =
 
 -- the first day of all is no candidate of its own
 without_zero : (passes : ℕ → Bool) (days : List ℕ) → (passes 0 ≡ true → Contains days 0) → earliest (filter passes (0 ∷ days)) ≡ earliest (filter passes days)
-without_zero passes days among = by_test (passes 0) refl
-  where
-    by_test : (b : Bool) → passes 0 ≡ b → earliest (if b then 0 ∷ filter passes days else filter passes days) ≡ earliest (filter passes days)
-    by_test true is = fold_zero (filter passes days) ∙ sym (zero_first passes days is (among is))
-    by_test false is = refl
+without_zero passes days among =
+    cond_both (passes 0) _ _ (λ kept. earliest kept ≡ earliest (filter passes days))
+    (λ is. fold_zero (filter passes days) ∙ sym (zero_first passes days is (among is))) (λ _. refl)
 
 module _ (passes : ℕ → Bool) (end : ℕ) where
   abbrev counts : ℕ → Bool
@@ -57,25 +40,8 @@ module _ (passes : ℕ → Bool) (end : ℕ) where
   -- the step of the search takes the earlier of two days that count
   sooner_is : (first : Option ℕ) (r : Record) → IfSome first (λ day. day < end) →
       sooner_beginning passes end first r ≡ (if counts r.from then sooner_day first r.from else first)
-  sooner_is None r before = ap (λ (within : Bool). if within && passes r.from then Some r.from else None) (within r.from)
-    where
-      within : (day : ℕ) → nat_lt day end ≡ is_within 0 end day
-      within day = grind (arith, nat_tests)
-  sooner_is (Some first) r before = by_tests (nat_lt r.from first) refl (is_within 0 end r.from) refl (passes r.from)
-    where
-      within : (day : ℕ) → day < end → is_within 0 end day ≡ true
-      within day before = grind (arith, nat_tests)
-
-      by_tests : (e : Bool) → nat_lt r.from first ≡ e → (w : Bool) → is_within 0 end r.from ≡ w → (p : Bool) →
-          (if e && p then Some r.from else Some first) ≡ (if w && p then (if e then Some r.from else Some first) else Some first)
-      by_tests true e true w true = refl
-      by_tests true e false w true = absurd (true≢false (sym (within r.from (let sooner : r.from < first = ltb-true r.from first e in omega (arith, sooner, before))) ∙ w))
-      by_tests false e true w true = refl
-      by_tests false e false w true = refl
-      by_tests true e true w false = refl
-      by_tests true e false w false = refl
-      by_tests false e true w false = refl
-      by_tests false e false w false = refl
+  sooner_is None r before = grind (arith, nat_tests, common_steps)
+  sooner_is (Some first) r before = grind (arith, nat_tests, common_steps, before)
 
   within : (day : ℕ) → is_within 0 end day ≡ true → day < end
   within day is = grind (arith, nat_tests)
@@ -86,11 +52,7 @@ module _ (passes : ℕ → Bool) (end : ℕ) where
   before_end first day before false is = before
   before_end None day before true is = within day (and_parts (is_within 0 end day) (passes day) is).0
   before_end (Some first) day before true is =
-      either (nat_lt day first) (within day (and_parts (is_within 0 end day) (passes day) is).0)
-    where
-      either : (b : Bool) → day < end → IfSome (if b then Some day else Some first) (λ d. d < end)
-      either true by = by
-      either false by = before
+      grind (arith, common_steps, before, within day (and_parts (is_within 0 end day) (passes day) is).0)
 
   -- each step of the search takes the earlier of two days that count
   fold_sooner : (first : Option ℕ) (records : List Record) → IfSome first (λ day. day < end) →

@@ -1,3 +1,4 @@
+pub mod Words
 pub mod Beginning
 pub mod SharedUnit
 pub mod Rivals

@@ -1,16 +1,5 @@
 -- What lives once a record more is held.
-use Rattle.std.proofs.Common.{◌≡◌, ◌∙◌, sym, ap, refl, ℕ, ◌<◌, Bool, true, false, List, [], ◌∷◌, ◌++◌, Some, None, arith}
-use Rattle.std.specs.Prelude.{◌==◌, ◌&&◌, ◌||◌, not, filter, All, if◌then◌else◌}
-use Rattle.std.specs.List.{list_any}
-use Rattle.std.proofs.lemmas.Bool.{ne_eqb}
-use Rattle.std.proofs.lemmas.Bool.Decides.{nat_tests}
-use Rattle.std.proofs.lemmas.List.Folds.{list_any-append, list_any_none}
-use Rattle.std.proofs.lemmas.List.Elements.{filter-append, filter_agree, All-push}
-use Rattle.row_choice.proofs.LatestLemmas.{filter-filter}
-use Rattle.record_history.specs.declared.records.Record.{Record}
-use Rattle.record_history.specs.Records.{is_withdrawal, is_live, live_records}
-use Rattle.tenancy_rules.specs.Changed.{without, listed}
-use Rattle.tenancy_rules.specs.Law.{ChangeIsWhatLives}
+use Rattle.tenancy_rules.proofs.Words.{◌≡◌, ◌∙◌, sym, ap, ℕ, ◌<◌, Bool, true, false, List, [], ◌∷◌, ◌++◌, Some, None, arith, ◌==◌, ◌&&◌, ◌||◌, not, filter, All, if◌then◌else◌, list_any, ne_eqb, nat_tests, list_any-append, list_any_none, filter-append, filter_agree, All-push, Record, is_withdrawal, is_live, live_records, without, listed, ChangeIsWhatLives, filter-filter, common_steps}
 
 -- a record that lived lives on where the new one doesn't name it
 lives_on : (records : List Record) (held r : Record) → is_live (records ++ held ∷ []) r ≡ (is_live records r && not (r.number == held.corrects))
@@ -21,15 +10,9 @@ lives_on records held r =
     same_test : (a b : ℕ) → (a == b) ≡ (b == a)
     same_test a b = grind (arith, nat_tests)
 
-    alone : (b : Bool) → not (b || false) ≡ not b
-    alone true = refl
-    alone false = refl
-
     by_tests : (withdraws named : Bool) → (held.corrects == r.number) ≡ (r.number == held.corrects) →
         (not withdraws && not (named || list_any (λ other. other.corrects == r.number) (held ∷ []))) ≡ ((not withdraws && not named) && not (r.number == held.corrects))
-    by_tests true named same = refl
-    by_tests false true same = refl
-    by_tests false false same = ap (λ (b : Bool). not (b || false)) same ∙ alone (r.number == held.corrects)
+    by_tests withdraws named same = grind (arith, common_steps, same)
 
 -- the new record lives unless it is a withdrawal
 lives_itself : (records : List Record) (held : Record) → All (λ r. r.corrects < held.number) records → held.corrects < held.number →
@@ -45,8 +28,7 @@ lives_itself records held smaller own_smaller =
     other_number a b less = ne_eqb a b (λ same. absurd (omega arith))
 
     by_kind : (withdraws : Bool) → (not withdraws && true) ≡ not withdraws
-    by_kind true = refl
-    by_kind false = refl
+    by_kind withdraws = grind (arith, common_steps)
 
 pub change_is_what_lives : ChangeIsWhatLives
 change_is_what_lives records held smaller own_smaller =
@@ -57,8 +39,7 @@ change_is_what_lives records held smaller own_smaller =
     ∙ ap (λ (added : List Record). without held.corrects (live_records records) ++ added) (by_kind (lives_itself records held smaller own_smaller))
   where
     by_withdrawal : (withdraws : Bool) → (if not withdraws then held ∷ [] else []) ≡ listed (if withdraws then None else Some held)
-    by_withdrawal true = refl
-    by_withdrawal false = refl
+    by_withdrawal withdraws = grind (arith, common_steps)
 
     by_kind : is_live (records ++ held ∷ []) held ≡ not (is_withdrawal held.kind) →
         filter (is_live (records ++ held ∷ [])) (held ∷ []) ≡ listed (if is_withdrawal held.kind then None else Some held)

@@ -1,19 +1,12 @@
 -- The numbers of the changed records rise.
-use Rattle.std.proofs.Common.{◌≡◌, ℕ, ◌+◌, ◌<◌, List, ◌++◌, Option, Some, None, arith, subst, sym, append-nil}
-use Rattle.std.specs.Prelude.{◌==◌, not, All, IfSome}
-use Rattle.std.proofs.lemmas.List.Elements.{All-filter}
+use Rattle.tenancy_rules.proofs.Words.{◌≡◌, ℕ, ◌+◌, ◌<◌, List, ◌++◌, Option, Some, None, arith, subst, sym, append-nil, ◌==◌, not, All, IfSome, All-filter, Record, is_live, live_records, newest_number, AreNumbered, Change, without, listed, changed_records, AddsNext, NumbersRise}
 use Rattle.std.proofs.lemmas.List.Kept.{AllPairs-filter}
 use Rattle.std.proofs.lemmas.List.Quantifiers.{all_pairs_push}
-use Rattle.record_history.specs.declared.records.Record.{Record}
-use Rattle.record_history.specs.Records.{is_live, live_records, newest_number}
-use Rattle.record_history.specs.Held.{AreNumbered}
-use Rattle.tenancy_rules.specs.declared.change.Change.{Change}
-use Rattle.tenancy_rules.specs.Changed.{without, listed, changed_records, AddsNext, NumbersRise}
 
-rise : (records : List Record) → AreNumbered records → NumbersRise records
+pub rise : (records : List Record) → AreNumbered records → NumbersRise records
 rise records numbered = λ i j d before within. omega (arith, numbered.number i d (omega (arith, before, within)), numbered.number j d within)
 
-none_above : (records : List Record) → AreNumbered records → All (λ r. r.number < newest_number records + 1) records
+pub none_above : (records : List Record) → AreNumbered records → All (λ r. r.number < newest_number records + 1) records
 none_above records numbered = λ k d within. omega (arith, numbered.number k d within, numbered.newest)
 
 -- the records that stay

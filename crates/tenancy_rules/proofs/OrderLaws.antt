@@ -1,22 +1,11 @@
 -- What it comes to that no record is out of order.
-use Rattle.std.proofs.Common.{◌≡◌, ◌≢◌, ◌∙◌, sym, ap, subst, refl, ℕ, ◌<◌, Bool, true, false, List, get_or, Option, Some, None, arith, eq-eqb, ◌⊎◌, inl, inr}
-use Rattle.std.specs.Prelude.{◌↔◌, ◌==◌, not, filter, All, Contains, IfSome, IsSomeAnd, if◌then◌else◌}
-use Rattle.std.proofs.lemmas.Bool.{false≢true, and_parts, eqb-true, not-true, not-false, false_from_ne_true, cases_order}
-use Rattle.std.proofs.lemmas.Bool.Decides.{nat_tests}
+use Rattle.tenancy_rules.proofs.Words.{◌≡◌, ◌≢◌, ◌∙◌, sym, ap, subst, refl, ℕ, ◌<◌, Bool, true, false, List, get_or, Option, Some, None, arith, eq-eqb, ◌⊎◌, inl, inr, ◌↔◌, ◌==◌, not, filter, All, Contains, IfSome, IsSomeAnd, if◌then◌else◌, false≢true, and_parts, eqb-true, not-true, not-false, false_from_ne_true, cases_order, nat_tests, All-contains, latest-is, pairs_order, pairs_order-turned, pair_comes_before, Record, comes_before, NumbersRise, is_transfer, is_move_out, may_follow, has_its_unit, record_before, is_in_order, comes_after, earliest, is_out_of_order, first_out_of_order, UnitsChangeByTransfer, NothingFollowsMoveOut}
 use Rattle.std.proofs.lemmas.List.{get_or_default}
-use Rattle.std.proofs.lemmas.List.Elements.{All-contains}
-use Rattle.row_choice.proofs.LatestLemmas.{latest-is, pairs_order, pairs_order-turned}
-use Rattle.row_choice.specs.Latest.{comes_before as pair_comes_before}
 use Rattle.record_history.specs.declared.records.Kind.{Kind}
 use Rattle.record_history.specs.declared.records.Kind.TheVariants as kind
-use Rattle.record_history.specs.declared.records.Record.{Record}
-use Rattle.record_history.specs.Records.{comes_before}
-use Rattle.tenancy_rules.specs.Changed.{NumbersRise}
-use Rattle.tenancy_rules.specs.Order.{is_transfer, is_move_out, may_follow, has_its_unit, record_before, is_in_order, comes_after, earliest, is_out_of_order, first_out_of_order}
-use Rattle.tenancy_rules.specs.Law.{UnitsChangeByTransfer, NothingFollowsMoveOut}
 
 -- each record stands where it may
-in_order : (records : List Record) → first_out_of_order records ≡ None → All (λ r. is_in_order (record_before records r) r ≡ true) records
+pub in_order : (records : List Record) → first_out_of_order records ≡ None → All (λ r. is_in_order (record_before records r) r ≡ true) records
 unfolding is_out_of_order
 in_order records none k d within =
     let law = latest-is comes_after (is_out_of_order records) records (pairs_order-turned (λ r. r.from) (λ r. r.number)) in
@@ -44,12 +33,12 @@ units_change_by_transfer records none k d within = by_earlier (get_or records k 
     by_earlier r (Some earlier) is = by_kind r earlier (is_transfer r.kind) (and_parts (may_follow earlier.kind r.kind) (has_its_unit earlier r) is).1
 
 -- a kind that something may follow is no move-out
-followed : (earlier next : Kind) → may_follow earlier next ≡ true → is_move_out earlier ≡ false
+pub followed : (earlier next : Kind) → may_follow earlier next ≡ true → is_move_out earlier ≡ false
 followed kind.MO next is = absurd (false≢true is)
 followed _ next is = refl
 
 -- of two records with one number both are the same
-same_record : (records : List Record) (first second : Record) → NumbersRise records → Contains records first → Contains records second →
+pub same_record : (records : List Record) (first second : Record) → NumbersRise records → Contains records first → Contains records second →
     first.number ≡ second.number → first ≡ second
 same_record records first second rise (k, within, is) (k', within', is') same = by_order (cases_order k k')
   where
@@ -61,7 +50,7 @@ same_record records first second rise (k, within, is) (k', within', is') same = 
         absurd (omega (arith, rise k' k first more within, ap (λ (r : Record). r.number) is, ap (λ (r : Record). r.number) (get_or_default records k' first second within' ∙ is'), same))
 
 -- two records of which neither comes before the other have one number
-neither : (from number other_from other_number : ℕ) → pair_comes_before from number other_from other_number ≡ false →
+pub neither : (from number other_from other_number : ℕ) → pair_comes_before from number other_from other_number ≡ false →
     pair_comes_before other_from other_number from number ≡ false → number ≡ other_number
 neither from number other_from other_number e f = grind (arith, nat_tests)
 

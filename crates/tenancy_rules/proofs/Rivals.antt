@@ -1,58 +1,20 @@
 -- The first rivalry among some households, when one household more is looked at.
-use Rattle.std.proofs.Common.{◌≡◌, ◌∙◌, sym, ap, refl, ℕ, zero, suc, ◌+◌, ◌<◌, Bool, true, false, List, [], ◌∷◌, ◌++◌, Option, Some, None, arith, ◌⊎◌, inl, inr}
-use Rattle.std.specs.Prelude.{find, is_some, option_and_then, if◌then◌else◌}
-use Rattle.std.specs.Option.{option_map, option_map_or, option_or}
-use Rattle.std.specs.List.{range_with_len}
-use Rattle.std.proofs.lemmas.Bool.{false≢true, true≢false, cases_order}
-use Rattle.std.proofs.lemmas.List.Folds.{find-append}
-use Rattle.row_choice.proofs.FirstDayLemmas.{IsFirst, first-is}
-use Rattle.tenancy_rules.specs.Occupancy.{first_rival_on, first_day_before, first_rivalry}
-use Rattle.tenancy_rules.specs.Beginnings.{sooner_rivalry}
-
--- there is one first day at most
-same_first : (passes : ℕ → Bool) (first count : ℕ) (found other : Option ℕ) → IsFirst passes first count found → IsFirst passes first count other → found ≡ other
-same_first passes first count None None none other = refl
-same_first passes first count None (Some day) none (from, to, is, before) = absurd (false≢true (sym (none day from to) ∙ is))
-same_first passes first count (Some day) None (from, to, is, before) none = absurd (false≢true (sym (none day from to) ∙ is))
-same_first passes first count (Some day) (Some other) (from, to, is, before) (from', to', is', before') = by_order (cases_order day other)
-  where
-    by_order : (day ≡ other) ⊎ ((day < other) ⊎ (other < day)) → Some day ≡ Some other
-    by_order (inl same) = ap (λ (d : ℕ). Some d) same
-    by_order (inr (inl less)) = absurd (false≢true (sym (before' day from less) ∙ is))
-    by_order (inr (inr more)) = absurd (false≢true (sym (before other from' more) ∙ is'))
+use Rattle.tenancy_rules.proofs.Words.{◌≡◌, ◌∙◌, sym, ap, refl, ℕ, suc, ◌+◌, ◌<◌, Bool, true, false, [], ◌∷◌, Option, Some, None, arith, add-one, find, is_some, option_and_then, if◌then◌else◌, option_map, option_map_or, option_or, range_with_len, false≢true, find-append, IsFirst, first-is, first_rival_on, first_day_before, first_rivalry, sooner_rivalry, same_first, common_steps}
+use Rattle.list_laws.proofs.Ranges.{range_more}
 
 pub first_before-is : (end : ℕ) (passes : ℕ → Bool) → IsFirst passes 0 end (first_day_before end passes)
 unfolding first_day_before
 first_before-is end passes = first-is passes 0 end
 
--- where no day before the end passes none is found
-pub none_before : (end : ℕ) (passes : ℕ → Bool) → ((day : ℕ) → passes day ≡ false) → first_day_before end passes ≡ None
-none_before end passes fails = same_first passes 0 end (first_day_before end passes) None (first_before-is end passes) (λ day from to. fails day)
-
--- one number more at the end
-range-more : (first count : ℕ) → range_with_len first (count + 1) ≡ range_with_len first count ++ (first + count) ∷ []
-range-more first zero =
-    let same : first ≡ first + 0 = omega arith in
-    ap (λ (n : ℕ). n ∷ []) same
-range-more first (suc count) =
-    let long : suc count + 1 ≡ suc (count + 1) = omega arith in
-    let last : (first + 1) + count ≡ first + suc count = omega arith in
-    ap (range_with_len first) long
-    ∙ ap (λ (rest : List ℕ). first ∷ rest) (range-more (first + 1) count)
-    ∙ ap (λ (n : ℕ). first ∷ (range_with_len (first + 1) count ++ n ∷ [])) last
-
 not_some : (o : Option ℕ) → is_some o ≡ false → o ≡ None
-not_some None is = refl
-not_some (Some x) is = absurd (true≢false is)
+not_some o is = grind (arith, common_steps, is)
 
 -- the first of the households so far, or else the one more
 rival-more : (is_rival : ℕ → ℕ → Bool) (count day : ℕ) →
     first_rival_on is_rival (count + 1) day ≡ option_or (first_rival_on is_rival count day) (if is_rival (count + 1) day then Some (count + 1) else None)
 rival-more is_rival count day =
-    let last : 1 + count ≡ count + 1 = omega arith in
-    ap (find (λ other. is_rival other day)) (range-more 1 count)
-    ∙ find-append (λ other. is_rival other day) (range_with_len 1 count) ((1 + count) ∷ [])
-    ∙ ap (λ (n : ℕ). option_or (first_rival_on is_rival count day) (if is_rival n day then Some n else None)) last
+    ap (find (λ other. is_rival other day)) (rw add-one (range_more 1 count (suc count) (omega arith)))
+    ∙ find-append (λ other. is_rival other day) (range_with_len 1 count) ((count + 1) ∷ [])
 
 module _ (rival next_rival : ℕ → Option ℕ) (is_more : ℕ → Bool) (more end : ℕ)
     (one_more : (day : ℕ) → next_rival day ≡ option_or (rival day) (if is_more day then Some more else None)) where
@@ -124,8 +86,3 @@ first_rivalry-more is_rival count end =
     (first_day_before end (λ day. is_some (first_rival_on is_rival (count + 1) day)))
     (first_before-is end (λ day. is_some (first_rival_on is_rival count day)))
     (first_before-is end (λ day. is_some (first_rival_on is_rival (count + 1) day)))
-
--- there is none among no households
-pub first_rivalry-none : (is_rival : ℕ → ℕ → Bool) (end : ℕ) → first_rivalry is_rival 0 end ≡ None
-first_rivalry-none is_rival end =
-    ap (option_and_then (λ day. option_map (λ other. (other, day)) (first_rival_on is_rival 0 day))) (none_before end (λ day. is_some (first_rival_on is_rival 0 day)) (λ day. refl))

@@ -1,21 +1,8 @@
 -- Whether two households have one unit changes only as their records begin.
-use Rattle.std.proofs.Common.{◌≡◌, ◌∙◌, sym, ap, subst, ℕ, Bool, true, List, ◌++◌, Option, Some, None, arith}
-use Rattle.std.specs.Prelude.{◌&&◌, ◌==◌, not, nat_le, map, filter, fold, option_and_then, All, Contains, IfSome}
-use Rattle.std.proofs.Math.ListN.{get_or-map, length-map}
-use Rattle.std.proofs.lemmas.Bool.{false≢true, and_parts}
-use Rattle.std.proofs.lemmas.Bool.Decides.{nat_tests}
+use Rattle.tenancy_rules.proofs.Words.{◌≡◌, ◌∙◌, sym, ap, subst, ℕ, Bool, true, List, ◌++◌, Option, Some, None, arith, ◌&&◌, ◌==◌, not, nat_le, map, filter, fold, option_and_then, All, Contains, IfSome, false≢true, and_parts, nat_tests, All-append, All-contains, All-contains_itself, All-filter, All-weaker, Contains-append_left, Contains-append_right, filter_passes, ChangesAtBeginnings, latest-among, Record, is_live, live_records, comes_before, latest, records_of, Change, without, listed, changed_records, unit_kept, occupied_unit_on, is_one_unit, have_one_unit_on, is_rival_on, first_day_before, sooner_beginning, filter_alike}
 use Rattle.std.proofs.lemmas.List.Sums.{fold-append}
-use Rattle.std.proofs.lemmas.List.Elements.{All-append, All-contains, All-contains_itself, All-filter, All-weaker, Contains-append_left, Contains-append_right, filter_passes}
-use Rattle.row_choice.specs.FirstDay.{ChangesAtBeginnings}
-use Rattle.row_choice.proofs.LatestLemmas.{All-both, latest-among, filter-alike}
-use Rattle.record_history.specs.declared.records.Record.{Record}
-use Rattle.record_history.specs.Records.{is_live, live_records, comes_before, latest}
-use Rattle.record_history.specs.Held.{records_of}
-use Rattle.tenancy_rules.specs.declared.change.Change.{Change}
-use Rattle.tenancy_rules.specs.Changed.{without, listed, changed_records}
-use Rattle.tenancy_rules.specs.Occupancy.{unit_kept, occupied_unit_on, is_one_unit, have_one_unit_on, is_rival_on, first_day_before}
-use Rattle.tenancy_rules.specs.Beginnings.{sooner_beginning}
-use Rattle.tenancy_rules.proofs.Beginning.{All-unmap, first_beginning-is}
+use Rattle.tenancy_rules.proofs.Beginning.{first_beginning-is}
+use Rattle.list_laws.proofs.Elements.{All-both, All-unmap, Contains-map}
 
 -- what holds of each record holds of each that is among them
 among_all : (P : Record → Type 0) (records some : List Record) → All (Contains records) some → All P records → All P some
@@ -30,14 +17,11 @@ among_right : (records others : List Record) → All (Contains (records ++ other
 among_right records others =
     All-weaker (Contains others) (Contains (records ++ others)) (Contains-append_right records others) others (All-contains_itself others)
 
-Contains-map : {X Y : Type 0} (f : X → Y) (xs : List X) (x : X) → Contains xs x → Contains (map f xs) (f x)
-Contains-map f xs x (k, within, is) = (k, rw length-map within, get_or-map f xs k x ∙ ap f is)
-
 -- where no record begins between two days the household has one unit on both
 occupied-alike : (records : List Record) (day next : ℕ) → All (λ r. nat_le r.from day ≡ nat_le r.from next) records →
     occupied_unit_on records day ≡ occupied_unit_on records next
 occupied-alike records day next alike =
-    ap (λ (begun : List Record). option_and_then unit_kept (latest begun)) (filter-alike (λ (r : Record). r.from) day next records alike)
+    ap (λ (begun : List Record). option_and_then unit_kept (latest begun)) (filter_alike (λ (r : Record). nat_le r.from day) (λ r. nat_le r.from next) records alike)
 
 module _ (records others beginning : List Record) (among : All (Contains beginning) records) (others_among : All (Contains beginning) others) where
   -- so whether two have one unit changes only as a record of either begins

@@ -1,16 +1,6 @@
 -- What it comes to that a double use is found, or none.
-use Rattle.std.proofs.Common.{◌≡◌, ◌∙◌, sym, ap, subst, refl, ℕ, ◌<◌, ◌≤◌, Bool, true, false, List, length, Option, Some, None, arith, eq-eqb}
-use Rattle.std.specs.Prelude.{◌==◌, not, is_some, option_and_then}
-use Rattle.std.specs.Option.{option_map}
-use Rattle.std.proofs.lemmas.Bool.{false≢true, true≢false, and_parts, eqb-true, eqb-false, ne_eqb, not-true, not_from_false, and_from}
+use Rattle.tenancy_rules.proofs.Words.{◌≡◌, ◌∙◌, sym, ap, subst, refl, ℕ, ◌<◌, ◌≤◌, Bool, true, false, List, length, Option, Some, None, arith, eq-eqb, ◌==◌, not, is_some, option_and_then, option_map, false≢true, true≢false, and_parts, eqb-true, eqb-false, ne_eqb, not-true, not_from_false, and_from, IsFirst, first-is, Record, live_records, records_of, changed_records, occupied_unit_on, is_one_unit, have_one_unit_on, is_rival_on, first_rival_on, first_day_before, first_rivalry, NoUnitHasTwo, DoubleUseHasTwo}
 use Rattle.std.proofs.lemmas.Option.{some_pair_parts}
-use Rattle.row_choice.proofs.FirstDayLemmas.{IsFirst, first-is}
-use Rattle.record_history.specs.declared.records.Record.{Record}
-use Rattle.record_history.specs.Records.{live_records}
-use Rattle.record_history.specs.Held.{records_of}
-use Rattle.tenancy_rules.specs.Changed.{changed_records}
-use Rattle.tenancy_rules.specs.Occupancy.{occupied_unit_on, is_one_unit, have_one_unit_on, is_rival_on, first_rival_on, first_day_before, first_rivalry}
-use Rattle.tenancy_rules.specs.Law.{NoUnitHasTwo, DoubleUseHasTwo}
 use Rattle.tenancy_rules.proofs.Rivals.{first_before-is}
 
 module _ (is_rival : ℕ → ℕ → Bool) (count end : ℕ) where

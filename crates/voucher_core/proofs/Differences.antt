@@ -1,19 +1,6 @@
 -- What the changes of a month come to.
-use Rattle.std.proofs.Common.{◌≡◌, ℕ, suc, ◌+◌, ◌-◌, ◌≤◌, List, ℤ, pos, ◌+ℤ◌, true, ap, ◌∙◌, arith}
-use Rattle.std.specs.Prelude.{sum_by, ◌-ℤ◌, ◌==◌}
-use Rattle.std.specs.List.{range_with_len}
-use Rattle.std.proofs.lemmas.Int.{ints}
-use Rattle.std.proofs.lemmas.Bool.{and_parts, eqb-true}
-use Rattle.std.proofs.lemmas.List.Sums.{sum_by_push}
-use Rattle.days_core.specs.Calendar.{days_in}
-use Rattle.record_history.specs.declared.records.Record.{Record}
-use Rattle.record_history.specs.declared.stretch.Stretch.{Stretch}
-use Rattle.share_rules.specs.Shares.{day_share, run_share}
-use Rattle.voucher_core.specs.declared.changes.InForce.{InForce}
-use Rattle.voucher_core.specs.declared.changes.Change.{Change}
-use Rattle.voucher_core.specs.Certified.{assistance_on, day_at, certified_amount}
-use Rattle.voucher_core.specs.Lines.{change_on, is_same_force, is_same_change, changes, difference}
-use Rattle.voucher_core.proofs.Totals.{total_by, total_by-difference, range-more}
+use Rattle.voucher_core.proofs.Words.{◌≡◌, ℕ, suc, ◌+◌, ◌-◌, ◌≤◌, List, ℤ, pos, ◌+ℤ◌, true, ap, ◌∙◌, arith, sum_by, ◌-ℤ◌, ◌==◌, range_with_len, ints, and_parts, eqb-true, sum_by_push, days_in, Record, Stretch, day_share, run_share, InForce, Change, assistance_on, day_at, certified_amount, change_on, is_same_force, is_same_change, changes, difference, range-more}
+use Rattle.voucher_core.proofs.Totals.{total_by, total_by-difference}
 use Rattle.voucher_core.proofs.Weights.{AddsUp, stretches_weigh}
 
 -- a run of one day

@@ -1,7 +1,7 @@
+pub mod Words
 pub mod Totals
 pub mod Weights
 pub mod Differences
-pub mod EachDay
 pub mod DayShares
 pub mod Paid
 pub mod Settled

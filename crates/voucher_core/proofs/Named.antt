@@ -1,75 +1,27 @@
 -- Each line of a closing names its pair.
-use Rattle.std.proofs.Common.{◌≡◌, ◌≢◌, ℕ, zero, suc, ◌+◌, ◌-◌, ◌<◌, ◌≤◌, List, [], ◌∷◌, length, get_or, pos, ◌-ℤ◌, true, false, Option, Some, None, refl, ap, sym, subst, ◌∙◌, arith}
-use Rattle.std.specs.Prelude.{All, IfSome, find, not, ◌==◌}
+use Rattle.voucher_core.proofs.Words.{◌≡◌, ◌≢◌, ℕ, ◌+◌, ◌-◌, ◌<◌, ◌≤◌, List, [], ◌∷◌, get_or, pos, ◌-ℤ◌, true, false, Option, Some, None, refl, ap, sym, subst, ◌∙◌, arith, All, IfSome, find, not, ◌==◌, ne_eqb, eqb-true, and_parts, eq-eqb, Decides-int_eq, first_of-suc, Record, as_of, in_force, AreNumbered, int_eq, days_in, first_of, Stretch, run_share, InForce, Change, Line, assistance_on, day_at, change_on, is_same_force, is_same_change, changes, difference, line_of, month_lines, lines_for, adjustment_lines, closing_lines, placed, All-append, IsOfItsDays, Cover, IsOther, of_their_days, stretches_cover}
 use Rattle.std.specs.Option.{option_map_or}
-use Rattle.std.proofs.lemmas.Bool.{ne_eqb, eqb-true, and_parts}
-use Rattle.std.proofs.lemmas.Bool.Decides.{Decides-eqb, Decides-int_eq}
-use Rattle.days_core.proofs.Bridge.{first_of-suc}
-use Rattle.record_history.specs.declared.records.Record.{Record}
-use Rattle.record_history.specs.Records.{as_of, in_force}
 use Rattle.record_history.specs.Runs.{number_on}
-use Rattle.record_history.specs.Held.{AreNumbered}
 use Rattle.record_history.proofs.Latest.{in_force_is}
-use Rattle.std.specs.Ordering.{int_eq}
-use Rattle.days_core.specs.Calendar.{days_in, first_of}
-use Rattle.record_history.specs.declared.stretch.Stretch.{Stretch}
-use Rattle.share_rules.specs.Shares.{run_share}
-use Rattle.voucher_core.specs.declared.changes.InForce.{InForce}
-use Rattle.voucher_core.specs.declared.changes.Change.{Change}
-use Rattle.voucher_core.specs.declared.line.Line.{Line}
-use Rattle.voucher_core.specs.Certified.{assistance_on, day_at}
-use Rattle.voucher_core.specs.Lines.{change_on, is_same_force, is_same_change, changes, difference, line_of, month_lines, lines_for, adjustment_lines, closing_lines, placed}
 use Rattle.voucher_core.specs.Naming.{assistance_of, shares_of, NamesItsPair, NameTheirPairs, LinesNameTheirPairs, IsOtherPair, CoverByPairs, ChangesAreLongest}
-use Rattle.voucher_core.proofs.Paid.{itself, all_placed, all_pieces, each_passing}
+use Rattle.voucher_core.proofs.Paid.{all_placed, all_pieces, each_passing}
 use Rattle.voucher_core.proofs.Settled.{all_earlier, all_months, all_for}
-use Rattle.std.proofs.lemmas.List.Elements.{All-append}
-use Rattle.voucher_core.proofs.EachDay.{IsOfItsDays, Cover, IsOther, of_their_days, stretches_cover}
+use Rattle.list_laws.proofs.Finds.{find_first, find_fails}
 
 -- Numbers lead to records ----
 
--- records that are numbered from one number on are found by their numbers
-found_after : (n : ℕ) (xs : List Record) → ((place : ℕ) (e : Record) → place < length xs → (get_or xs place e).number ≡ n + place + 1) →
-    (k : ℕ) (d : Record) → k < length xs → (number : ℕ) → number ≡ n + k + 1 → find (λ q. q.number == number) xs ≡ Some (get_or xs k d)
-found_after n [] numbered k d within number is = absurd (omega arith)
-found_after n (x ∷ xs) numbered zero d within number is =
-    let at : x.number ≡ n + zero + 1 = numbered zero d within in
-    let same : x.number ≡ number = omega arith in
-    let yes : (x.number == number) ≡ true = (Decides-eqb x.number number).1 same in
-    rw yes refl
-found_after n (x ∷ xs) numbered (suc k) d within number is =
-    let first : 0 < length (x ∷ xs) = omega arith in
-    let at : x.number ≡ n + zero + 1 = numbered zero d first in
-    let other : (x.number == number) ≡ false = ne_eqb x.number number (λ e. (omega arith)) in
-    rw other
-    (found_after (n + 1) xs
-    (λ place e within'. (let later : suc place < length (x ∷ xs) = omega arith in
-    let there : (get_or xs place e).number ≡ n + suc place + 1 = numbered (suc place) e later in
-    omega arith))
-    k d (let inside : k < length xs = omega arith in inside) number (let moved : number ≡ n + 1 + k + 1 = omega arith in moved))
-
--- and no record has the number 0
-none_found : (n : ℕ) (xs : List Record) → ((place : ℕ) (e : Record) → place < length xs → (get_or xs place e).number ≡ n + place + 1) → find (λ q. q.number == 0) xs ≡ None
-none_found n [] numbered = refl
-none_found n (x ∷ xs) numbered =
-    let first : 0 < length (x ∷ xs) = omega arith in
-    let at : x.number ≡ n + zero + 1 = numbered zero x first in
-    let other : (x.number == 0) ≡ false = ne_eqb x.number 0 (λ e. (omega arith)) in
-    rw other
-    (none_found (n + 1) xs
-    (λ place e within. (let later : suc place < length (x ∷ xs) = omega arith in
-    let there : (get_or xs place e).number ≡ n + suc place + 1 = numbered (suc place) e later in
-    omega arith)))
-
 module _ (records : List Record) (numbered : AreNumbered records) where
-  from_one : (place : ℕ) (e : Record) → place < length records → (get_or records place e).number ≡ 0 + place + 1
-  from_one place e within = let at = numbered.number place e within in omega arith
-
   -- each record is found by its own number
   lead_back : All (λ r. find (λ q. q.number == r.number) records ≡ Some r) records
-  lead_back k d within = found_after 0 records from_one k d within (get_or records k d).number (from_one k d within)
+  lead_back k d within =
+      find_first (λ (q : Record). q.number == (get_or records k d).number) records k d within (eq-eqb _ _ refl)
+      (λ i before. ne_eqb _ _ (λ same. absurd (omega (arith, numbered.number i d (omega (arith, before, within)), numbered.number k d within, same))))
 
   no_assistance : assistance_of records 0 ≡ 0
-  no_assistance = ap (λ (o : Option Record). option_map_or (λ r. r.assistance) o 0) (none_found 0 records from_one)
+  no_assistance =
+      ap (λ (o : Option Record). option_map_or (λ r. r.assistance) o 0)
+      (find_fails (λ (q : Record). q.number == 0) records
+      (λ k d within. ne_eqb _ _ (λ same. absurd (omega (arith, numbered.number k d within, same)))))
 
   of_force : (o : Option Record) → IfSome o (λ r. find (λ q. q.number == r.number) records ≡ Some r) →
       assistance_of records (option_map_or (λ r. r.number) o 0) ≡ option_map_or (λ r. r.assistance) o 0
@@ -100,6 +52,9 @@ other_change a b e same =
     let now : is_same_change a b ≡ true = subst (λ (c : Change). is_same_change a c ≡ true) same (itself_same a) in
     cc
   where
+    itself : (n : ℕ) → (n == n) ≡ true
+    itself n = eq-eqb n n refl
+
     itself_same : (c : Change) → is_same_change c c ≡ true
     itself_same c = rw (itself c.old.number, itself c.old.assistance, itself c.new.number, itself c.new.assistance) refl
 

@@ -1,19 +1,5 @@
 -- The law of one closing.
-use Rattle.std.proofs.Common.{◌≡◌, ◌⊎◌, inl, inr, ℕ, ◌+◌, ◌-◌, ◌*◌, ◌/◌, ◌<◌, ◌≤◌, List, [], ◌∷◌, ◌++◌, ℤ, pos, ◌+ℤ◌, ◌-ℤ◌, Bool, true, false, refl, ap, sym, ◌∙◌, subst, arith}
-use Rattle.std.specs.Prelude.{All, nat_le, Option, Some, None, sum_by, ◌==◌, if◌then◌else◌}
-use Rattle.std.specs.List.{range_with_len, flat_map}
-use Rattle.std.proofs.lemmas.Int.{ints}
-use Rattle.std.proofs.lemmas.Bool.{cases_lt, eqb-true, lt-leb}
-use Rattle.std.proofs.lemmas.List.Elements.{All-append, All-nil, All-head, All-tail, filter-append}
-use Rattle.std.proofs.lemmas.List.{append-nil}
-use Rattle.std.proofs.lemmas.List.Sums.{sum_by-cons}
-use Rattle.days_core.specs.Calendar.{days_in}
-use Rattle.record_history.specs.declared.records.Record.{Record}
-use Rattle.record_history.specs.Records.{as_of}
-use Rattle.share_rules.specs.Shares.{day_share}
-use Rattle.voucher_core.specs.declared.line.Line.{Line}
-use Rattle.voucher_core.specs.Certified.{certified_amount, day_at, assistance_on}
-use Rattle.voucher_core.specs.Lines.{month_lines, known_before, lines_for, adjustment_lines, closing_lines, placed, paid}
+use Rattle.voucher_core.proofs.Words.{◌≡◌, ◌⊎◌, inl, inr, ℕ, ◌+◌, ◌-◌, ◌*◌, ◌/◌, ◌<◌, ◌≤◌, List, [], ◌++◌, ℤ, pos, ◌+ℤ◌, ◌-ℤ◌, false, ap, sym, ◌∙◌, subst, arith, All, nat_le, Option, Some, None, ◌==◌, get_or, range_with_len, ints, cases_lt, eqb-true, lt-leb, All-append, All-nil, filter-append, All-weaker, append-nil, sum_by-le, days_in, Record, as_of, day_share, Line, certified_amount, day_at, assistance_on, month_lines, known_before, lines_for, adjustment_lines, closing_lines, placed, paid, filter_none, cond_both, common_steps}
 use Rattle.voucher_core.specs.Law.{ClosingSettles, NothingIsSettled, SettledPaysNoOther, CertifiedStays, SettledStays}
 use Rattle.voucher_core.proofs.Totals.{total_by}
 use Rattle.voucher_core.proofs.Paid.{paid-append, paid-placed, paid_elsewhere, paid_month, paid_other, each_line, paid-flat_map, none_weighs, one_weighs, all_pieces, all_placed}
@@ -29,20 +15,15 @@ no_share place days =
     ap (λ (n : ℕ). (2 * n + days) / (2 * days) - (2 * (0 * (place - 1)) + days) / (2 * days)) now
     ∙ ap (λ (n : ℕ). (2 * 0 + days) / (2 * days) - (2 * n + days) / (2 * days)) earlier ∙ nothing_shared days
 
-sum_of_nothing : (f : ℕ → ℕ) (xs : List ℕ) → ((x : ℕ) → f x ≡ 0) → sum_by f xs ≡ 0
-sum_of_nothing f [] none = refl
-sum_of_nothing f (x ∷ xs) none =
-    let first = none x in let rest = sum_of_nothing f xs none in let all = sum_by-cons f x xs in omega arith
-
 -- where nothing is known, nothing is certified
 none_certified : (month : ℕ) → certified_amount [] month ≡ 0
 none_certified month =
-    sum_of_nothing (λ (place : ℕ). day_share (assistance_on [] (day_at month place)) place (days_in month)) (range_with_len 1 (days_in month))
-    (λ place. no_share place (days_in month))
+    let share : ℕ → ℕ = λ place. day_share (assistance_on [] (day_at month place)) place (days_in month) in
+    let most = sum_by-le share 0 (range_with_len 1 (days_in month)) (λ k d within. omega (arith, no_share (get_or (range_with_len 1 (days_in month)) k d) (days_in month))) in
+    omega (arith, most)
 
 none_known : (before : Option ℕ) → known_before before [] ≡ []
-none_known None = refl
-none_known (Some last_close) = refl
+none_known before = grind (arith, common_steps)
 
 no_difference : (a b : ℕ) → a ≡ 0 → b ≡ 0 → pos 0 ≡ pos a -ℤ pos b
 no_difference a b e f = omega (arith, ints)
@@ -93,13 +74,10 @@ module _ (own : ℕ → List Record) (count act closed : ℕ) where
   module _ (first_month last_close : ℕ) where
     -- what is true of the lines of each month
     pub all_earlier : (P : Line → Type 0) → ((month : ℕ) → first_month ≤ month → month < closed → All P (lines_for own count act closed (Some last_close) month)) → All P (adjustment_lines own count act closed first_month last_close)
-    all_earlier P each = by_test (last_close == 0)
-      where
-        by_test : (test : Bool) → All P (if test then [] else flat_map (lines_for own count act closed (Some last_close)) (range_with_len first_month (closed - first_month)))
-        by_test true = All-nil P
-        by_test false =
-            all_pieces P (lines_for own count act closed (Some last_close)) first_month (closed - first_month)
-            (λ month low high. (let before : month < closed = omega arith in each month low before))
+    all_earlier P each =
+        cond_both (last_close == 0) _ _ (All P) (λ _. All-nil P)
+        (λ _. all_pieces P (lines_for own count act closed (Some last_close)) first_month (closed - first_month)
+        (λ month low high. (let before : month < closed = omega arith in each month low before)))
 
     pub all_months : (P : ℕ → Type 0) → ((month : ℕ) → first_month ≤ month → month < closed → P month) → All (λ l. P l.for_month) (adjustment_lines own count act closed first_month last_close)
     all_months P each = all_earlier (λ (l : Line). P l.for_month) (λ month low high. all_for (Some last_close) month P (each month low high))
@@ -108,18 +86,15 @@ module _ (own : ℕ → List Record) (count act closed : ℕ) where
         (household month : ℕ) → 1 ≤ household → first_month ≤ month → month < closed →
         paid household month (adjustment_lines own count act closed first_month last_close)
         ≡ pos (certified_amount (as_of act (own household)) month) -ℤ pos (certified_amount (as_of last_close (own household)) month)
-    paid_earlier past first household month low from to = by_test (last_close == 0) refl
-      where
-        by_test : (test : Bool) → (last_close == 0) ≡ test →
-            paid household month (if test then [] else flat_map (lines_for own count act closed (Some last_close)) (range_with_len first_month (closed - first_month)))
-            ≡ pos (certified_amount (as_of act (own household)) month) -ℤ pos (certified_amount (as_of last_close (own household)) month)
-        by_test true e = let only = first (eqb-true last_close 0 e) in absurd (omega arith)
-        by_test false e =
-            paid-flat_map household month (lines_for own count act closed (Some last_close)) (range_with_len first_month (closed - first_month))
-            ∙ one_weighs (λ (m : ℕ). paid household month (lines_for own count act closed (Some last_close) m)) first_month (closed - first_month) month from
-            (let end : month < first_month + (closed - first_month) = omega arith in end)
-            (λ m apart. paid_for_other (Some last_close) household m month apart)
-            ∙ paid_for past (Some last_close) household month low
+    paid_earlier past first household month low from to =
+        cond_both (last_close == 0) _ _ (λ lines. paid household month lines
+        ≡ pos (certified_amount (as_of act (own household)) month) -ℤ pos (certified_amount (as_of last_close (own household)) month))
+        (λ e. let only = first (eqb-true last_close 0 e) in absurd (omega arith))
+        (λ _. paid-flat_map household month (lines_for own count act closed (Some last_close)) (range_with_len first_month (closed - first_month))
+        ∙ one_weighs (λ (m : ℕ). paid household month (lines_for own count act closed (Some last_close) m)) first_month (closed - first_month) month from
+        (let end : month < first_month + (closed - first_month) = omega arith in end)
+        (λ m apart. paid_for_other (Some last_close) household m month apart)
+        ∙ paid_for past (Some last_close) household month low)
 
 -- The law ----
 
@@ -197,14 +172,12 @@ pays_no_other own lines first_month next act household month settled (inr after)
 -- Later acts ----
 
 unknown : (act : ℕ) (records : List Record) → All (λ r. act < r.act) records → as_of act records ≡ []
-unknown act [] all = refl
-unknown act (r ∷ records) all =
-    let late = All-head (λ (q : Record). act < q.act) r records all in
-    let not_yet : nat_le r.act act ≡ false = lt-leb r.act act late in
-    rw not_yet (unknown act records (All-tail (λ (q : Record). act < q.act) r records all))
+unknown act records all =
+    filter_none (λ (r : Record). nat_le r.act act) records
+    (All-weaker (λ (r : Record). act < r.act) (λ r. nat_le r.act act ≡ false) (λ r late. lt-leb r.act act late) records all)
 
 -- what is known as of an act stays known
-known_stays : (records more : List Record) (act : ℕ) → All (λ r. act < r.act) more → as_of act (records ++ more) ≡ as_of act records
+pub known_stays : (records more : List Record) (act : ℕ) → All (λ r. act < r.act) more → as_of act (records ++ more) ≡ as_of act records
 known_stays records more act all =
     filter-append (λ (r : Record). nat_le r.act act) records more ∙ ap (λ (rs : List Record). as_of act records ++ rs) (unknown act more all)
     ∙ append-nil (as_of act records)

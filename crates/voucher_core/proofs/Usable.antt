@@ -1,17 +1,6 @@
 -- The changes of a month, day by day, and that they lie within their bounds.
-use Rattle.std.proofs.Common.{◌≡◌, ◌⊎◌, inl, inr, ℕ, suc, ◌+◌, ◌-◌, ◌<◌, ◌≤◌, List, [], reverse, ap, sym, ◌∙◌, subst, arith}
-use Rattle.std.specs.Prelude.{All, get_or}
-use Rattle.std.proofs.lemmas.Bool.{cases_lt}
-use Rattle.days_core.specs.Calendar.{days_in, first_of, last_of}
-use Rattle.days_core.proofs.Bridge.{first_of-suc, days_in_bounds}
-use Rattle.record_history.specs.declared.records.Record.{Record}
-use Rattle.record_history.specs.declared.stretch.Stretch.{Stretch}
-use Rattle.record_history.specs.Stretch.{with_day, newest_first, stretches}
-use Rattle.voucher_core.specs.declared.changes.Change.{Change}
-use Rattle.voucher_core.specs.Certified.{day_at}
-use Rattle.voucher_core.specs.Lines.{change_on, is_same_change, changes}
+use Rattle.voucher_core.proofs.Words.{◌≡◌, ◌⊎◌, inl, inr, ℕ, suc, ◌+◌, ◌-◌, ◌<◌, ◌≤◌, List, [], reverse, ap, sym, ◌∙◌, subst, arith, All, get_or, cases_lt, days_in, first_of, last_of, first_of-suc, days_in_bounds, Record, Stretch, with_day, newest_first, stretches, Change, day_at, change_on, is_same_change, changes, IsOfItsDays}
 use Rattle.voucher_core.specs.Bounds.{IsUsable}
-use Rattle.voucher_core.proofs.EachDay.{IsOfItsDays}
 use Rattle.voucher_core.proofs.Named.{changes_of_days}
 
 -- the amounts of a change are those that a contract allows

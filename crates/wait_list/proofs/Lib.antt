@@ -1,3 +1,4 @@
+pub mod Words
 pub mod ListedLemmas
 pub mod RankLemmas
 pub mod NextLaw

@@ -1,10 +1,6 @@
 -- What is left of the list where one applicant goes.
-use Rattle.std.proofs.Common.{◌≡◌, ◌≢◌, subst, ℕ, ◌-◌, ◌≤◌, suc, ◌+◌, Bool, true, false, List, [], ◌∷◌, length, refl, arith}
-use Rattle.std.specs.Prelude.{if◌then◌else◌, All}
+use Rattle.wait_list.proofs.Words.{◌≡◌, ◌≢◌, subst, ℕ, ◌-◌, ◌≤◌, suc, ◌+◌, Bool, List, [], ◌∷◌, length, refl, arith, if◌then◌else◌, All, All-head, All-tail, Applicant, is_listed, without, HaveOwnNumbers, common_steps}
 use Rattle.std.proofs.lemmas.Bool.Decides.{nat_tests}
-use Rattle.std.proofs.lemmas.List.Elements.{All-head, All-tail}
-use Rattle.wait_list.specs.declared.applicant.Applicant.{Applicant}
-use Rattle.wait_list.specs.Waiting.{is_listed, without, HaveOwnNumbers}
 
 -- how many applicants there are, those who go and those who stay
 abbrev counted : ℕ → List Applicant → ℕ
@@ -46,5 +42,4 @@ length-without number (applicant ∷ applicants) own =
 -- the room grows by as many as go
 pub room_grows : (listed : Bool) (capacity were stay room : ℕ) → stay + (if listed then 1 else 0) ≡ were → were ≤ capacity →
     capacity - were ≡ room → capacity - stay ≡ (if listed then room + 1 else room)
-room_grows true capacity were stay room counts within was = omega arith
-room_grows false capacity were stay room counts within was = omega arith
+room_grows listed capacity were stay room counts within was = grind (arith, common_steps, counts, within, was)

@@ -1,15 +1,11 @@
 -- Whoever is next is so rightly.
-use Rattle.std.proofs.Common.{◌≡◌, ◌∙◌, sym, ℕ, Bool, true, false, List, [], ◌∷◌, get_or, refl, inl, inr}
-use Rattle.std.specs.Prelude.{Option, Some, None, ◌&&◌, ◌||◌, not, filter, All, Contains, IfSome, IsSomeAnd, MatchOption, if◌then◌else◌}
-use Rattle.std.specs.Option.{option_map, option_or}
-use Rattle.std.proofs.lemmas.Bool.{false≢true, and_parts}
+use Rattle.wait_list.proofs.Words.{◌≡◌, ◌∙◌, sym, ℕ, Bool, true, false, List, [], ◌∷◌, get_or, refl, inl, inr, Option, Some, None, ◌&&◌, ◌||◌, not, filter, All, Contains, IfSome, IsSomeAnd, MatchOption, if◌then◌else◌, option_map, option_or, Applicant, Asked, is_within_limit, is_extremely_low, is_candidate, candidates, stands_behind, first_of, next_of, mover_of, next_needing, next_not_needing, next_of_all, first_there, common_steps, arith}
+use Rattle.std.proofs.lemmas.Bool.{false≢true, and_parts, and_from, false_from_ne_true}
 use Rattle.rent_table.specs.Admission.{suits}
 use Rattle.row_choice.specs.Latest.{IsLatest}
 use Rattle.row_choice.proofs.LatestLemmas.{latest-is, pairs_order-turned, filter-filter}
-use Rattle.wait_list.specs.declared.applicant.Applicant.{Applicant}
 use Rattle.wait_list.specs.declared.ask.Candidate.{Candidate}
 use Rattle.wait_list.specs.declared.ask.Candidate.TheVariants as candidate
-use Rattle.wait_list.specs.Next.{Asked, is_within_limit, is_extremely_low, is_candidate, candidates, stands_behind, first_of, next_of, mover_of, next_needing, next_not_needing, next_of_all, first_there}
 use Rattle.wait_list.specs.Law.{needs, goes_before, NoMoverNeeds, NoApplicantNeeds, ApplicantIsFirst, IsRightful, NextIsRightful}
 
 -- whether one other goes before the next: w says that an extremely low-income one is wanted, e that the other is one, n
@@ -18,29 +14,17 @@ abbrev decides : Bool → Bool → Bool → Bool → Bool
 decides w e n s = (w && (e && not n)) || (s && not (w && (n && not e)))
 
 unwanted : (e n s : Bool) → s ≡ false → decides false e n s ≡ false
-unwanted e n true behind = behind
-unwanted e n false behind = refl
+unwanted e n s behind = grind (arith, common_steps, behind)
 
 preferred : (e n s : Bool) → n ≡ true → (e ≡ true → s ≡ false) → decides true e n s ≡ false
-preferred e false s is behind = absurd (false≢true is)
-preferred true true true is behind = behind refl
-preferred true true false is behind = refl
-preferred false true true is behind = refl
-preferred false true false is behind = refl
+preferred e n s is behind = grind (arith, common_steps, is, behind)
 
 ordinary : (e n s : Bool) → e ≡ false → s ≡ false → decides true e n s ≡ false
-ordinary true n s is behind = absurd (false≢true (sym is))
-ordinary false n true is behind = absurd (false≢true (sym behind))
-ordinary false n false is behind = refl
+ordinary e n s is behind = grind (arith, common_steps, is, behind)
 
--- both tests pass
-both_pass : (a b : Bool) → a ≡ true → b ≡ true → (a && b) ≡ true
-both_pass a b of_a of_b = rw (of_a, of_b) refl
-
--- the second test fails where the two don't pass together
+-- the second test false_from_ne_true where the two don't pass together
 second_fails : (a b : Bool) → a ≡ true → ((a && b) ≡ true → ⊥) → b ≡ false
-second_fails a true of_a not_both = absurd (not_both (both_pass a true of_a refl))
-second_fails a false of_a not_both = refl
+second_fails a b of_a not_both = false_from_ne_true b (λ is. not_both (and_from a b of_a is))
 
 -- who is next of a group
 abbrev IsNextOf : Asked → List Applicant → (Applicant → Bool) → Option Applicant → Type 0
@@ -68,7 +52,7 @@ chosen asked applicants is_of true is (Some next) first of_extremely of_first =
       last = λ k d within passed.
           let other : Applicant = get_or applicants k d in
           rw is (preferred (is_extremely_low asked other) (is_extremely_low asked next) (stands_behind next other) parts.1
-          (λ low. of_extremely.last k d within (both_pass (is_of other) (is_extremely_low asked other) passed low)));
+          (λ low. of_extremely.last k d within (and_from (is_of other) (is_extremely_low asked other) passed low)));
     }
 chosen asked applicants is_of true is None None of_extremely of_first = record {
   among = tt;
@@ -117,7 +101,7 @@ of_need asked applicants need is_of told tells =
       among = tt;
       first = λ k d within passed of_need.
           let other : Applicant = get_or applicants k d in
-          is.last k d within (both_pass (is_candidate asked other) (is_of other) passed (tells other of_need));
+          is.last k d within (and_from (is_candidate asked other) (is_of other) passed (tells other of_need));
     }
     by_next (Some next) is =
         let parts = and_parts (is_candidate asked next) (is_of next) is.among.1 in
@@ -125,13 +109,8 @@ of_need asked applicants need is_of told tells =
           among = (is.among.0, parts.0, told next parts.1);
           first = λ k d within passed of_need.
               let other : Applicant = get_or applicants k d in
-              is.last k d within (both_pass (is_candidate asked other) (is_of other) passed (tells other of_need));
+              is.last k d within (and_from (is_candidate asked other) (is_of other) passed (tells other of_need));
         }
-
--- a test that can't pass fails
-fails : (b : Bool) → (b ≡ true → ⊥) → b ≡ false
-fails true never = absurd (never refl)
-fails false never = refl
 
 -- who is next of those of a need goes before all of them
 is_first : (asked : Asked) (applicants : List Applicant) (need : Bool) (next : Applicant) → NextOfNeed asked applicants need (Some next) →
@@ -168,7 +147,7 @@ in_turn asked applicants None other None another no_mover_needs is_other of_need
     by_others other another is_other of_others
   where
     none_needs : NoApplicantNeeds asked applicants
-    none_needs = λ k d within passed. fails (needs asked (get_or applicants k d)) (of_need.first k d within passed)
+    none_needs = λ k d within passed. false_from_ne_true (needs asked (get_or applicants k d)) (of_need.first k d within passed)
 
     by_others : (other : Option ℕ) (another : Option Applicant) → asked.other ≡ other → NextOfNeed asked applicants false another →
         IsRightful asked applicants (first_there (mover_of other ∷ by_number another ∷ []))
@@ -180,17 +159,15 @@ in_turn asked applicants None other None another no_mover_needs is_other of_need
       no_mover = is_other;
       no_applicant = λ k d within.
           let applicant : Applicant = get_or applicants k d in
-          fails (is_candidate asked applicant) (λ passed. of_others.first k d within passed (none_needs k d within passed));
+          false_from_ne_true (is_candidate asked applicant) (λ passed. of_others.first k d within passed (none_needs k d within passed));
     }
 
 -- the second of two tests is as both together, where the first passes
 without_need : (unit applicant : Bool) → unit ≡ true → not applicant ≡ true → (unit && applicant) ≡ false
-without_need unit true of_unit not_applicant = absurd (false≢true not_applicant)
-without_need unit false of_unit not_applicant = rw of_unit refl
+without_need unit applicant of_unit not_applicant = grind (arith, common_steps, of_unit, not_applicant)
 
 no_need : (unit applicant : Bool) → unit ≡ true → (unit && applicant) ≡ false → not applicant ≡ true
-no_need unit true of_unit neither = absurd (false≢true (sym neither ∙ both_pass unit true of_unit refl))
-no_need unit false of_unit neither = refl
+no_need unit applicant of_unit neither = grind (arith, common_steps, of_unit, neither)
 
 -- in a unit that has accessible features
 in_accessible : (asked : Asked) (applicants : List Applicant) → asked.unit.accessible ≡ true →
@@ -202,7 +179,7 @@ in_accessible asked applicants is =
     (next_of asked (filter (λ applicant. not applicant.accessible) (candidates asked applicants)))
     (by_needing asked.needing refl) refl
     (of_need asked applicants true (λ applicant. applicant.accessible)
-    (λ applicant. both_pass asked.unit.accessible applicant.accessible is)
+    (λ applicant. and_from asked.unit.accessible applicant.accessible is)
     (λ applicant needed. (and_parts asked.unit.accessible applicant.accessible needed).1))
     (of_need asked applicants false (λ applicant. not applicant.accessible)
     (λ applicant. without_need asked.unit.accessible applicant.accessible is)

@@ -1,9 +1,5 @@
 -- The least number of a list with one more.
-use Rattle.std.proofs.Common.{◌≡◌, ap, ℕ, min, List, [], ◌∷◌, ◌++◌, refl}
-use Rattle.std.specs.Prelude.{Some}
-use Rattle.std.specs.Option.{option_map_or}
-use Rattle.std.specs.List.{reduce}
-use Rattle.std.proofs.lemmas.Grind.{fold-append}
+use Rattle.wait_list.proofs.Words.{◌≡◌, ap, ℕ, min, List, [], ◌∷◌, ◌++◌, refl, Some, option_map_or, reduce, fold-append}
 
 -- it is the least so far, or the one more where that is less
 pub reduce_min-push : (numbers : List ℕ) (number : ℕ) →

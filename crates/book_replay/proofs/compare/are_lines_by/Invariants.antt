@@ -1,7 +1,4 @@
-use Rattle.std.proofs.Common.{◌≡◌, ◌≤◌, drop, length}
-use Rattle.std.specs.Cmp.Lexicographic.{pointwise}
-use Rattle.book_rows.specs.Same.{same_line}
-use Rattle.office_step.specs.Valid.{lines_by}
+use Rattle.book_replay.proofs.Words.{◌≡◌, ◌≤◌, drop, length, pointwise, same_line, lines_by}
 use Rattle.book_replay.proofs.compare.are_lines_by.Given as goal
 
 abbrev pub invariant-loop-line : goal.invariant-loop-line

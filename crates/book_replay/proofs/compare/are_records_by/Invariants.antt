@@ -1,7 +1,4 @@
-use Rattle.std.proofs.Common.{◌≡◌, ◌≤◌, drop, length}
-use Rattle.std.specs.Cmp.Lexicographic.{pointwise}
-use Rattle.book_rows.specs.Same.{same_record}
-use Rattle.office_step.specs.Valid.{records_by}
+use Rattle.book_replay.proofs.Words.{◌≡◌, ◌≤◌, drop, length, pointwise, same_record, records_by}
 use Rattle.book_replay.proofs.compare.are_records_by.Given as goal
 
 abbrev pub invariant-loop-made : goal.invariant-loop-made

@@ -1,6 +1,4 @@
-use Rattle.std.proofs.Common.{◌∙◌, ◌==◌, ap}
-use Rattle.voucher_core.specs.declared.line.Line.{Line}
-use Rattle.office_step.specs.Valid.{lines_by}
+use Rattle.book_replay.proofs.Words.{◌∙◌, ◌==◌, ap, Line, lines_by}
 use Rattle.book_replay.proofs.Gathered.{kept_again}
 use Rattle.book_replay.proofs.near.lines_near.Goals as goal
 

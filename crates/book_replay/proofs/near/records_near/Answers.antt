@@ -1,6 +1,4 @@
-use Rattle.std.proofs.Common.{◌∙◌, ◌==◌, ap}
-use Rattle.record_history.specs.declared.records.Record.{Record}
-use Rattle.office_step.specs.Valid.{records_by}
+use Rattle.book_replay.proofs.Words.{◌∙◌, ◌==◌, ap, Record, records_by}
 use Rattle.book_replay.proofs.Gathered.{kept_again}
 use Rattle.book_replay.proofs.near.records_near.Goals as goal
 

@@ -1,5 +1,4 @@
-use Rattle.std.proofs.Common.{◌≡◌, map, drop}
-use Rattle.office_step.specs.Valid.{stray}
+use Rattle.book_replay.proofs.Words.{◌≡◌, map, drop, stray}
 use Rattle.book_replay.proofs.strays.stray_line.Given as goal
 
 abbrev pub invariant-loop-line : goal.invariant-loop-line

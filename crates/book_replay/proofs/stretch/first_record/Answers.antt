@@ -1,6 +1,4 @@
-use Rattle.std.proofs.Common.{rules, nat_lt}
-use Rattle.std.proofs.lemmas.List.Sorted.{IsPartitionPoint-from_clause, IsPartitionedBy-ltb}
-use Rattle.book_search.proofs.Stretch.{never_falls_either}
+use Rattle.book_replay.proofs.Words.{rules, nat_lt, IsPartitionPoint-from_clause, IsPartitionedBy-ltb, never_falls_either}
 use Rattle.book_replay.proofs.stretch.first_record.Goals as goal
 
 pub returns-clause-point : goal.returns-clause-point

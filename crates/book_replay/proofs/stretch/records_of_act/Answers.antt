@@ -1,6 +1,4 @@
-use Rattle.std.proofs.Common.{◌≡◌, ◌∙◌, ◌-◌, length, take, drop, ap, arith, length-drop}
-use Rattle.std.proofs.lemmas.List.{take_all}
-use Rattle.book_search.proofs.Stretch.{filter_stretch}
+use Rattle.book_replay.proofs.Words.{◌≡◌, ◌∙◌, ◌-◌, length, take, drop, ap, arith, length-drop, take_all, filter_stretch}
 use Rattle.book_replay.proofs.stretch.records_of_act.Goals as goal
 
 pub returns : goal.returns

@@ -1,6 +1,4 @@
-use Rattle.std.proofs.Common.{rules, nat_le}
-use Rattle.std.proofs.lemmas.List.Sorted.{IsPartitionPoint-from_clause, IsPartitionedBy-leb}
-use Rattle.book_search.proofs.Stretch.{never_falls_either}
+use Rattle.book_replay.proofs.Words.{rules, nat_le, IsPartitionPoint-from_clause, IsPartitionedBy-leb, never_falls_either}
 use Rattle.book_replay.proofs.stretch.records_up_to.Goals as goal
 
 pub returns-clause-point : goal.returns-clause-point

@@ -1,6 +1,4 @@
-use Rattle.std.proofs.Common.{ap}
-use Rattle.std.specs.Option.{option_copied}
-use Rattle.row_index.proofs.Points.{number_there, number_not_there, number_past}
+use Rattle.book_search.proofs.Words.{ap, option_copied, number_there, number_not_there, number_past}
 use Rattle.book_search.proofs.Stretch.{never_falls}
 use Rattle.book_search.proofs.by_act.act_of_number.Goals as goal
 

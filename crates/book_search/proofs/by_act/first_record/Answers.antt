@@ -1,5 +1,4 @@
-use Rattle.std.proofs.Common.{rules, nat_lt}
-use Rattle.std.proofs.lemmas.List.Sorted.{IsPartitionPoint-from_clause, IsPartitionedBy-ltb}
+use Rattle.book_search.proofs.Words.{rules, nat_lt, IsPartitionPoint-from_clause, IsPartitionedBy-ltb}
 use Rattle.book_search.proofs.Stretch.{never_falls}
 use Rattle.book_search.proofs.by_act.first_record.Goals as goal
 

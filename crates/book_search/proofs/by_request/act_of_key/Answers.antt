@@ -1,8 +1,4 @@
-use Rattle.std.proofs.Common.{◌∙◌, sym, ap}
-use Rattle.std.specs.Prelude.{slice_get}
-use Rattle.std.specs.Option.{option_and_then}
-use Rattle.row_index.specs.Index.{place_of}
-use Rattle.book_search.specs.Requests.{act_key}
+use Rattle.book_search.proofs.Words.{◌∙◌, sym, ap, slice_get, option_and_then, place_of, act_key}
 use Rattle.book_search.proofs.by_request.act_of_key.Goals as goal
 
 pub returns-in_default : goal.returns-in_default

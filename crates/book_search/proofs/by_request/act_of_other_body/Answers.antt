@@ -1,6 +1,4 @@
-use Rattle.std.proofs.Common.{◌∙◌, sym, ap}
-use Rattle.std.specs.Prelude.{not, bytes_eq}
-use Rattle.std.specs.Option.{option_copied}
+use Rattle.book_search.proofs.Words.{◌∙◌, sym, ap, not, bytes_eq, option_copied}
 use Rattle.book_search.proofs.Requests.{it_passes, it_fails, no_request}
 use Rattle.book_search.proofs.by_request.act_of_other_body.Goals as goal
 

@@ -1,11 +1,4 @@
-use Rattle.std.proofs.Common.{ℕ, ◌≡◌, ◌∙◌, sym, ap, true, nat_eq, Bool, arith}
-use Rattle.std.specs.Option.{option_copied}
-use Rattle.std.proofs.lemmas.Bool.Decides.{nat_tests}
-use Rattle.std.proofs.lemmas.Bool.{false≢true}
-use Rattle.book_rows.specs.declared.rows.ActRow.{ActRow}
-use Rattle.row_index.specs.Index.{request_key}
-use Rattle.book_search.specs.Requests.{act_key, is_of_request}
-use Rattle.book_search.proofs.Found.{found_passes, none_narrower, first_narrower}
+use Rattle.book_search.proofs.Words.{ℕ, ◌≡◌, ◌∙◌, sym, ap, true, nat_eq, Bool, arith, option_copied, nat_tests, false≢true, ActRow, request_key, act_key, is_of_request, find_passes, find_none-narrower, find_first-narrower}
 use Rattle.book_search.proofs.by_request.act_of_request.Goals as goal
 
 -- the test for the key of a request
@@ -17,16 +10,16 @@ narrower clerk request key is act passed = grind (arith, nat_tests, is, passed)
 
 pub returns-in_default : goal.returns-in_default
 returns-in_default c =
-    sym (none_narrower (is_of_request c.args.clerk c.args.request) (of_key c.act_key.result) (narrower _ _ _ c.act_key.ensures) c.args.acts.now
+    sym (find_none-narrower (is_of_request c.args.clerk c.args.request) (of_key c.act_key.result) (narrower _ _ _ c.act_key.ensures) c.args.acts.now
     (sym c.act_of_key.ensures ∙ ap option_copied c.in_default.is))
 
 pub returns-then-is_of_request : goal.returns-then-is_of_request
 returns-then-is_of_request c =
-    sym (first_narrower (is_of_request c.args.clerk c.args.request) (of_key c.act_key.result) (narrower _ _ _ c.act_key.ensures) c.args.acts.now c.in-Some.act.now
+    sym (find_first-narrower (is_of_request c.args.clerk c.args.request) (of_key c.act_key.result) (narrower _ _ _ c.act_key.ensures) c.args.acts.now c.in-Some.act.now
     (sym c.act_of_key.ensures ∙ ap option_copied c.in-Some.is) (sym c.is_of_request.ensures.value ∙ c.if-is_of_request.true))
 
 pub returns-else-is_of_request : goal.returns-else-is_of_request
 returns-else-is_of_request c =
     absurd (false≢true (sym c.if-is_of_request.false ∙ c.is_of_request.ensures.key
     ∙ ap (nat_eq (act_key c.in-Some.act.now)) (sym c.act_key.ensures)
-    ∙ found_passes (of_key c.act_key.result) c.args.acts.now c.in-Some.act.now (sym c.act_of_key.ensures ∙ ap option_copied c.in-Some.is)))
+    ∙ find_passes (of_key c.act_key.result) c.args.acts.now c.in-Some.act.now (sym c.act_of_key.ensures ∙ ap option_copied c.in-Some.is)))

@@ -2,19 +2,19 @@ use Rattle.std.proofs.Common.{◌≡◌, ℕ, ◌+◌, length, ap, sym, ◌∙�
 use Rattle.std.specs.Prelude.{sum_by}
 use Rattle.std.specs.List.{range_with_len}
 use Rattle.deduction_rules.specs.Deductions.{is_helped_adult}
-use Rattle.income_rules.proofs.Sums.{sum_by-range_more}
 use Rattle.deduction_rules.proofs.Bounds.{share_of, shares-le, earned_by-shares}
 use Rattle.deduction_rules.proofs.earners.earned_by_helped.Goals as goal
+use Rattle.list_laws.proofs.Ranges.{sum_by-range_more}
 
 pub overflow_add-total : goal.overflow_add-total
 overflow_add-total c =
-    let more = sum_by-range_more (share_of (is_helped_adult c.args.day) c.args.facts.now c.args.day) c.loop-number.number in
+    let more = sum_by-range_more (share_of (is_helped_adult c.args.day) c.args.facts.now c.args.day) 0 c.loop-number.number c.loop-number.number (omega arith) in
     let within = shares-le (is_helped_adult c.args.day) c.args.facts.now c.args.day (c.loop-number.number + 1) c.requires in
     omega (arith, more, within)
 
 pub loop-number-preserved : goal.loop-number-preserved
 loop-number-preserved c =
-    let more = sum_by-range_more (share_of (is_helped_adult c.args.day) c.args.facts.now c.args.day) c.loop-number.number in
+    let more = sum_by-range_more (share_of (is_helped_adult c.args.day) c.args.facts.now c.args.day) 0 c.loop-number.number c.loop-number.number (omega arith) in
     omega (arith, more)
 
 pub returns : goal.returns

@@ -1,7 +1,4 @@
-use Rattle.std.proofs.Common.{◌+◌, arith}
-use Rattle.std.proofs.lemmas.Bool.{lt-leb}
-use Rattle.days_core.specs.Calendar.{month_of}
-use Rattle.due_dates.specs.Rightful.{next_anniversary}
+use Rattle.due_dates.proofs.Words.{◌+◌, arith, lt-leb, month_of, next_anniversary}
 use Rattle.due_dates.proofs.RightfulLemmas.{is_next_anniversary}
 use Rattle.due_dates.proofs.laws.annuals_begin_with_the_next_anniversary.Goals as goal
 

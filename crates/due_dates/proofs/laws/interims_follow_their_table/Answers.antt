@@ -1,5 +1,4 @@
-use Rattle.std.proofs.Common.{◌+◌, arith}
-use Rattle.std.proofs.lemmas.Bool.{le-leb, lt-leb}
+use Rattle.due_dates.proofs.Words.{◌+◌, arith, le-leb, lt-leb}
 use Rattle.due_dates.proofs.RightfulLemmas.{is_month_after, is_first_start}
 use Rattle.due_dates.proofs.laws.interims_follow_their_table.Goals as goal
 

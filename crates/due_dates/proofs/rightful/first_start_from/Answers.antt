@@ -1,7 +1,4 @@
-use Rattle.std.proofs.Common.{rules, ◌≡◌, ◌+◌, ◌∙◌, sym, ap}
-use Rattle.std.proofs.lemmas.Bool.{eqb-true, eqb-false}
-use Rattle.days_core.specs.Calendar.{month_of, first_of}
-use Rattle.due_dates.specs.Rightful.{begins_from}
+use Rattle.due_dates.proofs.Words.{rules, ◌≡◌, ◌+◌, ◌∙◌, sym, ap, eqb-true, eqb-false, month_of, first_of, begins_from}
 use Rattle.due_dates.proofs.MonthLemmas.{first_month_that-is, first_start-own, first_start-next}
 use Rattle.due_dates.proofs.rightful.first_start_from.Goals as goal
 

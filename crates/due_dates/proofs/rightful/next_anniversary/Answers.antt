@@ -1,6 +1,4 @@
-use Rattle.std.proofs.Common.{◌≡◌, ◌+◌, ◌∙◌, sym, ap, arith}
-use Rattle.days_core.specs.Calendar.{month_of, first_of}
-use Rattle.due_dates.specs.Rightful.{has_anniversary_after}
+use Rattle.due_dates.proofs.Words.{◌≡◌, ◌+◌, ◌∙◌, sym, ap, arith, month_of, first_of, has_anniversary_after}
 use Rattle.due_dates.proofs.MonthLemmas.{first_month_that-is, anniversary, wait_of, month_of_by}
 use Rattle.due_dates.proofs.rightful.next_anniversary.Goals as goal
 

@@ -1,6 +1,4 @@
-use Rattle.std.proofs.Common.{arith}
-use Rattle.facts_core.specs.declared.property.Disposal.{Disposal}
-use Rattle.income_rules.specs.Assets.{is_between}
+use Rattle.income_rules.proofs.Words.{arith, Disposal, is_between}
 use Rattle.income_rules.proofs.Sums.{sum_by-filter-le}
 use Rattle.income_rules.proofs.assets.given_away.Goals as goal
 

@@ -1,7 +1,6 @@
 use Rattle.income_rules.proofs.Fits.{incomes_fit, sum_of-le}
 use Rattle.income_rules.proofs.Kept.{keeps, born_by}
-use Rattle.income_rules.specs.Income.{is_earned}
-use Rattle.std.proofs.Common.{arith}
+use Rattle.income_rules.proofs.Words.{is_earned, arith}
 use Rattle.income_rules.proofs.earned.counted_earned.Goals as goal
 
 pub earnings-earnings-requires : goal.earnings-earnings-requires

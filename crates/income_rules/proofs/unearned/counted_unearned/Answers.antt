@@ -1,5 +1,4 @@
-use Rattle.std.proofs.Common.{arith}
-use Rattle.income_rules.specs.Income.{is_counted_whole, is_adoption}
+use Rattle.income_rules.proofs.Words.{arith, is_counted_whole, is_adoption}
 use Rattle.income_rules.proofs.Fits.{incomes_fit, sum_of-le, whole_and_adoption_fit}
 use Rattle.income_rules.proofs.unearned.counted_unearned.Goals as goal
 

@@ -1,6 +1,4 @@
-use Rattle.std.specs.Prelude.{◌≡◌, sum_by}
-use Rattle.std.specs.List.{range_with_len}
-use Rattle.income_rules.specs.Income.{counted_unearned_of}
+use Rattle.income_rules.proofs.Words.{◌≡◌, sum_by, range_with_len, counted_unearned_of}
 use Rattle.income_rules.proofs.unearned.unearned.Given as goal
 
 abbrev pub invariant-loop-number : goal.invariant-loop-number

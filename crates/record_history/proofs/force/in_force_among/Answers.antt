@@ -1,5 +1,4 @@
-use Rattle.std.proofs.Common.{arith}
-use Rattle.std.proofs.lemmas.Grind.{common_steps}
+use Rattle.record_history.proofs.Words.{arith, common_steps}
 use Rattle.record_history.proofs.force.in_force_among.Goals as goal
 
 pub loop-held-preserved : goal.loop-held-preserved

@@ -1,5 +1,4 @@
-use Rattle.std.specs.Prelude.{◌≡◌, nat_le, take, filter, option_copied}
-use Rattle.record_history.specs.Records.{as_of, is_live, latest}
+use Rattle.record_history.proofs.Words.{◌≡◌, nat_le, take, filter, option_copied, as_of, is_live, latest}
 use Rattle.record_history.proofs.force.in_force_among.Given as goal
 
 abbrev pub invariant-loop-held : goal.invariant-loop-held

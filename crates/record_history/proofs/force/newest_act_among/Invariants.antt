@@ -1,5 +1,4 @@
-use Rattle.std.specs.Prelude.{◌≡◌, take}
-use Rattle.record_history.specs.Records.{newest_act}
+use Rattle.record_history.proofs.Words.{◌≡◌, take, newest_act}
 use Rattle.record_history.proofs.force.newest_act_among.Given as goal
 
 abbrev pub invariant-loop-held : goal.invariant-loop-held

@@ -1,6 +1,4 @@
-use Rattle.std.proofs.Common.{◌≡◌, ◌∙◌, arith, length}
-use Rattle.std.proofs.lemmas.List.{length-map}
-use Rattle.record_history.specs.Held.{lists_in, room_in, room_to_come}
+use Rattle.record_history.proofs.Words.{◌≡◌, ◌∙◌, arith, length, length-map, lists_in, room_in, room_to_come}
 use Rattle.record_history.proofs.Places.{is_next, lists_more, room_more}
 use Rattle.record_history.proofs.lists.push_at.Goals as goal
 

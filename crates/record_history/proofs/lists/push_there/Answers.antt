@@ -1,5 +1,4 @@
-use Rattle.std.proofs.Common.{ap, arith}
-use Rattle.std.specs.Prelude.{vec_items, vec_len, vec_capacity}
+use Rattle.record_history.proofs.Words.{ap, arith, vec_items, vec_len, vec_capacity}
 use Rattle.record_history.proofs.Places.{is_there, lists_pushed, room_pushed}
 use Rattle.record_history.proofs.lists.push_there.Goals as goal
 

@@ -1,5 +1,4 @@
-use Rattle.std.proofs.Common.{◌∙◌, ap, arith}
-use Rattle.std.specs.Prelude.{vec_items, vec_len, vec_capacity}
+use Rattle.record_history.proofs.Words.{◌∙◌, ap, arith, vec_items, vec_len, vec_capacity}
 use Rattle.record_history.proofs.Places.{lists_kept, room_after, room_kept}
 use Rattle.record_history.proofs.lists.reserve_there.Goals as goal
 

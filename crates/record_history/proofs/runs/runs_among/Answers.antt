@@ -1,8 +1,5 @@
-use Rattle.std.proofs.Common.{◌≡◌, ◌∙◌, ◌+◌, ◌-◌, All, List, map, sym, subst, ℕ, arith}
+use Rattle.record_history.proofs.Words.{◌≡◌, ◌∙◌, ◌+◌, ◌-◌, All, List, map, sym, subst, ℕ, arith, Stretch, as_of, number_on, run_of, IsBy}
 use Rattle.std.proofs.lemmas.Result.{IfOk-weaker}
-use Rattle.record_history.specs.declared.stretch.Stretch.{Stretch}
-use Rattle.record_history.specs.Records.{as_of}
-use Rattle.record_history.specs.Runs.{number_on, run_of, IsBy}
 use Rattle.record_history.proofs.Longest.{stretches_by, are_longest}
 use Rattle.record_history.proofs.runs.runs_among.Goals as goal
 

@@ -1,5 +1,4 @@
-use Rattle.std.specs.Prelude.{◌≡◌, map, take}
-use Rattle.record_history.specs.Runs.{run_of}
+use Rattle.record_history.proofs.Words.{◌≡◌, map, take, run_of}
 use Rattle.record_history.proofs.runs.runs_of.Given as goal
 
 abbrev pub invariant-loop-stretch : goal.invariant-loop-stretch

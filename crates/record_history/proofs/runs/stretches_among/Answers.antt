@@ -1,8 +1,4 @@
-use Rattle.std.proofs.Common.{◌-◌, ◌∙◌, arith}
-use Rattle.std.specs.Prelude.{nat_eq}
-use Rattle.record_history.specs.Records.{as_of}
-use Rattle.record_history.specs.Stretch.{newest_first}
-use Rattle.record_history.specs.Runs.{number_on}
+use Rattle.record_history.proofs.Words.{◌-◌, ◌∙◌, arith, nat_eq, as_of, newest_first, number_on}
 use Rattle.record_history.proofs.Longest.{one_more}
 use Rattle.record_history.proofs.runs.stretches_among.Goals as goal
 

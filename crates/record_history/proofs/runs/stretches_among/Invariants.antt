@@ -1,7 +1,4 @@
-use Rattle.std.specs.Prelude.{◌≡◌, ◌≤◌, ◌+◌, ◌-◌, max, nat_eq}
-use Rattle.record_history.specs.Records.{as_of}
-use Rattle.record_history.specs.Stretch.{stretches}
-use Rattle.record_history.specs.Runs.{number_on}
+use Rattle.record_history.proofs.Words.{◌≡◌, ◌≤◌, ◌+◌, ◌-◌, max, nat_eq, as_of, stretches, number_on}
 use Rattle.record_history.proofs.runs.stretches_among.Given as goal
 
 abbrev pub invariant-loop-day : goal.invariant-loop-day

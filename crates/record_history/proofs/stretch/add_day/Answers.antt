@@ -1,6 +1,4 @@
-use Rattle.std.proofs.Common.{rules, ◌≡◌, ◌++◌, ◌∷◌, [], List, ◌∙◌, sym, ap, length}
-use Rattle.std.specs.Prelude.{vec_items}
-use Rattle.record_history.specs.declared.stretch.Stretch.{Stretch}
+use Rattle.record_history.proofs.Words.{rules, ◌≡◌, ◌++◌, ◌∷◌, [], List, ◌∙◌, sym, ap, length, vec_items, Stretch}
 use Rattle.record_history.proofs.Days.{joins, begins, begins_first, put_back, none_there}
 use Rattle.record_history.proofs.stretch.add_day.Goals.{in-Some+else-eq, in_default}
 use Rattle.record_history.proofs.stretch.add_day.Goals as goal

@@ -1,6 +1,4 @@
-use Rattle.std.proofs.Common.{◌≡◌, length}
-use Rattle.std.specs.Prelude.{IsOk}
-use Rattle.std.specs.List.{insert}
+use Rattle.rent_table.proofs.Words.{◌≡◌, length, IsOk, insert}
 use Rattle.rent_table.proofs.ByName.{AreByName-push}
 use Rattle.rent_table.proofs.lookup.add_by_name.Goals as goal
 

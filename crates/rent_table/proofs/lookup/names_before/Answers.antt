@@ -1,8 +1,4 @@
-use Rattle.std.proofs.Common.{rules}
-use Rattle.std.proofs.lemmas.Cmp.{nat_list_cmp_total}
-use Rattle.std.proofs.lemmas.List.Sorted.{IsPartitionPoint-from_clause}
-use Rattle.rent_table.specs.Names.{name_at, is_before}
-use Rattle.row_index.proofs.Keyed.{parted}
+use Rattle.rent_table.proofs.Words.{rules, nat_list_cmp_total, IsPartitionPoint-from_clause, name_at, is_before, parted}
 use Rattle.rent_table.proofs.lookup.names_before.Goals as goal
 
 pub returns-clause-point : goal.returns-clause-point

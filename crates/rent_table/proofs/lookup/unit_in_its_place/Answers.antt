@@ -1,8 +1,5 @@
-use Rattle.std.proofs.Common.{◌-◌, ◌∙◌, sym, ap, eqb, arith}
-use Rattle.std.specs.Option.{option_copied}
+use Rattle.rent_table.proofs.Words.{◌-◌, ◌∙◌, sym, ap, eqb, arith, option_copied, UnitRow, find_own}
 use Rattle.std.proofs.lemmas.Bool.Decides.{nat_tests}
-use Rattle.rent_table.specs.declared.rows.Unit.{Unit as UnitRow}
-use Rattle.row_index.proofs.Places.{find_own}
 use Rattle.rent_table.proofs.lookup.unit_in_its_place.Goals as goal
 
 -- no other unit has its number

@@ -1,5 +1,4 @@
-use Rattle.std.proofs.Common.{◌∙◌, sym, ap, rules}
-use Rattle.std.specs.Option.{option_copied}
+use Rattle.rent_table.proofs.Words.{◌∙◌, sym, ap, rules, option_copied}
 use Rattle.rent_table.proofs.ByName.{past_all, another_there, unit_is_there, own_name}
 use Rattle.rent_table.proofs.lookup.unit_of_name.Goals as goal
 

@@ -1,6 +1,4 @@
-use Rattle.std.proofs.Common.{◌≡◌, take}
-use Rattle.std.specs.Option.{option_copied}
-use Rattle.rent_table.specs.Table.{limits_on}
+use Rattle.rent_table.proofs.Words.{◌≡◌, take, option_copied, limits_on}
 use Rattle.rent_table.proofs.standing.limit_row_on.Given as goal
 
 abbrev pub invariant-loop-row : goal.invariant-loop-row

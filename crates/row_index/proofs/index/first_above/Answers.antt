@@ -1,5 +1,4 @@
-use Rattle.std.proofs.Common.{rules, nat_le}
-use Rattle.std.proofs.lemmas.List.Sorted.{IsPartitionPoint-from_clause, IsPartitionedBy-leb}
+use Rattle.row_index.proofs.Words.{rules, IsPartitionPoint-from_clause, IsPartitionedBy-leb, nat_le}
 use Rattle.row_index.proofs.index.first_above.Goals as goal
 
 pub returns-clause-point : goal.returns-clause-point

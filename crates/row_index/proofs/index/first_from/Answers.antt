@@ -1,5 +1,4 @@
-use Rattle.std.proofs.Common.{rules, nat_lt}
-use Rattle.std.proofs.lemmas.List.Sorted.{IsPartitionPoint-from_clause, IsPartitionedBy-ltb}
+use Rattle.row_index.proofs.Words.{rules, IsPartitionPoint-from_clause, IsPartitionedBy-ltb, nat_lt}
 use Rattle.row_index.proofs.index.first_from.Goals as goal
 
 pub returns-clause-point : goal.returns-clause-point

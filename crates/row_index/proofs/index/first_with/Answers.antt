@@ -1,5 +1,4 @@
-use Rattle.std.proofs.Common.{ap}
-use Rattle.std.specs.Option.{option_copied}
+use Rattle.row_index.proofs.Words.{ap, option_copied}
 use Rattle.row_index.proofs.Points.{number_there, number_not_there, number_past}
 use Rattle.row_index.proofs.index.first_with.Goals as goal
 

@@ -1,6 +1,4 @@
-use Rattle.std.specs.Prelude.{◌≡◌, take, filter, option_copied}
-use Rattle.record_history.specs.Records.{is_live, latest}
-use Rattle.tenancy_rules.specs.Changed.{without, is_before}
+use Rattle.tenancy_rules.proofs.Words.{◌≡◌, take, filter, option_copied, is_live, latest, without, is_before}
 use Rattle.tenancy_rules.proofs.changed.latest_before.Given as goal
 
 abbrev pub invariant-loop-held : goal.invariant-loop-held

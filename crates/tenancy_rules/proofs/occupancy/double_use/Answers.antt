@@ -1,6 +1,4 @@
-use Rattle.std.proofs.Common.{◌∙◌, sym, ap, ◌+◌, ℕ, Option}
-use Rattle.tenancy_rules.specs.Occupancy.{is_rival_on}
-use Rattle.tenancy_rules.specs.Beginnings.{sooner_rivalry}
+use Rattle.tenancy_rules.proofs.Words.{◌∙◌, sym, ap, ◌+◌, ℕ, Option, is_rival_on, sooner_rivalry}
 use Rattle.tenancy_rules.proofs.Rivals.{first_rivalry-more}
 use Rattle.tenancy_rules.proofs.occupancy.double_use.Goals as goal
 

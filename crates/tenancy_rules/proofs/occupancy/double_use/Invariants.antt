@@ -1,5 +1,4 @@
-use Rattle.std.specs.Prelude.{◌≡◌}
-use Rattle.tenancy_rules.specs.Occupancy.{is_rival_on, first_rivalry}
+use Rattle.tenancy_rules.proofs.Words.{◌≡◌, is_rival_on, first_rivalry}
 use Rattle.tenancy_rules.proofs.occupancy.double_use.Given as goal
 
 abbrev pub invariant-loop-place : goal.invariant-loop-place

@@ -1,7 +1,4 @@
-use Rattle.std.specs.Prelude.{◌≡◌, take, filter, option_copied}
-use Rattle.record_history.specs.Records.{is_live}
-use Rattle.tenancy_rules.specs.Changed.{without, changed_records}
-use Rattle.tenancy_rules.specs.Order.{is_out_of_order, earliest}
+use Rattle.tenancy_rules.proofs.Words.{◌≡◌, take, filter, option_copied, is_live, without, changed_records, is_out_of_order, earliest}
 use Rattle.tenancy_rules.proofs.order.first_out_of_order.Given as goal
 
 abbrev pub invariant-loop-held : goal.invariant-loop-held

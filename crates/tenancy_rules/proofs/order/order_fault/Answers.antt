@@ -1,6 +1,4 @@
-use Rattle.std.proofs.Common.{List, subst}
-use Rattle.record_history.specs.declared.records.Record.{Record}
-use Rattle.record_history.specs.Held.{AreNumbered, records_of}
+use Rattle.tenancy_rules.proofs.Words.{List, subst, Record, AreNumbered, records_of}
 use Rattle.tenancy_rules.proofs.Numbers.{changed-rise}
 use Rattle.tenancy_rules.proofs.order.order_fault.Goals as goal
 

@@ -1,5 +1,4 @@
-use Rattle.std.proofs.Common.{◌≡◌, ◌*◌, pos, neg_ℤ, ◌≤ℤ◌, take}
-use Rattle.voucher_core.specs.Lines.{paid}
+use Rattle.voucher_core.proofs.Words.{◌≡◌, ◌*◌, pos, neg_ℤ, ◌≤ℤ◌, take, paid}
 use Rattle.voucher_core.proofs.book.paid_among.Given as goal
 
 abbrev pub invariant-loop-line : goal.invariant-loop-line

@@ -1,9 +1,5 @@
-use Rattle.std.proofs.Common.{◌≡◌, ◌∙◌, sym, ap, ℕ, ◌+◌, arith}
-use Rattle.std.specs.Prelude.{sum_by}
-use Rattle.std.specs.List.{range_with_len}
-use Rattle.days_core.specs.Calendar.{days_in}
-use Rattle.record_history.specs.Held.{records_of}
-use Rattle.voucher_core.proofs.DayShares.{share_at, sum_by-one_more}
+use Rattle.voucher_core.proofs.Words.{◌≡◌, ◌∙◌, sym, ap, ℕ, ◌+◌, arith, sum_by, range_with_len, days_in, records_of, sum_by-range_more}
+use Rattle.voucher_core.proofs.DayShares.{share_at}
 use Rattle.voucher_core.proofs.certified.certified_amount.Goals as goal
 
 pub loop-place-preserved : goal.loop-place-preserved
@@ -12,7 +8,7 @@ loop-place-preserved c =
     let so_far : ℕ = sum_by share (range_with_len 1 c.loop-place.place) in (
       ap (λ (total : ℕ). total + c.share_on-total.result) c.loop-place.invariant.0
           ∙ ap (λ (added : ℕ). so_far + added) c.share_on-total.ensures.value
-          ∙ sym (sum_by-one_more share c.loop-place.place),
+          ∙ sym (sum_by-range_more share 1 c.loop-place.place (c.loop-place.place + 1) (omega arith)),
       omega (arith, c.loop-place.invariant.1, c.share_on-total.ensures.within),
     )
 

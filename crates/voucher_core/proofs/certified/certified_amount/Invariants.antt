@@ -1,6 +1,4 @@
-use Rattle.std.specs.Prelude.{◌≡◌, ◌≤◌, ◌*◌, sum_by}
-use Rattle.std.specs.List.{range_with_len}
-use Rattle.record_history.specs.Held.{records_of}
+use Rattle.voucher_core.proofs.Words.{◌≡◌, ◌≤◌, ◌*◌, sum_by, range_with_len, records_of}
 use Rattle.voucher_core.proofs.DayShares.{share_at}
 use Rattle.voucher_core.proofs.certified.certified_amount.Given as goal
 

@@ -1,11 +1,4 @@
-use Rattle.std.proofs.Common.{◌≡◌, ◌+◌, ◌-◌, ◌∙◌, arith}
-use Rattle.days_core.specs.Calendar.{last_of, first_of}
-use Rattle.days_core.proofs.Bridge.{first_of-suc, days_in_bounds}
-use Rattle.record_history.specs.Records.{as_of}
-use Rattle.record_history.specs.Held.{records_of}
-use Rattle.record_history.specs.Stretch.{newest_first}
-use Rattle.voucher_core.specs.Certified.{day_at}
-use Rattle.voucher_core.specs.Lines.{known_before, change_on, is_same_change}
+use Rattle.voucher_core.proofs.Words.{◌≡◌, ◌+◌, ◌-◌, ◌∙◌, arith, last_of, first_of, first_of-suc, days_in_bounds, as_of, records_of, newest_first, day_at, known_before, change_on, is_same_change}
 use Rattle.voucher_core.proofs.Usable.{no_day, none_allowed, next_day, next_allowed, all_days, all_usable}
 use Rattle.voucher_core.proofs.changes.changes_of_month.Goals as goal
 

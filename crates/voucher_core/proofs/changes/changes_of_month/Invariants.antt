@@ -1,9 +1,4 @@
-use Rattle.std.proofs.Common.{◌≡◌, ◌-◌}
-use Rattle.record_history.specs.Records.{as_of}
-use Rattle.record_history.specs.Held.{records_of}
-use Rattle.record_history.specs.Stretch.{stretches}
-use Rattle.voucher_core.specs.Certified.{day_at}
-use Rattle.voucher_core.specs.Lines.{known_before, change_on, is_same_change}
+use Rattle.voucher_core.proofs.Words.{◌≡◌, ◌-◌, as_of, records_of, stretches, day_at, known_before, change_on, is_same_change}
 use Rattle.voucher_core.proofs.Usable.{AreAllowed}
 use Rattle.voucher_core.proofs.changes.changes_of_month.Given as goal
 

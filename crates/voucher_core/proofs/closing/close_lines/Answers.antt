@@ -1,6 +1,4 @@
-use Rattle.std.proofs.Common.{◌<◌, ℕ, length, List, ap, subst, sym, ◌∙◌}
-use Rattle.record_history.specs.Held.{records_of}
-use Rattle.voucher_core.specs.declared.line.Line.{Line}
+use Rattle.voucher_core.proofs.Words.{◌<◌, ℕ, length, List, ap, subst, sym, ◌∙◌, records_of, Line}
 use Rattle.voucher_core.proofs.Few.{few}
 use Rattle.voucher_core.proofs.Gathered.{length-placed}
 use Rattle.voucher_core.proofs.closing.close_lines.Goals as goal

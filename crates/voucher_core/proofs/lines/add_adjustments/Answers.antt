@@ -1,6 +1,4 @@
-use Rattle.std.proofs.Common.{◌≡◌, ◌++◌, ◌∙◌, ap, arith, length, Some, ℕ}
-use Rattle.record_history.specs.Held.{records_of}
-use Rattle.voucher_core.specs.Lines.{lines_for}
+use Rattle.voucher_core.proofs.Words.{◌≡◌, ◌++◌, ◌∙◌, ap, arith, length, Some, ℕ, records_of, lines_for}
 use Rattle.voucher_core.proofs.Gathered.{pieces-none, pieces-more, adjustments-all, unwrapped}
 use Rattle.voucher_core.proofs.lines.add_adjustments.Goals as goal
 

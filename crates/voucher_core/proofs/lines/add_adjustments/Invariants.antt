@@ -1,7 +1,4 @@
-use Rattle.std.proofs.Common.{◌≡◌, ◌≤◌, ◌++◌, ◌-◌, max, length, Some}
-use Rattle.std.specs.List.{range_with_len, flat_map}
-use Rattle.record_history.specs.Held.{records_of}
-use Rattle.voucher_core.specs.Lines.{lines_for}
+use Rattle.voucher_core.proofs.Words.{◌≡◌, ◌≤◌, ◌++◌, ◌-◌, max, length, Some, range_with_len, flat_map, records_of, lines_for}
 use Rattle.voucher_core.proofs.lines.add_adjustments.Given as goal
 
 abbrev pub invariant-loop-month : goal.invariant-loop-month

@@ -1,6 +1,4 @@
-use Rattle.std.proofs.Common.{◌≡◌, ◌++◌, pos, not, filter, map, take}
-use Rattle.std.specs.Ordering.{int_eq}
-use Rattle.voucher_core.specs.Lines.{line_of}
+use Rattle.voucher_core.proofs.Words.{◌≡◌, ◌++◌, pos, not, filter, map, take, int_eq, line_of}
 use Rattle.voucher_core.proofs.lines.add_lines.Given as goal
 
 abbrev pub invariant-loop-run : goal.invariant-loop-run

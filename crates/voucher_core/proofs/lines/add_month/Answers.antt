@@ -1,11 +1,4 @@
-use Rattle.std.proofs.Common.{◌++◌, ◌∙◌, ap, pos, not, filter, map, List}
-use Rattle.std.specs.Ordering.{int_eq}
-use Rattle.record_history.specs.Records.{as_of}
-use Rattle.record_history.specs.Held.{records_of}
-use Rattle.record_history.specs.declared.stretch.Stretch.{Stretch}
-use Rattle.voucher_core.specs.declared.changes.Change.{Change}
-use Rattle.voucher_core.specs.declared.line.Line.{Line}
-use Rattle.voucher_core.specs.Lines.{known_before, line_of, month_lines}
+use Rattle.voucher_core.proofs.Words.{◌++◌, ◌∙◌, ap, pos, not, filter, map, List, int_eq, as_of, records_of, Stretch, Change, Line, known_before, line_of, month_lines}
 use Rattle.voucher_core.proofs.Gathered.{pieces-more}
 use Rattle.voucher_core.proofs.lines.add_month.Goals as goal
 

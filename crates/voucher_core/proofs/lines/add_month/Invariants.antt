@@ -1,6 +1,4 @@
-use Rattle.std.proofs.Common.{◌≡◌, ◌++◌, ◌-◌}
-use Rattle.record_history.specs.Held.{records_of}
-use Rattle.voucher_core.specs.Lines.{lines_for}
+use Rattle.voucher_core.proofs.Words.{◌≡◌, ◌++◌, ◌-◌, records_of, lines_for}
 use Rattle.voucher_core.proofs.lines.add_month.Given as goal
 
 abbrev pub invariant-loop-household : goal.invariant-loop-household

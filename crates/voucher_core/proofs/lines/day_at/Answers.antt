@@ -1,5 +1,4 @@
-use Rattle.std.proofs.Common.{◌≡◌, ◌+◌, ◌-◌, arith}
-use Rattle.days_core.proofs.Bridge.{first_of-suc}
+use Rattle.voucher_core.proofs.Words.{◌≡◌, ◌+◌, ◌-◌, arith, first_of-suc}
 use Rattle.voucher_core.proofs.Gathered.{unwrapped}
 use Rattle.voucher_core.proofs.lines.day_at.Goals as goal
 

@@ -1,6 +1,4 @@
-use Rattle.std.proofs.Common.{◌≡◌, ◌≤◌, ◌∙◌, ◌-ℤ◌, pos, ap, ℕ, to_z, of_z, w32, refl, arith}
-use Rattle.share_rules.specs.Shares.{run_share}
-use Rattle.voucher_core.specs.Lines.{difference}
+use Rattle.voucher_core.proofs.Words.{◌≡◌, ◌≤◌, ◌∙◌, ◌-ℤ◌, pos, ap, ℕ, to_z, of_z, w32, refl, arith, run_share, difference}
 use Rattle.voucher_core.proofs.Gathered.{amount_is}
 use Rattle.voucher_core.proofs.lines.line_of.Goals as goal
 

@@ -1,5 +1,4 @@
-use Rattle.std.proofs.Common.{◌≡◌, ◌++◌, take, drop}
-use Rattle.voucher_core.specs.Lines.{placed}
+use Rattle.voucher_core.proofs.Words.{◌≡◌, ◌++◌, take, drop, placed}
 use Rattle.voucher_core.proofs.lines.number_lines.Given as goal
 
 abbrev pub invariant-loop-at : goal.invariant-loop-at

@@ -1,5 +1,4 @@
-use Rattle.std.proofs.Common.{◌≤◌, to_z, w64, arith}
-use Rattle.std.proofs.lemmas.Int.{ints}
+use Rattle.voucher_core.proofs.Words.{◌≤◌, to_z, w64, arith, ints}
 use Rattle.voucher_core.proofs.Paid.{total-more}
 use Rattle.voucher_core.proofs.Totals.{summed}
 use Rattle.voucher_core.proofs.sums.total.Goals as goal

@@ -1,5 +1,4 @@
-use Rattle.std.proofs.Common.{◌≡◌, ◌*◌, pos, neg_ℤ, ◌≤ℤ◌, take}
-use Rattle.voucher_core.specs.Lines.{total}
+use Rattle.voucher_core.proofs.Words.{◌≡◌, ◌*◌, pos, neg_ℤ, ◌≤ℤ◌, take, total}
 use Rattle.voucher_core.proofs.sums.total.Given as goal
 
 abbrev pub invariant-loop-line : goal.invariant-loop-line

@@ -1,7 +1,4 @@
-use Rattle.std.proofs.Common.{◌≡◌, take}
-use Rattle.std.specs.Option.{option_copied}
-use Rattle.wait_list.specs.Next.{asked_by, first_of}
-use Rattle.wait_list.specs.Group.{candidates_of}
+use Rattle.wait_list.proofs.Words.{◌≡◌, take, option_copied, asked_by, first_of, candidates_of}
 use Rattle.wait_list.proofs.next.first_of.Given as goal
 
 abbrev pub invariant-loop-applicant : goal.invariant-loop-applicant

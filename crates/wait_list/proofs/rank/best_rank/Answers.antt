@@ -1,6 +1,4 @@
-use Rattle.std.proofs.Common.{arith}
-use Rattle.std.proofs.lemmas.Grind.{common_steps}
-use Rattle.std.proofs.lemmas.List.Elements.{filter_map-append}
+use Rattle.wait_list.proofs.Words.{arith, common_steps, filter_map-append}
 use Rattle.wait_list.proofs.RankLemmas.{reduce_min-push}
 use Rattle.wait_list.proofs.rank.best_rank.Goals as goal
 use Rattle.wait_list.proofs.rank.best_rank.Goals.{in-Some, in_default}

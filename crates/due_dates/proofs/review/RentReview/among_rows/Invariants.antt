@@ -1,5 +1,4 @@
-use Rattle.std.specs.Prelude.{◌≡◌, map, take}
-use Rattle.due_dates.specs.Review.{is_due_on, with_days}
+use Rattle.due_dates.proofs.Words.{◌≡◌, map, take, is_due_on, with_days}
 use Rattle.due_dates.proofs.review.RentReview.among_rows.Given as goal
 
 abbrev pub invariant-loop-row : goal.invariant-loop-row

@@ -1,6 +1,4 @@
-use Rattle.std.proofs.Common.{◌≡◌, ap, arith, length}
-use Rattle.office_register.specs.Registered.{Registered}
-use Rattle.office_register.specs.View.{known_in}
+use Rattle.office_register.proofs.Words.{◌≡◌, ap, arith, length, Registered, known_in}
 use Rattle.office_register.proofs.Sound.{sound_further, newest_act_by}
 use Rattle.office_register.proofs.Lists.{place_there}
 use Rattle.office_register.proofs.register.Register.hold.Goals as goal

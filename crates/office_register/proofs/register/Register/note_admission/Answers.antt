@@ -1,12 +1,5 @@
-use Rattle.std.proofs.Common.{◌≡◌, ◌∙◌, ◌+◌, ap, sym, refl, subst, Option, length}
-use Rattle.std.specs.Prelude.{is_some}
-use Rattle.record_history.specs.declared.records.Record.{Record}
+use Rattle.office_register.proofs.Words.{◌≡◌, ◌∙◌, ◌+◌, ap, sym, refl, subst, Option, length, is_some, Record, known_after, Known, Registered, applicant_name, with_household}
 use Rattle.book_rows.specs.declared.command.Command.TheVariants as command
-use Rattle.office_step.specs.After.{known_after}
-use Rattle.office_step.specs.Known.{Known}
-use Rattle.office_register.specs.Registered.{Registered}
-use Rattle.office_register.specs.Accepted.{applicant_name, with_household}
-use Rattle.office_register.proofs.Standing.{few}
 use Rattle.office_register.proofs.After.{after_admission}
 use Rattle.office_register.proofs.Next.{IsOf, accepted_new, admission_makes}
 use Rattle.office_register.proofs.register.Register.note_admission.Goals as goal

@@ -1,12 +1,5 @@
-use Rattle.std.proofs.Common.{◌≡◌, ◌∙◌, ◌+◌, refl, sym, ap, subst, arith, None}
-use Rattle.std.specs.Prelude.{length}
-use Rattle.office_step.specs.Acts.{application_by}
-use Rattle.office_step.specs.After.{applying}
+use Rattle.office_register.proofs.Words.{◌≡◌, ◌∙◌, ◌+◌, refl, sym, ap, subst, arith, None, length, application_by, applying, known_after, Registered, known_in, IsAccepted}
 use Rattle.book_rows.specs.declared.command.Command.TheVariants as command
-use Rattle.office_step.specs.After.{known_after}
-use Rattle.office_register.specs.Registered.{Registered}
-use Rattle.office_register.specs.View.{known_in}
-use Rattle.office_register.specs.Accepted.{IsAccepted}
 use Rattle.office_register.proofs.After.{after_application}
 use Rattle.office_register.proofs.Sound.{sound_application}
 use Rattle.office_register.proofs.Standing.{few, unlisted}

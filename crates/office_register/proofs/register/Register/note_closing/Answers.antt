@@ -1,8 +1,5 @@
-use Rattle.std.proofs.Common.{◌∙◌, sym, ap, None}
+use Rattle.office_register.proofs.Words.{◌∙◌, sym, ap, None, known_after, Registered, known_in}
 use Rattle.book_rows.specs.declared.command.Command.TheVariants as command
-use Rattle.office_step.specs.After.{known_after}
-use Rattle.office_register.specs.Registered.{Registered}
-use Rattle.office_register.specs.View.{known_in}
 use Rattle.office_register.proofs.After.{after_closing}
 use Rattle.office_register.proofs.register.Register.note_closing.Goals as goal
 

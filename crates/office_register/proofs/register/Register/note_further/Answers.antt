@@ -1,7 +1,5 @@
-use Rattle.std.proofs.Common.{◌∙◌, ap, sym, Option}
-use Rattle.record_history.specs.declared.records.Record.{Record}
+use Rattle.office_register.proofs.Words.{◌∙◌, ap, sym, Option, Record, known_after}
 use Rattle.book_rows.specs.declared.command.Command.TheVariants as command
-use Rattle.office_step.specs.After.{known_after}
 use Rattle.office_register.proofs.Standing.{few}
 use Rattle.office_register.proofs.After.{after_record, after_nothing}
 use Rattle.office_register.proofs.Next.{accepted_further}

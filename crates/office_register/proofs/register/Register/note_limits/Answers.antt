@@ -1,10 +1,5 @@
-use Rattle.std.proofs.Common.{◌∙◌, ◌+◌, refl, sym, ap, subst, None}
-use Rattle.office_step.specs.Acts.{limit_row}
+use Rattle.office_register.proofs.Words.{◌∙◌, ◌+◌, refl, sym, ap, subst, None, limit_row, known_after, Registered, known_in, IsAccepted}
 use Rattle.book_rows.specs.declared.command.Command.TheVariants as command
-use Rattle.office_step.specs.After.{known_after}
-use Rattle.office_register.specs.Registered.{Registered}
-use Rattle.office_register.specs.View.{known_in}
-use Rattle.office_register.specs.Accepted.{IsAccepted}
 use Rattle.office_register.proofs.After.{after_limits}
 use Rattle.office_register.proofs.Sound.{sound_limits}
 use Rattle.office_register.proofs.Standing.{few}

@@ -1,9 +1,5 @@
-use Rattle.std.proofs.Common.{◌≡◌, ◌∙◌, sym, ap, subst, None}
+use Rattle.office_register.proofs.Words.{◌≡◌, ◌∙◌, sym, ap, subst, None, known_after, Registered, known_in, IsAccepted}
 use Rattle.book_rows.specs.declared.command.Command.TheVariants as command
-use Rattle.office_step.specs.After.{known_after}
-use Rattle.office_register.specs.Registered.{Registered}
-use Rattle.office_register.specs.View.{known_in}
-use Rattle.office_register.specs.Accepted.{IsAccepted}
 use Rattle.office_register.proofs.After.{after_plan}
 use Rattle.office_register.proofs.Sound.{sound_plan}
 use Rattle.office_register.proofs.Standing.{few, passes, none_given, none_there}

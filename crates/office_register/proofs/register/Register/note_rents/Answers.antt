@@ -1,10 +1,5 @@
-use Rattle.std.proofs.Common.{◌∙◌, ◌+◌, refl, sym, ap, subst, None}
-use Rattle.office_step.specs.Acts.{rent_row}
+use Rattle.office_register.proofs.Words.{◌∙◌, ◌+◌, refl, sym, ap, subst, None, rent_row, known_after, Registered, known_in, IsAccepted}
 use Rattle.book_rows.specs.declared.command.Command.TheVariants as command
-use Rattle.office_step.specs.After.{known_after}
-use Rattle.office_register.specs.Registered.{Registered}
-use Rattle.office_register.specs.View.{known_in}
-use Rattle.office_register.specs.Accepted.{IsAccepted}
 use Rattle.office_register.proofs.After.{after_rents}
 use Rattle.office_register.proofs.Sound.{sound_rents}
 use Rattle.office_register.proofs.Standing.{few, rents_fit}

@@ -1,9 +1,5 @@
-use Rattle.std.proofs.Common.{◌≡◌, ◌∙◌, ap, sym, refl, subst, Option}
-use Rattle.std.specs.Prelude.{is_some}
-use Rattle.record_history.specs.declared.records.Record.{Record}
+use Rattle.office_register.proofs.Words.{◌≡◌, ◌∙◌, ap, sym, refl, subst, Option, is_some, Record, known_after, Registered}
 use Rattle.book_rows.specs.declared.command.Command.TheVariants as command
-use Rattle.office_step.specs.After.{known_after}
-use Rattle.office_register.specs.Registered.{Registered}
 use Rattle.office_register.proofs.Standing.{few}
 use Rattle.office_register.proofs.After.{after_start}
 use Rattle.office_register.proofs.Next.{accepted_new, start_makes}

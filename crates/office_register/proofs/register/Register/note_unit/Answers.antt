@@ -1,11 +1,5 @@
-use Rattle.std.proofs.Common.{◌∙◌, ◌+◌, refl, sym, ap, subst, arith, None}
-use Rattle.std.specs.Prelude.{length}
-use Rattle.office_step.specs.Acts.{unit_row}
+use Rattle.office_register.proofs.Words.{◌∙◌, ◌+◌, refl, sym, ap, subst, arith, None, length, unit_row, known_after, Registered, known_in, IsAccepted}
 use Rattle.book_rows.specs.declared.command.Command.TheVariants as command
-use Rattle.office_step.specs.After.{known_after}
-use Rattle.office_register.specs.Registered.{Registered}
-use Rattle.office_register.specs.View.{known_in}
-use Rattle.office_register.specs.Accepted.{IsAccepted}
 use Rattle.office_register.proofs.After.{after_unit}
 use Rattle.office_register.proofs.Sound.{sound_unit}
 use Rattle.office_register.proofs.Standing.{few, bedrooms_fit, no_unit_at}

@@ -1,7 +1,4 @@
-use Rattle.std.proofs.Common.{◌≤◌, ◌∙◌, ap, All, List}
-use Rattle.record_history.specs.declared.records.Record.{Record}
-use Rattle.record_history.specs.Held.{Held, IsWithin, AreKept, records_of, lists_in}
-use Rattle.record_history.specs.Records.{in_force, in_force_as_of}
+use Rattle.record_history.proofs.Words.{◌≤◌, ◌∙◌, ap, All, List, Record, Held, IsWithin, AreKept, records_of, lists_in, in_force, in_force_as_of}
 use Rattle.record_history.proofs.Latest.{in_force_is, records_are, in_force_known}
 use Rattle.record_history.proofs.Kept.{kept_none}
 use Rattle.record_history.proofs.history.History.in_force.Goals as goal

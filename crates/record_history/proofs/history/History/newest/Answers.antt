@@ -1,5 +1,4 @@
-use Rattle.std.proofs.Common.{subst}
-use Rattle.record_history.specs.Held.{Held, AreNumbered, AreKept, records_of, lists_in}
+use Rattle.record_history.proofs.Words.{subst, Held, AreNumbered, AreKept, records_of, lists_in}
 use Rattle.record_history.proofs.Latest.{records_are}
 use Rattle.record_history.proofs.Kept.{kept_none}
 use Rattle.record_history.proofs.history.History.newest.Goals as goal

@@ -1,5 +1,4 @@
-use Rattle.std.proofs.Common.{rules, ap, ◌≤◌}
-use Rattle.record_history.specs.Held.{Held, IsWithin, lists_in}
+use Rattle.record_history.proofs.Words.{rules, ap, ◌≤◌, Held, IsWithin, lists_in}
 use Rattle.record_history.proofs.Kept.{sound_push}
 use Rattle.record_history.proofs.history.History.push.Goals as goal
 

@@ -1,7 +1,4 @@
-use Rattle.std.proofs.Common.{◌≡◌, ◌<◌, ◌∙◌, ap, rules}
-use Rattle.std.specs.Prelude.{IsOk, vec_len, vec_capacity}
-use Rattle.std.specs.List.{insert}
-use Rattle.row_index.specs.Index.{with_entry}
+use Rattle.row_index.proofs.Words.{◌≡◌, ◌<◌, ◌∙◌, ap, rules, IsOk, vec_len, vec_capacity, insert, with_entry}
 use Rattle.row_index.proofs.Ordered.{with_entry-insert}
 use Rattle.row_index.proofs.index.RowIndex.insert.Goals as goal
 

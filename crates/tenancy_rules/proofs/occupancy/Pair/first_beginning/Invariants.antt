@@ -1,6 +1,4 @@
-use Rattle.std.specs.Prelude.{◌≡◌, take, fold}
-use Rattle.tenancy_rules.specs.Occupancy.{is_rival_on}
-use Rattle.tenancy_rules.specs.Beginnings.{sooner_beginning}
+use Rattle.tenancy_rules.proofs.Words.{◌≡◌, take, fold, is_rival_on, sooner_beginning}
 use Rattle.tenancy_rules.proofs.occupancy.Pair.first_beginning.Given as goal
 
 abbrev pub invariant-loop-held : goal.invariant-loop-held

@@ -1,10 +1,6 @@
-use Rattle.std.proofs.Common.{◌≡◌, ◌≢◌, ◌∙◌, ap, sym, ℕ, ◌+◌, ◌-◌, ◌<◌, length, nat_eq, Bool, List, rules, if◌then◌else◌}
-use Rattle.std.specs.Prelude.{not, vec_len, vec_capacity}
+use Rattle.wait_list.proofs.Words.{◌≡◌, ◌≢◌, ◌∙◌, ap, sym, ℕ, ◌+◌, ◌-◌, ◌<◌, length, nat_eq, Bool, List, rules, if◌then◌else◌, not, vec_len, vec_capacity, All-filter, Applicant, is_listed, without, IsSize, IsInOrder}
 use Rattle.std.proofs.lemmas.Fn.{filter_same}
-use Rattle.std.proofs.lemmas.List.Elements.{All-filter}
 use Rattle.std.proofs.lemmas.List.Kept.{AllPairs-filter}
-use Rattle.wait_list.specs.declared.applicant.Applicant.{Applicant}
-use Rattle.wait_list.specs.Waiting.{is_listed, without, IsSize, IsInOrder}
 use Rattle.wait_list.proofs.ListedLemmas.{length-without, room_grows}
 use Rattle.wait_list.proofs.list.WaitList.remove.Goals as goal
 

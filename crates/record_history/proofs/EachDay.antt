@@ -1,11 +1,5 @@
 -- Stretches cover their days one after another, each with the key of each of its days and none with its neighbour's.
-use Rattle.std.proofs.Common.{◌≡◌, ◌≢◌, ◌⊎◌, inl, inr, ℕ, zero, suc, ◌+◌, ◌<◌, ◌≤◌, List, [], ◌∷◌, Bool, true, false, refl, ap, sym, ◌∙◌, subst, arith}
-use mathlib.Core.List.{reverse_aux}
-use Rattle.std.specs.Prelude.{All, if◌then◌else◌}
-use Rattle.std.proofs.lemmas.Bool.{cases_lt}
-use Rattle.std.proofs.lemmas.List.Elements.{All-nil, All-cons}
-use Rattle.record_history.specs.declared.stretch.Stretch.{Stretch}
-use Rattle.record_history.specs.Stretch.{with_day, newest_first, stretches}
+use Rattle.record_history.proofs.Words.{◌≡◌, ◌≢◌, ◌⊎◌, inl, inr, ℕ, zero, suc, ◌+◌, ◌<◌, ◌≤◌, List, [], ◌∷◌, Bool, true, false, refl, ap, sym, ◌∙◌, subst, arith, reverse_aux, All, cases_lt, All-nil, All-cons, Stretch, with_day, newest_first, stretches, cond_both}
 
 -- the stretch lies between the first day and the one before the next, and has the key of each of its days
 pub record IsOfItsDays {K : Type 0} (key_on : ℕ → K) (first next : ℕ) (s : Stretch K) : Type 0 where
@@ -51,23 +45,20 @@ module _ {K : Type 0} (same : K → K → Bool) (when_same : (a b : K) → same 
 
     added : (next : ℕ) (xs : List (Stretch K)) → AreNewestFirst next xs → AreNewestFirst (next + 1) (with_day same xs next (key_on next))
     added next [] e = (refl, omega arith, λ day low high. (let at : next ≡ day = omega arith in ap key_on at), tt, e)
-    added next (s ∷ earlier) all = by_key (same s.key (key_on next)) refl
-      where
-        by_day : (day : ℕ) → s.first ≤ day → day ≤ next → s.key ≡ key_on next → (day < next) ⊎ (next ≤ day) → s.key ≡ key_on day
-        by_day day low high e (inl before) = all.2 day low (let end : s.last + 1 ≡ next = all.0 in omega arith)
-        by_day day low high e (inr after) = let at : next ≡ day = omega arith in e ∙ ap key_on at
-
-        by_key : (test : Bool) → same s.key (key_on next) ≡ test →
-            AreNewestFirst (next + 1) (if test then record s { last = next } ∷ earlier else record { first = next; last = next; key = key_on next } ∷ s ∷ earlier)
-        by_key true e = (
+    added next (s ∷ earlier) all =
+        cond_both (same s.key (key_on next)) _ _ (AreNewestFirst (next + 1))
+        (λ e. (
           refl,
           (let end : s.last + 1 ≡ next = all.0 in let order : s.first ≤ s.last = all.1 in omega arith),
           λ day low high. by_day day low high (when_same s.key (key_on next) e) (cases_lt day next),
           all.3,
           all.4,
-        )
-        by_key false e =
-            (refl, omega arith, λ day low high. (let at : next ≡ day = omega arith in ap key_on at), when_other s.key (key_on next) e, all)
+        ))
+        (λ e. (refl, omega arith, λ day low high. (let at : next ≡ day = omega arith in ap key_on at), when_other s.key (key_on next) e, all))
+      where
+        by_day : (day : ℕ) → s.first ≤ day → day ≤ next → s.key ≡ key_on next → (day < next) ⊎ (next ≤ day) → s.key ≡ key_on day
+        by_day day low high e (inl before) = all.2 day low (let end : s.last + 1 ≡ next = all.0 in omega arith)
+        by_day day low high e (inr after) = let at : next ≡ day = omega arith in e ∙ ap key_on at
 
     newest : (count : ℕ) → AreNewestFirst (first + count) (newest_first same key_on first count)
     newest zero = omega arith

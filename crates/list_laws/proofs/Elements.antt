@@ -1,0 +1,85 @@
+-- What holds of the elements of a list, and where they stand.
+use Rattle.std.proofs.Common.{◌≡◌, ◌∙◌, sym, ap, refl, subst, subst₂, ℕ, zero, suc, ◌<◌, ◌≤◌, ◌-◌, ◌⊎◌, inl, inr, arith, List, [], ◌∷◌, ◌++◌, Some, length, length-append, append_assoc, map, slice_get, All, AllPairs, Contains, get_or, get_or-append-add, ◌+◌}
+use Rattle.std.specs.List.{flat_map}
+use Rattle.std.proofs.lemmas.Bool.{cases_lt}
+use Rattle.std.proofs.lemmas.List.{get_or_append_left, get_or-append_right, get_or_past, get_or_push}
+use Rattle.std.proofs.Math.ListN.{get_or-map, length-map}
+
+-- the element at a place is among all, or the one given for none
+pub All-place : {X : Type 0} (P : X → Type 0) (xs : List X) (place : ℕ) (d : X) → All P xs → P d → P (get_or xs place d)
+All-place P xs place d all none = by_place (cases_lt place (length xs))
+  where
+    by_place : (place < length xs) ⊎ (length xs ≤ place) → P (get_or xs place d)
+    by_place (inl within) = all place d within
+    by_place (inr past) = subst P (sym (get_or_past xs place d past)) none
+
+-- what holds at each place, and of one more at the last
+pub places_push : {X : Type 0} (P : ℕ → X → Type 0) (xs : List X) (x : X) → ((place : ℕ) (d : X) → place < length xs → P place (get_or xs place d)) →
+    P (length xs) x → (place : ℕ) (d : X) → place < length (xs ++ x ∷ []) → P place (get_or (xs ++ x ∷ []) place d)
+places_push P xs x before last place d within = by_place (cases_lt place (length xs))
+  where
+    by_place : (place < length xs) ⊎ (length xs ≤ place) → P place (get_or (xs ++ x ∷ []) place d)
+    by_place (inl earlier) = subst (P place) (sym (get_or_append_left xs (x ∷ []) d place earlier)) (before place d earlier)
+    by_place (inr past) =
+        let at : length xs ≡ place = omega (arith, within, length-append xs (x ∷ []), past) in
+        subst (P place) (sym (get_or_push xs x d place at)) (subst (λ (k : ℕ). P k x) at last)
+
+-- what holds of each of the elements, twice
+pub All-both : {X : Type 0} (P Q : X → Type 0) (xs : List X) → All P xs → All Q xs → All (λ x. P x × Q x) xs
+All-both P Q xs of_p of_q = λ k x within. (of_p k x within, of_q k x within)
+
+-- what holds of each image holds of what it is the image of
+pub All-unmap : {X Y : Type 0} (P : Y → Type 0) (f : X → Y) (xs : List X) → All P (map f xs) → All (λ x. P (f x)) xs
+All-unmap P f xs all k d within = subst P (get_or-map f xs k d) (all k (f d) (rw length-map within))
+
+-- what holds of all of two lists, one after the other, holds of all of each
+pub All-left : {X : Type 0} (P : X → Type 0) (xs ys : List X) → All P (xs ++ ys) → All P xs
+All-left P xs ys all k d within =
+    subst P (get_or_append_left xs ys d k within) (all k d (omega (arith, within, length-append xs ys)))
+
+pub All-right : {X : Type 0} (P : X → Type 0) (xs ys : List X) → All P (xs ++ ys) → All P ys
+All-right P xs ys all k d within =
+    subst P (get_or-append-add xs ys k d) (all (length xs + k) d (omega (arith, within, length-append xs ys)))
+
+pub Contains-map : {X Y : Type 0} (f : X → Y) (xs : List X) (x : X) → Contains xs x → Contains (map f xs) (f x)
+Contains-map f xs x (k, within, is) = (k, rw length-map within, get_or-map f xs k x ∙ ap f is)
+
+pub map-agree : {X Y : Type 0} (f g : X → Y) → ((x : X) → f x ≡ g x) → (xs : List X) → map f xs ≡ map g xs
+map-agree f g same xs = λ i. map (λ x. same x i) xs
+
+pub flat_map-append : {X Y : Type 0} (f : X → List Y) (xs ys : List X) → flat_map f (xs ++ ys) ≡ flat_map f xs ++ flat_map f ys
+flat_map-append f [] ys = refl
+flat_map-append f (x ∷ xs) ys =
+    ap (λ rest. f x ++ rest) (flat_map-append f xs ys) ∙ sym (append_assoc (f x) (flat_map f xs) (flat_map f ys))
+
+pub slice_get-append : {X : Type 0} (xs ys : List X) (place : ℕ) → place < length xs → slice_get (xs ++ ys) place ≡ slice_get xs place
+slice_get-append [] ys place within = absurd (omega arith)
+slice_get-append (x ∷ xs) ys zero within = refl
+slice_get-append (x ∷ xs) ys (suc place) within = slice_get-append xs ys place (omega arith)
+
+-- one more stands at the last place
+pub slice_get-last : {X : Type 0} (xs : List X) (x : X) → slice_get (xs ++ x ∷ []) (length xs) ≡ Some x
+slice_get-last [] x = refl
+slice_get-last (first ∷ xs) x = slice_get-last xs x
+
+pub AllPairs-append : {X : Type 0} (R : X → X → Type 0) (xs ys : List X) → AllPairs R xs → AllPairs R ys →
+    ((k l : ℕ) (d : X) → k < length xs → l < length ys → R (get_or xs k d) (get_or ys l d)) → AllPairs R (xs ++ ys)
+AllPairs-append {X} R xs ys lefts rights across = λ i j d before within. by_places i j d before within (cases_lt j (length xs)) (cases_lt i (length xs))
+  where
+    at_left : (i : ℕ) (d : X) → i < length xs → get_or (xs ++ ys) i d ≡ get_or xs i d
+    at_left i d within = get_or_append_left xs ys d i within
+
+    at_right : (i : ℕ) (d : X) → length xs ≤ i → get_or (xs ++ ys) i d ≡ get_or ys (i - length xs) d
+    at_right i d past = get_or-append_right xs ys (length xs) i d refl past
+
+    by_places : (i j : ℕ) (d : X) → i < j → j < length (xs ++ ys) → (j < length xs) ⊎ (length xs ≤ j) → (i < length xs) ⊎ (length xs ≤ i) →
+        R (get_or (xs ++ ys) i d) (get_or (xs ++ ys) j d)
+    by_places i j d before within (inl left) first =
+        let earlier : i < length xs = omega arith in
+        subst₂ R (sym (at_left i d earlier)) (sym (at_left j d left)) (lefts i j d before left)
+    by_places i j d before within (inr right) (inl left) =
+        subst₂ R (sym (at_left i d left)) (sym (at_right j d right))
+        (across i (j - length xs) d left (omega (arith, within, right, length-append xs ys)))
+    by_places i j d before within (inr right) (inr past) =
+        subst₂ R (sym (at_right i d past)) (sym (at_right j d right))
+        (rights (i - length xs) (j - length xs) d (omega (arith, before, past)) (omega (arith, within, right, length-append xs ys)))

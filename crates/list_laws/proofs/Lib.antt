@@ -1,0 +1,7 @@
+pub mod ByNumber
+pub mod Elements
+pub mod FilterMaps
+pub mod Filters
+pub mod Finds
+pub mod Options
+pub mod Ranges
