@@ -1,5 +1,5 @@
-use book_rows::Tables;
-use keeper_core::{Keeper, MemoryKeeper, PlannedKeeper};
+use book_rows::{Table, Tables};
+use keeper_core::{DamagedKeeper, Keeper, MemoryKeeper, PlannedKeeper};
 use office_io::{FixedClock, MemorySink, MemorySource};
 use office_prog::run;
 use sample_office::{CLOSE_JANUARY, PLAN, RENTS, START, UNIT, day, written};
@@ -160,5 +160,16 @@ fn names_where_a_book_goes_wrong(rt: HostRuntime) -> Result<(), Fail> {
     let (status, written) = answered(alloc, &mut keeper, Vec::new(alloc), None, None)?;
     assert_eq!(rt; status, 6);
     assert_eq!(rt; written.as_str(), "bad book: lines 5\n");
+    Ok(())
+}
+
+// So is one with a bad row.
+#[test]
+fn names_a_bad_row(rt: HostRuntime) -> Result<(), Fail> {
+    let alloc = rt.alloc();
+    let mut keeper = DamagedKeeper::new(Table::Records, 3);
+    let (status, written) = answered(alloc, &mut keeper, lines(alloc, 1)?, None, None)?;
+    assert_eq!(rt; status, 6);
+    assert_eq!(rt; written.as_str(), "bad book: records 3\n");
     Ok(())
 }

@@ -1,0 +1,7 @@
+//! Tests of the program over streams and keepers in memory.
+#![tactic(auto)]
+
+#[cfg(test)]
+mod batches;
+#[cfg(test)]
+mod programs;
