@@ -1,75 +1,24 @@
 -- Which lines of the input were answered, by what was taken of it.
-use Rattle.std.proofs.Common.{◌≡◌, ◌≤◌, ◌<◌, ◌+◌, inl, inr, ℕ, List, [], ◌∷◌, ◌++◌, None, Some, IfSome, length, sym, ap, ◌∙◌, append-nil, append_assoc, arith}
+use Rattle.std.proofs.Common.{refl, ◌≡◌, ◌≤◌, ◌<◌, inl, inr, ℕ, List, [], ◌∷◌, ◌++◌, None, Some, IfSome, length, sym, ap, ◌∙◌, append-nil, append_assoc, arith}
 use Rattle.std.specs.Prelude.{Option, All}
 use Rattle.std.specs.Io.KnownBytes.{Consumes, Keeps, IsAtEnd, prepend_known}
-use Rattle.line_input.specs.Lines.{IsEndless, lines_of, joined}
-use Rattle.line_input.specs.Reading.{BeginsLong}
+use Rattle.std.proofs.{KnownBytes.Consumes-kept, KnownBytes.Consumes-trans, KnownBytes.Consumes-whole, lemmas.Option.IfSome_then}
+use Rattle.line_input.specs.{Lines.IsEndless, Lines.lines_of, Lines.joined, Reading.BeginsLong}
 use Rattle.line_input.proofs.Passed.{FirstIsLong, lines_of-line, lines_of-last, ended_lines-none, lines_of-joined, ended_lines-joined, first_is_long}
 use Rattle.batch_command.specs.Batch.{line_limit, most_lines, Follows}
-use Rattle.batch_command.specs.declared.ending.Ending.TheVariants as ending
-
--- the lines of the input are those that were taken, and then those of what is left
-lines_of-taken : (input known : List ℕ) (lines : List (List ℕ)) → input ≡ joined lines ++ known → All IsEndless lines
-    → lines_of input ≡ lines ++ lines_of known
-lines_of-taken input known lines is endless = ap lines_of is ∙ lines_of-joined lines known endless
+use Rattle.batch_command.specs.declared.ending.Ending.{Ending}
 
 -- a line that isn't empty is there alone
 lines_of-alone : (line : List ℕ) → IsEndless line → 0 < length line → lines_of line ≡ line ∷ []
 lines_of-alone [] endless some = absurd (omega arith)
 lines_of-alone (b ∷ line) endless some = lines_of-last b line endless
 
--- nothing is left
-pub follows_done : (left known now left_now : Option (List ℕ)) (lines : List (List ℕ)) → Consumes left known (joined lines) → All IsEndless lines
-    → Keeps known now → IsAtEnd now → IfSome left (λ input. Follows input left_now lines ending.Done)
-follows_done None known now left_now lines taken endless kept ended = tt
-follows_done (Some x) None now left_now lines taken endless kept ended = absurd taken
-follows_done (Some x) (Some y) None left_now lines taken endless kept ended = absurd kept
-follows_done (Some x) (Some y) (Some z) left_now lines taken endless kept ended =
-    sym (lines_of-taken x y lines taken endless ∙ ap (λ l. lines ++ lines_of l) (sym kept ∙ ended) ∙ append-nil lines)
+-- what was taken of the input, and what is left of it, are the input
+by_taken : (left now : Option (List ℕ)) (taken : List ℕ) (P : List ℕ → Type 0) → Consumes left now taken → ((rest : List ℕ) → now ≡ Some rest → P (taken ++ rest)) → IfSome left P
+by_taken None now taken P consumed each = tt
+by_taken (Some x) None taken P consumed each = absurd consumed
+by_taken (Some x) (Some y) taken P consumed each = rw consumed (each y refl)
 
--- the last line was taken
-lines_of-taken_last : (input known now last : List ℕ) (lines : List (List ℕ)) → input ≡ joined lines ++ known → All IsEndless lines
-    → IsEndless last → 0 < length last → known ≡ last ++ now → now ≡ [] → lines_of input ≡ lines ++ last ∷ []
-lines_of-taken_last input known now last lines is endless one some consumed ended =
-    lines_of-taken input known lines is endless
-    ∙ ap (λ l. lines ++ lines_of l) (consumed ∙ ap (λ l. last ++ l) ended ∙ append-nil last)
-    ∙ ap (λ ls. lines ++ ls) (lines_of-alone last one some)
-
-pub follows_last : (left known now left_now : Option (List ℕ)) (last : List ℕ) (lines : List (List ℕ)) → Consumes left known (joined lines) → All IsEndless lines
-    → IsEndless last → 0 < length last → Consumes known now last → IsAtEnd now → IfSome left (λ input. Follows input left_now (lines ++ last ∷ []) ending.Done)
-follows_last None known now left_now last lines taken endless one some consumed ended = tt
-follows_last (Some x) None now left_now last lines taken endless one some consumed ended = absurd taken
-follows_last (Some x) (Some y) None left_now last lines taken endless one some consumed ended = absurd consumed
-follows_last (Some x) (Some y) (Some z) left_now last lines taken endless one some consumed ended =
-    sym (lines_of-taken_last x y z last lines taken endless one some consumed ended)
-
--- a front of the lines was taken
-abbrev pub IsFront : List ℕ → List (List ℕ) → Type 0
-IsFront input lines = (rest : List (List ℕ)) × (lines_of input ≡ lines ++ rest)
-
-pub is_front : (left known : Option (List ℕ)) (lines : List (List ℕ)) → Consumes left known (joined lines) → All IsEndless lines → IfSome left (λ input. IsFront input lines)
-is_front None known lines taken endless = tt
-is_front (Some x) None lines taken endless = absurd taken
-is_front (Some x) (Some y) lines taken endless = (lines_of y, lines_of-taken x y lines taken endless)
-
--- the front is all of them
-pub is_front_last : (left : Option (List ℕ)) (lines : List (List ℕ)) → IfSome left (λ input. lines ≡ lines_of input) → IfSome left (λ input. IsFront input lines)
-is_front_last None lines is = tt
-is_front_last (Some x) lines is = ([], sym is ∙ sym (append-nil lines))
-
--- a read failed
-pub follows_failed : (left known left_now : Option (List ℕ)) (rest : List ℕ) (lines : List (List ℕ)) → Consumes left known (joined lines) → All IsEndless lines
-    → Keeps known (prepend_known rest left_now) → IsEndless rest → IfSome left (λ input. Follows input left_now lines ending.ReadFault)
-follows_failed None known left_now rest lines taken endless kept one = tt
-follows_failed (Some x) None left_now rest lines taken endless kept one = absurd taken
-follows_failed (Some x) (Some y) None rest lines taken endless kept one = absurd kept
-follows_failed (Some x) (Some y) (Some z) rest lines taken endless kept one = (
-  joined lines ++ rest,
-  taken ∙ ap (λ l. joined lines ++ l) (sym kept) ∙ sym (append_assoc (joined lines) rest z),
-  sym (ended_lines-joined lines rest endless ∙ ap (λ ls. lines ++ ls) (ended_lines-none rest one) ∙ append-nil lines),
-)
-
--- the next line is too long
 long_line : (bytes : List ℕ) → BeginsLong line_limit bytes → (line : List ℕ) × (others : List (List ℕ)) × (lines_of bytes ≡ line ∷ others) × (line_limit < length line)
 long_line bytes long = by_front long.front long.whole long.endless long.long
   where
@@ -81,33 +30,67 @@ long_line bytes long = by_front long.front long.whole long.endless long.long
         let most : length (b ∷ front) ≤ length first.line = first.long in
         (first.line, first.others, ap lines_of whole ∙ first.lines, omega arith)
 
-pub follows_long : (left known now left_now : Option (List ℕ)) (lines : List (List ℕ)) → Consumes left known (joined lines) → All IsEndless lines
-    → Keeps known now → IfSome now (BeginsLong line_limit) → IfSome left (λ input. Follows input left_now lines ending.TooLong)
-follows_long None known now left_now lines taken endless kept long = tt
-follows_long (Some x) None now left_now lines taken endless kept long = absurd taken
-follows_long (Some x) (Some y) None left_now lines taken endless kept long = absurd kept
-follows_long (Some x) (Some y) (Some z) left_now lines taken endless kept long =
-    let first = long_line z long in
-    (first.0, first.1, lines_of-taken x y lines taken endless ∙ ap (λ l. lines ++ lines_of l) (sym kept) ∙ ap (λ ls. lines ++ ls) first.2, inr first.3)
+-- a front of the lines was taken
+abbrev pub IsFront : List ℕ → List (List ℕ) → Type 0
+IsFront input lines = (rest : List (List ℕ)) × (lines_of input ≡ lines ++ rest)
 
--- one line more than there may be
-pub follows_more : (left known now left_now : Option (List ℕ)) (line : List ℕ) (lines : List (List ℕ)) → Consumes left known (joined lines) → All IsEndless lines
-    → IsEndless line → Consumes known now (line ++ 10 ∷ []) → length lines ≡ most_lines → IfSome left (λ input. Follows input left_now lines ending.TooLong)
-follows_more None known now left_now line lines taken endless one consumed many = tt
-follows_more (Some x) None now left_now line lines taken endless one consumed many = absurd taken
-follows_more (Some x) (Some y) None left_now line lines taken endless one consumed many = absurd consumed
-follows_more (Some x) (Some y) (Some z) left_now line lines taken endless one consumed many = (
-  line,
-  lines_of z,
-  lines_of-taken x y lines taken endless ∙ ap (λ l. lines ++ lines_of l) (consumed ∙ append_assoc line (10 ∷ []) z) ∙ ap (λ ls. lines ++ ls) (lines_of-line line z one),
-  inl many,
+-- the front is all of them
+pub is_front_last : (left : Option (List ℕ)) (lines : List (List ℕ)) → IfSome left (λ input. lines ≡ lines_of input) → IfSome left (λ input. IsFront input lines)
+is_front_last left lines is = IfSome_then left is (λ input all. ([], sym all ∙ sym (append-nil lines)))
+
+pub follows_failed : (left known left_now : Option (List ℕ)) (rest : List ℕ) (lines : List (List ℕ)) → Consumes left known (joined lines) → All IsEndless lines
+    → Keeps known (prepend_known rest left_now) → IsEndless rest → IfSome left (λ input. Follows input left_now lines Ending.ReadFault)
+follows_failed None known left_now rest lines taken endless kept one = tt
+follows_failed (Some x) None left_now rest lines taken endless kept one = absurd taken
+follows_failed (Some x) (Some y) None rest lines taken endless kept one = absurd kept
+follows_failed (Some x) (Some y) (Some z) rest lines taken endless kept one = (
+  joined lines ++ rest,
+  taken ∙ ap (λ l. joined lines ++ l) (sym kept) ∙ sym (append_assoc (joined lines) rest z),
+  sym (ended_lines-joined lines rest endless ∙ ap (λ ls. lines ++ ls) (ended_lines-none rest one) ∙ append-nil lines),
 )
 
-pub follows_more_last : (left known now left_now : Option (List ℕ)) (last : List ℕ) (lines : List (List ℕ)) → Consumes left known (joined lines) → All IsEndless lines
-    → IsEndless last → 0 < length last → Consumes known now last → IsAtEnd now → length lines ≡ most_lines
-    → IfSome left (λ input. Follows input left_now lines ending.TooLong)
-follows_more_last None known now left_now last lines taken endless one some consumed ended many = tt
-follows_more_last (Some x) None now left_now last lines taken endless one some consumed ended many = absurd taken
-follows_more_last (Some x) (Some y) None left_now last lines taken endless one some consumed ended many = absurd consumed
-follows_more_last (Some x) (Some y) (Some z) left_now last lines taken endless one some consumed ended many =
-    (last, [], lines_of-taken_last x y z last lines taken endless one some consumed ended, inl many)
+module _ (left known : Option (List ℕ)) (lines : List (List ℕ)) (taken : Consumes left known (joined lines)) (endless : All IsEndless lines) where
+  pub is_front : IfSome left (λ input. IsFront input lines)
+  is_front = by_taken left known (joined lines) (λ input. IsFront input lines) taken (λ rest there. (lines_of rest, lines_of-joined lines rest endless))
+
+  -- nothing is left
+  pub follows_done : (now left_now : Option (List ℕ)) → Keeps known now → IsAtEnd now → IfSome left (λ input. Follows input left_now lines Ending.Done)
+  follows_done now left_now kept ended =
+      Consumes-whole left now (joined lines) (λ input. lines ≡ lines_of input) (Consumes-kept left known now (joined lines) taken kept) ended
+      (sym (simp append-nil at (lines_of-joined lines [] endless)))
+
+  -- the last line was taken
+  last_taken : (last : List ℕ) → IsEndless last → 0 < length last → lines_of (joined lines ++ last) ≡ lines ++ last ∷ []
+  last_taken last one some = lines_of-joined lines last endless ∙ rw (lines_of-alone last one some) refl
+
+  pub follows_last : (now left_now : Option (List ℕ)) (last : List ℕ) → IsEndless last → 0 < length last → Consumes known now last → IsAtEnd now
+      → IfSome left (λ input. Follows input left_now (lines ++ last ∷ []) Ending.Done)
+  follows_last now left_now last one some consumed ended =
+      Consumes-whole left now (joined lines ++ last) (λ input. lines ++ last ∷ [] ≡ lines_of input) (Consumes-trans left known now (joined lines) last taken consumed) ended
+      (sym (last_taken last one some))
+
+  -- the next line is too long
+  pub follows_long : (now left_now : Option (List ℕ)) → Keeps known now → IfSome now (BeginsLong line_limit)
+      → IfSome left (λ input. Follows input left_now lines Ending.TooLong)
+  follows_long now left_now kept long =
+      by_taken left now (joined lines) (λ input. Follows input left_now lines Ending.TooLong) (Consumes-kept left known now (joined lines) taken kept) (λ rest there.
+      (let first = long_line rest (rw there at long) in
+      (first.0, first.1, lines_of-joined lines rest endless ∙ ap (λ ls. lines ++ ls) first.2, inr first.3)))
+
+  -- one line more than there may be
+  pub follows_more : (now left_now : Option (List ℕ)) (line : List ℕ) → IsEndless line → Consumes known now (line ++ 10 ∷ []) → length lines ≡ most_lines
+      → IfSome left (λ input. Follows input left_now lines Ending.TooLong)
+  follows_more now left_now line one consumed many =
+      by_taken left now (joined lines ++ (line ++ 10 ∷ [])) (λ input. Follows input left_now lines Ending.TooLong)
+      (Consumes-trans left known now (joined lines) (line ++ 10 ∷ []) taken consumed) (λ rest there. (
+        line,
+        lines_of rest,
+        simp append_assoc (lines_of-joined lines (line ++ 10 ∷ rest) endless ∙ ap (λ ls. lines ++ ls) (lines_of-line line rest one)),
+        inl many,
+      ))
+
+  pub follows_more_last : (now left_now : Option (List ℕ)) (last : List ℕ) → IsEndless last → 0 < length last → Consumes known now last → IsAtEnd now
+      → length lines ≡ most_lines → IfSome left (λ input. Follows input left_now lines Ending.TooLong)
+  follows_more_last now left_now last one some consumed ended many =
+      Consumes-whole left now (joined lines ++ last) (λ input. Follows input left_now lines Ending.TooLong)
+      (Consumes-trans left known now (joined lines) last taken consumed) ended (last, [], last_taken last one some, inl many)

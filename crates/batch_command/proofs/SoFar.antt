@@ -1,12 +1,8 @@
 -- What holds of the lines that were answered so far, and after one line more.
-use Rattle.std.proofs.Common.{◌≡◌, ◌≤◌, ◌+◌, ℕ, List, [], ◌∷◌, ◌++◌, length, refl, sym, ap, subst, ◌∙◌, append-nil}
-use Rattle.std.specs.Prelude.{Option, All}
-use Rattle.std.specs.Io.KnownBytes.{Appends, Consumes, prepend_known}
+use Rattle.std.proofs.Common.{◌≡◌, ◌≤◌, ℕ, List, [], ◌∷◌, ◌++◌, length, refl, sym, ap, subst, ◌∙◌, append-nil}
+use Rattle.std.specs.{Prelude.Option, Prelude.All, Io.KnownBytes.Appends, Io.KnownBytes.Consumes, Io.KnownBytes.prepend_known}
 use Rattle.std.proofs.KnownBytes.{Appends-nil, Appends-trans, Consumes-nil, Consumes-trans, prepend_known-nil}
-use Rattle.std.proofs.lemmas.List.{map-append}
-use Rattle.std.proofs.lemmas.List.Sums.{fold-append}
-use Rattle.std.proofs.lemmas.List.Elements.{All-nil, All-push}
-use Rattle.std.proofs.lemmas.Grind.{flat_map-append}
+use Rattle.std.proofs.lemmas.{List.map-append, List.Sums.fold-append, List.Elements.All-nil, List.Elements.All-push, Grind.flat_map-append}
 use Rattle.line_input.specs.Lines.{IsEndless, joined}
 use Rattle.book_rows.specs.Book.{Book}
 use Rattle.office_step.specs.declared.call.Capacity.{Capacity}
@@ -32,10 +28,7 @@ pub batch_output-more : (capacity : Capacity) (book : Book) (given : List Given)
 batch_output-more capacity book given g = fold-append (one_more capacity) (record { text = []; book = book }) given (g ∷ [])
 
 pub joined-more : (given : List Given) (g : Given) → joined (lines_in (given ++ g ∷ [])) ≡ joined (lines_in given) ++ (g.line ++ 10 ∷ [])
-joined-more given g =
-    ap joined (map-append (λ (g : Given). g.line) given (g ∷ []))
-    ∙ flat_map-append (λ (line : List ℕ). line ++ 10 ∷ []) (lines_in given) (g.line ∷ [])
-    ∙ ap (λ l. joined (lines_in given) ++ l) (append-nil (g.line ++ 10 ∷ []))
+joined-more given g = simp (map-append, flat_map-append, append-nil)
 
 -- the book after one line more
 pub book-more : (capacity : Capacity) (old mid new : Book) (given : List Given) (g : Given) → mid ≡ (batch_output capacity old given).book
@@ -57,21 +50,10 @@ written-more capacity old mid held held_mid held_now given g is first next =
     subst (Appends held held_now) (text-more capacity old mid given g is) (Appends-trans held held_mid held_now _ _ first next)
 
 module _ (capacity : Capacity) (shows : ℕ → Type 0) (old : Book) where
-  -- nothing was taken yet
-  pub so_far_nothing : (left known held : Option (List ℕ)) → Consumes left known [] → Appends held held [] → SoFar capacity shows old old left known held held []
-  so_far_nothing left known held consumed written = record {
-    taken = All-nil (IsTaken shows);
-    consumed = consumed;
-    book = refl;
-    written = written;
-  }
-
   -- a reader that holds nothing is at the start of its source
   pub so_far_start : (rest : List ℕ) (left held : Option (List ℕ)) → rest ≡ [] → SoFar capacity shows old old left (prepend_known rest left) held held []
   so_far_start rest left held is =
-      so_far_nothing left (prepend_known rest left) held
-      (subst (λ (k : Option (List ℕ)). Consumes left k []) (sym (ap (λ (r : List ℕ). prepend_known r left) is ∙ prepend_known-nil left)) (Consumes-nil left))
-      (Appends-nil held)
+      record { taken = All-nil (IsTaken shows); consumed = rw (is, prepend_known-nil) (Consumes-nil left); book = refl; written = Appends-nil held }
 
   pub so_far_more : (mid new : Book) (left known known_now held held_mid held_now : Option (List ℕ)) (given : List Given) (g : Given)
       → SoFar capacity shows old mid left known held held_mid given → IsTaken shows g → Consumes known known_now (g.line ++ 10 ∷ [])
@@ -79,7 +61,7 @@ module _ (capacity : Capacity) (shows : ℕ → Type 0) (old : Book) where
       → SoFar capacity shows old new left known_now held held_now (given ++ g ∷ [])
   so_far_more mid new left known known_now held held_mid held_now given g so_far taken consumed book written = record {
     taken = All-push (IsTaken shows) given g so_far.taken taken;
-    consumed = subst (Consumes left known_now) (sym (joined-more given g)) (Consumes-trans left known known_now _ _ so_far.consumed consumed);
+    consumed = rw (joined-more given g) (Consumes-trans left known known_now _ _ so_far.consumed consumed);
     book = book-more capacity old mid new given g so_far.book book;
     written = written-more capacity old mid held held_mid held_now given g so_far.book so_far.written written;
   }

@@ -1,17 +1,12 @@
 -- The turns of the loop over the lines, by what the reader and the line's answer say.
-use Rattle.std.proofs.Common.{◌≡◌, ◌<◌, ◌+◌, ℕ, List, [], ◌∷◌, ◌++◌, None, Some, length, sym, subst, arith, length-append}
+use Rattle.std.proofs.Common.{◌≡◌, ◌<◌, ◌+◌, ℕ, List, [], ◌∷◌, ◌++◌, None, Some, length, subst, arith, length-append}
 use Rattle.std.specs.Prelude.{Option, unwrap_or}
-use Rattle.line_input.specs.declared.reader.Next.TheVariants as next
+use Rattle.line_input.specs.declared.reader.Next.{Next}
 use Rattle.line_input.specs.Reading.{Reading, Comes}
 use Rattle.book_rows.specs.Book.{Book}
 use Rattle.office_step.specs.declared.call.Capacity.{Capacity}
-use Rattle.batch_command.specs.declared.ending.Ending.{Ending}
-use Rattle.batch_command.specs.declared.ending.Ending.TheVariants as ending
-use Rattle.batch_command.specs.Output.{Given, told_of}
-use Rattle.batch_command.specs.Line.{AnswersLine}
-use Rattle.batch_command.specs.Batch.{line_limit, most_lines, Ran}
-use Rattle.batch_command.proofs.SoFar.{SoFar, so_far_more}
-use Rattle.batch_command.proofs.Runs.{ran_line, ran_last}
+use Rattle.batch_command.specs.{declared.ending.Ending.Ending, Output.Given, Output.told_of, Line.AnswersLine, Batch.line_limit, Batch.most_lines, Batch.Ran}
+use Rattle.batch_command.proofs.{SoFar.SoFar, SoFar.so_far_more, Runs.ran_line, Runs.ran_last}
 
 -- the line was answered on a day that the clock may show
 abbrev pub AnsweredOn : (ℕ → Type 0) → Capacity → Book → Book → List ℕ → Option (List ℕ) → Option (List ℕ) → Option Ending → Type 0
@@ -28,7 +23,7 @@ module _ (capacity own : Capacity) (shows : ℕ → Type 0) (old mid new : Book)
     (reading : Reading) (line : List ℕ) (count : ℕ) (same : own ≡ capacity) (is_line : line ≡ reading.line) (counted : length given ≡ count)
     (so_far : SoFar capacity shows old mid left known held held_mid given) where
   -- the line was answered, and the batch goes on
-  pub goes_on : Comes line_limit known known_now reading next.Line → AnsweredOn shows own mid new line held_mid held_now None
+  pub goes_on : Comes line_limit known known_now reading Next.Line → AnsweredOn shows own mid new line held_mid held_now None
       → (more : List Given) × (length more ≡ count + 1) × SoFar capacity shows old new left known_now held held_now more
   goes_on comes answered =
       let a : AnsweredOn shows capacity mid new reading.line held_mid held_now None = same_line shows capacity own mid new line reading.line held_mid held_now None same is_line answered in
@@ -40,20 +35,18 @@ module _ (capacity own : Capacity) (shows : ℕ → Type 0) (old mid new : Book)
       )
 
   -- the batch ends within the line
-  pub ends_within : (left_now : Option (List ℕ)) (end : Ending) → count < most_lines → Comes line_limit known known_now reading next.Line
+  pub ends_within : (left_now : Option (List ℕ)) (end : Ending) → count < most_lines → Comes line_limit known known_now reading Next.Line
       → AnsweredOn shows own mid new line held_mid held_now (Some end) → Ran capacity shows old new left left_now held held_now end
   ends_within left_now end few comes answered =
       let a : AnsweredOn shows capacity mid new reading.line held_mid held_now (Some end) =
       same_line shows capacity own mid new line reading.line held_mid held_now (Some end) same is_line answered in
-      ran_line capacity shows old left held mid new known known_now left_now held_mid held_now given (record { line = reading.line; day = a.0 }) end so_far
-      (omega arith) (record { endless = comes.0; short = comes.1; shown = a.1 }) comes.2 a.2
+      ran_line so_far (omega arith) (record { line = reading.line; day = a.0 }) (record { endless = comes.0; short = comes.1; shown = a.1 }) known_now left_now end comes.2 a.2
 
   -- the batch ends with its last line
-  pub ends_with : (left_now : Option (List ℕ)) (found : Option Ending) (end : Ending) → count < most_lines → Comes line_limit known known_now reading next.Last
-      → AnsweredOn shows own mid new line held_mid held_now found → end ≡ unwrap_or found ending.Done → Ran capacity shows old new left left_now held held_now end
+  pub ends_with : (left_now : Option (List ℕ)) (found : Option Ending) (end : Ending) → count < most_lines → Comes line_limit known known_now reading Next.Last
+      → AnsweredOn shows own mid new line held_mid held_now found → end ≡ unwrap_or found Ending.Done → Ran capacity shows old new left left_now held held_now end
   ends_with left_now found end few comes answered is =
       let a : AnsweredOn shows capacity mid new reading.line held_mid held_now found =
       same_line shows capacity own mid new line reading.line held_mid held_now found same is_line answered in
-      subst (λ (e : Ending). Ran capacity shows old new left left_now held held_now e) (sym is)
-      (ran_last capacity shows old left held mid new known known_now left_now held_mid held_now given (record { line = reading.line; day = a.0 }) found so_far
-      (omega arith) (record { endless = comes.0; short = comes.1; shown = a.1 }) comes.2 comes.3 comes.4 a.2)
+      rw is (ran_last so_far (omega arith) (record { line = reading.line; day = a.0 }) (record { endless = comes.0; short = comes.1; shown = a.1 }) known_now left_now found
+      comes.2 comes.3 comes.4 a.2)

@@ -2,17 +2,13 @@
 use Rattle.std.proofs.Common.{◌≡◌, ℕ, List, Ok, sym, subst, ap, ◌∙◌}
 use Rattle.std.specs.Prelude.{Option, Result, unwrap_or}
 use Rattle.book_rows.specs.Book.{Book}
-use Rattle.office_step.specs.declared.call.Call.{Call}
-use Rattle.office_step.specs.declared.call.Capacity.{Capacity}
-use Rattle.office_step.specs.Step.{step}
+use Rattle.office_step.specs.{declared.call.Call.Call, declared.call.Capacity.Capacity, Step.step}
 use Rattle.json_front.specs.declared.line.BatchLine.{BatchLine}
-use Rattle.json_front.specs.declared.line.BatchLine.TheVariants as batch_line
 use Rattle.batch_command.specs.Output.{Told, session, told_of_call, told_by}
-use Rattle.batch_command.specs.Line.{Tells}
-use Rattle.batch_command.specs.declared.ending.Ending.{Ending}
+use Rattle.batch_command.specs.{Line.Tells, declared.ending.Ending.Ending}
 
 pub tells_call : (capacity : Capacity) (old new : Book) (today day : ℕ) (own : Option ℕ) (call : Call) (read : Result BatchLine (List ℕ)) (result : Result (List ℕ) Ending)
-    → read ≡ Ok (batch_line.Act own call) → day ≡ unwrap_or own today
+    → read ≡ Ok (BatchLine.Act own call) → day ≡ unwrap_or own today
     → Tells (told_of_call old (step old capacity session day call)) old new result → Tells (told_by capacity old today read) old new result
 tells_call capacity old new today day own call read result is dated tells =
     subst (λ (t : Told). Tells t old new result)

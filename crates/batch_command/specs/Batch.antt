@@ -2,14 +2,10 @@
 use Rattle.std.specs.Prelude.{◌≡◌, ◌≤◌, ◌<◌, ◌⊎◌, ℕ, Option, Some, IfSome, List, [], ◌∷◌, ◌++◌, All, map, length, take}
 use Rattle.std.specs.Io.KnownBytes.{Appends, Consumes}
 use Rattle.office_io.specs.Outside.{Faulted}
-use Rattle.line_input.specs.declared.reader.Next.{Next}
-use Rattle.line_input.specs.declared.reader.Next.TheVariants as next
-use Rattle.line_input.specs.Lines.{lines_of, ended_lines}
+use Rattle.line_input.specs.{declared.reader.Next.Next, Lines.lines_of, Lines.ended_lines}
 use Rattle.book_rows.specs.Book.{Book}
 use Rattle.office_step.specs.declared.call.Capacity.{Capacity}
-use Rattle.batch_command.specs.Output.{Given, told_of, batch_output}
-use Rattle.batch_command.specs.declared.ending.Ending.{Ending}
-use Rattle.batch_command.specs.declared.ending.Ending.TheVariants as ending
+use Rattle.batch_command.specs.{Output.Given, Output.told_of, Output.batch_output, declared.ending.Ending.Ending}
 
 -- the most bytes of a line, without its end
 abbrev pub line_limit : ℕ
@@ -21,12 +17,12 @@ most_lines = 200000
 
 -- how a batch ends where no line is answered any more
 abbrev pub ending_of : Next → Ending
-ending_of next.End = ending.Done
-ending_of next.Line = ending.TooLong
-ending_of next.Last = ending.TooLong
-ending_of next.TooLong = ending.TooLong
-ending_of next.Failed = ending.ReadFault
-ending_of next.NoMemory = ending.NoMemory
+ending_of Next.End = Ending.Done
+ending_of Next.Line = Ending.TooLong
+ending_of Next.Last = Ending.TooLong
+ending_of Next.TooLong = Ending.TooLong
+ending_of Next.Failed = Ending.ReadFault
+ending_of Next.NoMemory = Ending.NoMemory
 
 -- the lines that were taken from the input
 abbrev pub lines_in : List Given → List (List ℕ)
@@ -35,13 +31,11 @@ lines_in given = map (λ g. g.line) given
 -- The lines are those of the input: all of them; or those before the first that is too long or one too many; or those whose
 -- end was read before the source failed; or a front of them.
 abbrev pub Follows : List ℕ → Option (List ℕ) → List (List ℕ) → Ending → Type 0
-Follows input left lines ending.Done = lines ≡ lines_of input
-Follows input left lines ending.TooLong =
+Follows input left lines Ending.Done = lines ≡ lines_of input
+Follows input left lines Ending.TooLong =
     (line : List ℕ) × (rest : List (List ℕ)) × (lines_of input ≡ lines ++ line ∷ rest) × ((length lines ≡ most_lines) ⊎ (line_limit < length line))
-Follows input left lines ending.ReadFault = (read : List ℕ) × Consumes (Some input) left read × (lines ≡ ended_lines read)
-Follows input left lines ending.WriteFault = (rest : List (List ℕ)) × (lines_of input ≡ lines ++ rest)
-Follows input left lines ending.StoreFault = (rest : List (List ℕ)) × (lines_of input ≡ lines ++ rest)
-Follows input left lines ending.NoMemory = (rest : List (List ℕ)) × (lines_of input ≡ lines ++ rest)
+Follows input left lines Ending.ReadFault = (read : List ℕ) × Consumes (Some input) left read × (lines ≡ ended_lines read)
+Follows input left lines _ = (rest : List (List ℕ)) × (lines_of input ≡ lines ++ rest)
 
 -- a front of the answer to the last line was written, and not all of it
 pub record WritesPart (capacity : Capacity) (book : Book) (given : List Given) (held held_now : Option (List ℕ)) : Type 0 where
@@ -62,13 +56,10 @@ pub record WritesBefore (capacity : Capacity) (book : Book) (given : List Given)
 -- The answers to the lines were written whole. Where the sink failed, the last was written in part; and where memory ran
 -- out, it may not have been written at all.
 abbrev pub Writes : Capacity → Book → List Given → Option (List ℕ) → Option (List ℕ) → Ending → Type 0
-Writes capacity book given held held_now ending.Done = Appends held held_now (batch_output capacity book given).text
-Writes capacity book given held held_now ending.TooLong = Appends held held_now (batch_output capacity book given).text
-Writes capacity book given held held_now ending.ReadFault = Appends held held_now (batch_output capacity book given).text
-Writes capacity book given held held_now ending.StoreFault = Appends held held_now (batch_output capacity book given).text
-Writes capacity book given held held_now ending.WriteFault = WritesPart capacity book given held held_now
-Writes capacity book given held held_now ending.NoMemory =
+Writes capacity book given held held_now Ending.WriteFault = WritesPart capacity book given held held_now
+Writes capacity book given held held_now Ending.NoMemory =
     Appends held held_now (batch_output capacity book given).text ⊎ WritesBefore capacity book given held held_now
+Writes capacity book given held held_now _ = Appends held held_now (batch_output capacity book given).text
 
 -- These lines were answered, each on a day that the clock may show: the book is the one after them, and what was written is
 -- their answers. `left` is what the source had left before and now, `held` what the sink held.
@@ -89,9 +80,7 @@ pub record Counts : Type 0 where
 
 -- just the one that is blamed counted a fault, and nobody where nobody is
 abbrev pub Blames : Counts → Counts → Ending → Type 0
-Blames before now ending.Done = now ≡ before
-Blames before now ending.TooLong = now ≡ before
-Blames before now ending.ReadFault = Faulted before.source now.source × (now.sink ≡ before.sink) × (now.keeper ≡ before.keeper)
-Blames before now ending.WriteFault = Faulted before.sink now.sink × (now.source ≡ before.source) × (now.keeper ≡ before.keeper)
-Blames before now ending.StoreFault = Faulted before.keeper now.keeper × (now.source ≡ before.source) × (now.sink ≡ before.sink)
-Blames before now ending.NoMemory = now ≡ before
+Blames before now Ending.ReadFault = Faulted before.source now.source × (now.sink ≡ before.sink) × (now.keeper ≡ before.keeper)
+Blames before now Ending.WriteFault = Faulted before.sink now.sink × (now.source ≡ before.source) × (now.keeper ≡ before.keeper)
+Blames before now Ending.StoreFault = Faulted before.keeper now.keeper × (now.source ≡ before.source) × (now.sink ≡ before.sink)
+Blames before now _ = now ≡ before

@@ -1,63 +1,47 @@
 -- What came of one line of a batch.
 use Rattle.std.specs.Prelude.{◌≡◌, ◌⊎◌, ⊤, ℕ, Bool, true, false, Option, Some, None, Result, Ok, Err, List, ◌++◌}
 use Rattle.std.specs.Io.KnownBytes.{Keeps, Appends}
-use Rattle.office_io.specs.Outside.{Faulted}
-use Rattle.office_io.specs.Transfer.{AppendsPart}
+use Rattle.office_io.specs.{Outside.Faulted, Transfer.AppendsPart}
 use Rattle.book_rows.specs.Book.{Book}
-use Rattle.batch_command.specs.Output.{Told, line_end}
-use Rattle.batch_command.specs.declared.ending.Ending.{Ending}
-use Rattle.batch_command.specs.declared.ending.Ending.TheVariants as ending
+use Rattle.batch_command.specs.{Output.Told, Output.line_end, declared.ending.Ending.Ending}
 
 -- The text of the answer is at hand and the book is the one after the line; or the keeper failed, and the book is as before;
 -- or memory ran out before the act was appended, or after it.
 abbrev pub Tells : Told → Book → Book → Result (List ℕ) Ending → Type 0
 Tells told old new (Ok text) = (text ≡ told.text) × (new ≡ told.book)
-Tells told old new (Err ending.StoreFault) = new ≡ old
-Tells told old new (Err ending.NoMemory) = (new ≡ old) ⊎ (new ≡ told.book)
-Tells told old new (Err ending.Done) = ⊥
-Tells told old new (Err ending.TooLong) = ⊥
-Tells told old new (Err ending.ReadFault) = ⊥
-Tells told old new (Err ending.WriteFault) = ⊥
+Tells told old new (Err Ending.StoreFault) = new ≡ old
+Tells told old new (Err Ending.NoMemory) = (new ≡ old) ⊎ (new ≡ told.book)
+Tells told old new _ = ⊥
 
 -- The line was answered, and the batch goes on; or the sink failed within its answer; or it ends before anything of the
 -- answer was written.
 abbrev pub AnswersLine : Told → Book → Book → Option (List ℕ) → Option (List ℕ) → Option Ending → Type 0
 AnswersLine told old new held held_now None = (new ≡ told.book) × Appends held held_now told.text
-AnswersLine told old new held held_now (Some ending.WriteFault) = (new ≡ told.book) × AppendsPart held held_now told.text
-AnswersLine told old new held held_now (Some ending.StoreFault) = (new ≡ old) × Keeps held held_now
-AnswersLine told old new held held_now (Some ending.NoMemory) = ((new ≡ old) ⊎ (new ≡ told.book)) × Keeps held held_now
-AnswersLine told old new held held_now (Some ending.Done) = ⊥
-AnswersLine told old new held held_now (Some ending.TooLong) = ⊥
-AnswersLine told old new held held_now (Some ending.ReadFault) = ⊥
+AnswersLine told old new held held_now (Some Ending.WriteFault) = (new ≡ told.book) × AppendsPart held held_now told.text
+AnswersLine told old new held held_now (Some Ending.StoreFault) = (new ≡ old) × Keeps held held_now
+AnswersLine told old new held held_now (Some Ending.NoMemory) = ((new ≡ old) ⊎ (new ≡ told.book)) × Keeps held held_now
+AnswersLine told old new held held_now _ = ⊥
 
 -- the text with its line end is at hand, unless memory ran out
 abbrev pub IsText : List ℕ → Result (List ℕ) Ending → Type 0
 IsText right (Ok text) = text ≡ right ++ line_end
-IsText right (Err ending.NoMemory) = ⊤
-IsText right (Err ending.StoreFault) = ⊥
-IsText right (Err ending.Done) = ⊥
-IsText right (Err ending.TooLong) = ⊥
-IsText right (Err ending.ReadFault) = ⊥
-IsText right (Err ending.WriteFault) = ⊥
+IsText right (Err Ending.NoMemory) = ⊤
+IsText right _ = ⊥
 
 -- the text was written whole, or in part where the sink failed
 abbrev pub WritesText : List ℕ → Option (List ℕ) → Option (List ℕ) → Option Ending → Type 0
 WritesText text held held_now None = Appends held held_now text
-WritesText text held held_now (Some ending.WriteFault) = AppendsPart held held_now text
-WritesText text held held_now (Some ending.StoreFault) = ⊥
-WritesText text held held_now (Some ending.NoMemory) = ⊥
-WritesText text held held_now (Some ending.Done) = ⊥
-WritesText text held held_now (Some ending.TooLong) = ⊥
-WritesText text held held_now (Some ending.ReadFault) = ⊥
+WritesText text held held_now (Some Ending.WriteFault) = AppendsPart held held_now text
+WritesText text held held_now _ = ⊥
 
 -- ---- who is blamed
 
 abbrev pub is_write_fault : Option Ending → Bool
-is_write_fault (Some ending.WriteFault) = true
+is_write_fault (Some Ending.WriteFault) = true
 is_write_fault _ = false
 
 abbrev pub is_store_fault : Option Ending → Bool
-is_store_fault (Some ending.StoreFault) = true
+is_store_fault (Some Ending.StoreFault) = true
 is_store_fault _ = false
 
 -- a fault was counted where one is blamed, and none elsewhere

@@ -1,17 +1,9 @@
 -- What a batch writes and what it makes of a book, line after line.
 use Rattle.std.specs.Prelude.{ℕ, ◌||◌, if◌then◌else◌, Bool, unwrap_or, List, [], ◌∷◌, ◌++◌, Result, Ok, Err, fold, bytes_eq}
 use Rattle.book_rows.specs.Book.{Book}
-use Rattle.office_step.specs.declared.call.Capacity.{Capacity}
-use Rattle.office_step.specs.declared.refusal.Refusal.{Refusal}
-use Rattle.office_step.specs.Step.{Outcome, step}
-use Rattle.office_answers.specs.declared.answer.Answer.{Answer}
-use Rattle.office_answers.specs.declared.reply.Reply.TheVariants as reply
-use Rattle.office_answers.specs.Answering.{answer_to}
-use Rattle.json_front.specs.declared.line.BatchLine.{BatchLine}
-use Rattle.json_front.specs.declared.line.BatchLine.TheVariants as batch_line
-use Rattle.json_front.specs.Lines.{line_from}
-use Rattle.json_front.specs.Replies.{reply_text, bad_form_text}
-use Rattle.json_front.specs.Answers.{answer_text}
+use Rattle.office_step.specs.{declared.call.Capacity.Capacity, declared.refusal.Refusal.Refusal, Step.Outcome, Step.step}
+use Rattle.office_answers.specs.{declared.answer.Answer.Answer, Answering.answer_to, declared.reply.Reply.Reply}
+use Rattle.json_front.specs.{declared.line.BatchLine.BatchLine, Lines.line_from, Replies.reply_text, Replies.bad_form_text, Answers.answer_text}
 use Rattle.clerk_desk.specs.Serving.{reply_of, book_after}
 
 -- a line of the input, and the day that the clock showed for it
@@ -44,12 +36,12 @@ told_of_call book outcome = record { text = reply_text (reply_of book outcome) +
 -- a question: the answer, or why there is none
 abbrev pub answered_text : Result Answer Refusal → List ℕ
 answered_text (Ok answer) = answer_text answer
-answered_text (Err refusal) = reply_text (reply.Refused refusal)
+answered_text (Err refusal) = reply_text (Reply.Refused refusal)
 
 -- by what the line is read as; the line's own day takes the place of the clock's
 abbrev pub told_by : Capacity → Book → ℕ → Result BatchLine (List ℕ) → Told
-told_by capacity book day (Ok (batch_line.Act today call)) = told_of_call book (step book capacity session (unwrap_or today day) call)
-told_by capacity book day (Ok (batch_line.Ask question)) = record { text = answered_text (answer_to book question) ++ line_end; book = book }
+told_by capacity book day (Ok (BatchLine.Act today call)) = told_of_call book (step book capacity session (unwrap_or today day) call)
+told_by capacity book day (Ok (BatchLine.Ask question)) = record { text = answered_text (answer_to book question) ++ line_end; book = book }
 told_by capacity book day (Err path) = record { text = bad_form_text path ++ line_end; book = book }
 
 -- what a line is answered with, and the book after it
@@ -59,11 +51,10 @@ told_of capacity book given =
 
 -- ---- all lines
 
-abbrev pub then_told : Told → Told → Told
-then_told earlier next = record { text = earlier.text ++ next.text; book = next.book }
-
+-- and then one more line
 abbrev pub one_more : Capacity → Told → Given → Told
-one_more capacity earlier given = then_told earlier (told_of capacity earlier.book given)
+one_more capacity earlier given =
+    record { text = earlier.text ++ (told_of capacity earlier.book given).text; book = (told_of capacity earlier.book given).book }
 
 -- what the lines are answered with, one after another, and the book after them
 abbrev pub batch_output : Capacity → Book → List Given → Told

@@ -1,5 +1,6 @@
 ghost use Rattle.std.specs.Prelude.{◌≡◌};
 ghost use Rattle.book_rows.specs.Book.{Book};
+ghost use Rattle.keeper_core.specs.Keeping.{Keeps};
 ghost use Rattle.clerk_desk.specs.Serving.{ToldBefore};
 ghost use Rattle.batch_command.specs.Batch.{Ran, Blames, ending_of};
 
@@ -32,6 +33,7 @@ pub fn answer_lines<K: Keeper, S: Source, W: Sink, C: Clock>(
     ensures capacity { office.new.capacity ≡ office.old.capacity }
     ensures kept { (book : Book) → K.holds keeper.new book → book ≡ office.new.book }
     ensures told_before { ToldBefore (K.holds keeper.old) (K.holds keeper.new) }
+    ensures kept_row { Keeps (K.bad keeper.old) (K.bad keeper.new) }
     ensures blames { Blames
         (record { source = S.faults source.old; sink = W.faults sink.old; keeper = K.faults keeper.old })
         (record { source = S.faults source.new; sink = W.faults sink.new; keeper = K.faults keeper.new }) result }

@@ -3,6 +3,7 @@ ghost use Rattle.book_rows.specs.Book.{Book};
 ghost use Rattle.office_step.specs.Step.{step, is_fit_call};
 ghost use Rattle.office_answers.specs.Answering.{answer_to};
 ghost use Rattle.json_front.specs.Lines.{line_from};
+ghost use Rattle.keeper_core.specs.Keeping.{Keeps};
 ghost use Rattle.clerk_desk.specs.Serving.{ToldBefore};
 ghost use Rattle.batch_command.specs.Output.{session, is_passed_over, line_end, told_of, told_by, told_of_call, answered_text};
 ghost use Rattle.batch_command.specs.Line.{Tells, IsText, WritesText, AnswersLine, LineBlames, SinkBlames, TellBlames};
@@ -37,6 +38,7 @@ pub fn answer_line<K: Keeper, W: Sink, C: Clock>(
     ensures capacity { office.new.capacity ≡ office.old.capacity }
     ensures kept { (book : Book) → K.holds keeper.new book → book ≡ office.new.book }
     ensures told_before { ToldBefore (K.holds keeper.old) (K.holds keeper.new) }
+    ensures kept_row { Keeps (K.bad keeper.old) (K.bad keeper.new) }
     ensures blames { LineBlames (W.faults sink.old) (W.faults sink.new) (K.faults keeper.old) (K.faults keeper.new) result }
 {
     let today = clock.today();
@@ -80,6 +82,7 @@ fn told<K: Keeper>(
     ensures capacity { office.new.capacity ≡ office.old.capacity }
     ensures kept { (book : Book) → K.holds keeper.new book → book ≡ office.new.book }
     ensures told_before { ToldBefore (K.holds keeper.old) (K.holds keeper.new) }
+    ensures kept_row { Keeps (K.bad keeper.old) (K.bad keeper.new) }
     ensures blames { TellBlames (K.faults keeper.old) (K.faults keeper.new) result }
 {
     match line_of_bytes(alloc, line) {
@@ -106,6 +109,7 @@ fn replied<K: Keeper>(
     ensures capacity { office.new.capacity ≡ office.old.capacity }
     ensures kept { (book : Book) → K.holds keeper.new book → book ≡ office.new.book }
     ensures told_before { ToldBefore (K.holds keeper.old) (K.holds keeper.new) }
+    ensures kept_row { Keeps (K.bad keeper.old) (K.bad keeper.new) }
     ensures blames { TellBlames (K.faults keeper.old) (K.faults keeper.new) result }
 {
     match serve(alloc, office, keeper, SESSION, day, call) {

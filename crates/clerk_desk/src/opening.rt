@@ -1,10 +1,8 @@
 ghost use Rattle.std.specs.Prelude.{◌≡◌, ◌≤◌, None, IfOk, IfErr};
-ghost use Rattle.book_rows.specs.Book.{book_of};
-ghost use Rattle.keeper_core.specs.Keeping.{Keeps};
+ghost use Rattle.keeper_core.specs.Keeping.{Keeps, Gives, LoadCause};
 ghost use Rattle.office_step.specs.Valid.{first_fault};
-ghost use Rattle.clerk_desk.specs.Opening.{TellsOnly, IsUnopened, BlamesKeeper, IsBad};
+ghost use Rattle.clerk_desk.specs.Opening.{TellsOnly, Opens, IsUnopened, BlamesKeeper};
 
-use book_rows::Tables;
 use keeper_core::{Keeper, Loaded};
 use office_core::{Capacity, Fault, Office, OpenFault};
 use std::alloc::Global;
@@ -27,33 +25,37 @@ pub fn open_office<K: Keeper>(
 ) -> Result<Office, DeskFault>
     requires acts { capacity.acts ≤ 100000 }
     requires lines { capacity.lines ≤ 4000000 }
+    // It is what comes of the load's answer.
+    ensures opened { (loaded : Loaded) × Gives (K.holds keeper.new) (K.bad keeper.new) loaded
+        × LoadCause (K.faults keeper.old) (K.faults keeper.new) loaded × Opens capacity loaded result }
     ensures kept { Keeps (K.holds keeper.old) (K.holds keeper.new) }
+    ensures kept_row { Keeps (K.bad keeper.old) (K.bad keeper.new) }
     ensures told { IfOk result (λ office. TellsOnly office.book (K.holds keeper.new) (K.bad keeper.new)) }
     ensures capacity { IfOk result (λ office. office.capacity ≡ capacity) }
     ensures valid { IfOk result (λ office. first_fault capacity office.book ≡ None) }
     ensures no_fault { IfOk result (λ _. K.faults keeper.new ≡ K.faults keeper.old) }
     ensures unopened { IfErr result (IsUnopened capacity (K.holds keeper.new) (K.bad keeper.new)) }
     ensures cause { IfErr result (BlamesKeeper (K.faults keeper.old) (K.faults keeper.new)) }
+    ensures crash_told { K.tells_crash keeper.new → K.tells_crash keeper.old }
+    ensures crash { K.tells_crash keeper.new → Keeps (K.leaves keeper.old) (K.leaves keeper.new) }
 {
-    match keeper.load(alloc) {
-        Loaded::Rows(tables) => opened(alloc, &tables, capacity),
+    let loaded = keeper.load(alloc);
+    opened(alloc, loaded, capacity)
+}
+
+fn opened(alloc: Global, loaded: Loaded, capacity: Capacity) -> Result<Office, DeskFault>
+    requires acts { capacity.acts ≤ 100000 }
+    requires lines { capacity.lines ≤ 4000000 }
+    ensures { Opens capacity loaded result }
+{
+    match loaded {
+        Loaded::Rows(tables) => match Office::open(alloc, &tables, capacity) {
+            Ok(office) => Ok(office),
+            Err(OpenFault::BadBook(fault)) => Err(DeskFault::BadBook(fault)),
+            Err(OpenFault::NoMemory) => Err(DeskFault::NoMemory),
+        },
         Loaded::BadRow { table, act } => Err(DeskFault::BadBook(Fault { table, act })),
         Loaded::Failed => Err(DeskFault::StoreFault),
         Loaded::NoMemory => Err(DeskFault::NoMemory),
-    }
-}
-
-fn opened(alloc: Global, tables: &Tables, capacity: Capacity) -> Result<Office, DeskFault>
-    requires acts { capacity.acts ≤ 100000 }
-    requires lines { capacity.lines ≤ 4000000 }
-    ensures book { IfOk result (λ office. office.book ≡ book_of tables.now) }
-    ensures capacity { IfOk result (λ office. office.capacity ≡ capacity) }
-    ensures valid { IfOk result (λ office. first_fault capacity office.book ≡ None) }
-    ensures bad { IfErr result (IsBad (first_fault capacity (book_of tables.now))) }
-{
-    match Office::open(alloc, tables, capacity) {
-        Ok(office) => Ok(office),
-        Err(OpenFault::BadBook(fault)) => Err(DeskFault::BadBook(fault)),
-        Err(OpenFault::NoMemory) => Err(DeskFault::NoMemory),
     }
 }

@@ -1,8 +1,9 @@
 ghost use Rattle.std.specs.Prelude.{◌≡◌, true};
 ghost use Rattle.book_rows.specs.Book.{Book};
+ghost use Rattle.keeper_core.specs.Keeping.{Keeps};
 ghost use Rattle.office_step.specs.Step.{step, appends, is_fit_call};
 ghost use Rattle.office_core.specs.Planned.{IsPlannedFor};
-ghost use Rattle.clerk_desk.specs.Serving.{Serves, ReplyCause, ToldBefore};
+ghost use Rattle.clerk_desk.specs.Serving.{Serves, ReplyCause, ToldBefore, ServeCrash};
 
 use days_core::Day;
 use keeper_core::{Committed, Keeper};
@@ -28,7 +29,11 @@ pub fn serve<K: Keeper>(
     ensures capacity { office.new.capacity ≡ office.old.capacity }
     ensures kept { (book : Book) → K.holds keeper.new book → book ≡ office.new.book }
     ensures told_before { ToldBefore (K.holds keeper.old) (K.holds keeper.new) }
+    ensures kept_row { Keeps (K.bad keeper.old) (K.bad keeper.new) }
     ensures cause { ReplyCause (K.faults keeper.old) (K.faults keeper.new) result }
+    ensures crash_told { K.tells_crash keeper.new → K.tells_crash keeper.old }
+    ensures crash { K.tells_crash keeper.new → ServeCrash office.old.capacity office.old.book office.new.book
+        (K.holds keeper.new) (K.leaves keeper.old) (K.leaves keeper.new) }
 {
     match office.plan_step(alloc, session, clock, call) {
         Ok(Judged::Repeat(done)) => Reply::Accepted(done),
@@ -46,7 +51,11 @@ fn keep<K: Keeper>(alloc: Global, office: &mut Office, keeper: &mut K, step: Ste
     ensures capacity { office.new.capacity ≡ office.old.capacity }
     ensures kept { (book : Book) → K.holds keeper.new book → book ≡ office.new.book }
     ensures told_before { ToldBefore (K.holds keeper.old) (K.holds keeper.new) }
+    ensures kept_row { Keeps (K.bad keeper.old) (K.bad keeper.new) }
     ensures cause { ReplyCause (K.faults keeper.old) (K.faults keeper.new) result }
+    ensures crash_told { K.tells_crash keeper.new → K.tells_crash keeper.old }
+    ensures crash { K.tells_crash keeper.new → ServeCrash office.old.capacity office.old.book office.new.book
+        (K.holds keeper.new) (K.leaves keeper.old) (K.leaves keeper.new) }
 {
     batches_follow();
     let _of_an_office = office.tables();

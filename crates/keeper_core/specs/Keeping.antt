@@ -3,13 +3,8 @@
 -- A keeper may stop telling at any call, so these look back from the end: what is told after a call was told before it.
 use Rattle.std.specs.Prelude.{◌≡◌, ◌⊎◌, ℕ, ⊤}
 use Rattle.office_io.specs.Outside.{Faulted}
-use Rattle.book_rows.specs.declared.rows.Table.{Table}
-use Rattle.book_rows.specs.declared.rows.Batch.{Batch}
-use Rattle.book_rows.specs.Book.{Book, book_of, appended}
-use Rattle.keeper_core.specs.declared.keeper.Loaded.{Loaded}
-use Rattle.keeper_core.specs.declared.keeper.Loaded.TheVariants as loaded
-use Rattle.keeper_core.specs.declared.keeper.Committed.{Committed}
-use Rattle.keeper_core.specs.declared.keeper.Committed.TheVariants as committed
+use Rattle.book_rows.specs.{declared.rows.Table.Table, declared.rows.Batch.Batch, Book.Book, Book.book_of, Book.appended}
+use Rattle.keeper_core.specs.declared.keeper.{Loaded.Loaded, Committed.Committed}
 
 -- a stored row with a number out of its range: its table and its act, or 0 where its act is out of range
 pub record BadRow : Type 0 where
@@ -20,39 +15,36 @@ pub record BadRow : Type 0 where
 abbrev pub Only : Book → Book → Type 0
 Only kept book = book ≡ kept
 
--- each book that is told now was told before
-abbrev pub Keeps : (Book → Type 0) → (Book → Type 0) → Type 0
-Keeps old new = (book : Book) → new book → old book
+-- whatever is told now, a book or a bad row, was told before
+abbrev pub Keeps : {A : Type 0} → (A → Type 0) → (A → Type 0) → Type 0
+Keeps {A} old new = (it : A) → new it → old it
 
 -- a load gives the book that is told, or the bad row that is told, and never rows where a bad row is told, nor a bad
 -- row where a book is told
 abbrev pub Gives : (Book → Type 0) → (BadRow → Type 0) → Loaded → Type 0
-Gives holds bad (loaded.Rows tables) =
+Gives holds bad (Loaded.Rows tables) =
     ((book : Book) → holds book → book_of tables ≡ book) × ((row : BadRow) → bad row → ⊥)
-Gives holds bad (loaded.BadRow table act) =
+Gives holds bad (Loaded.BadRow table act) =
     ((book : Book) → holds book → ⊥) × ((row : BadRow) → bad row → row ≡ record { table = table; act = act })
-Gives holds bad loaded.Failed = ⊤
-Gives holds bad loaded.NoMemory = ⊤
+Gives holds bad Loaded.Failed = ⊤
+Gives holds bad Loaded.NoMemory = ⊤
 
 -- a load answers Failed only where it counted a fault
 abbrev pub LoadCause : ℕ → ℕ → Loaded → Type 0
-LoadCause before now (loaded.Rows tables) = now ≡ before
-LoadCause before now (loaded.BadRow table act) = now ≡ before
-LoadCause before now loaded.Failed = Faulted before now
-LoadCause before now loaded.NoMemory = now ≡ before
+LoadCause before now Loaded.Failed = Faulted before now
+LoadCause before now _ = now ≡ before
 
 -- after Done the batch is appended to the book that was told, and every other answer leaves the book
 abbrev pub Commits : (Book → Type 0) → (Book → Type 0) → Batch → Committed → Type 0
-Commits old new batch committed.Done =
+Commits old new batch Committed.Done =
     (book : Book) → new book → (was : Book) × (old was × (book ≡ appended was batch))
-Commits old new batch committed.Failed = Keeps old new
-Commits old new batch committed.NoMemory = Keeps old new
+Commits old new batch Committed.Failed = Keeps old new
+Commits old new batch Committed.NoMemory = Keeps old new
 
 -- a commit answers Failed only where it counted a fault
 abbrev pub CommitCause : ℕ → ℕ → Committed → Type 0
-CommitCause before now committed.Done = now ≡ before
-CommitCause before now committed.Failed = Faulted before now
-CommitCause before now committed.NoMemory = now ≡ before
+CommitCause before now Committed.Failed = Faulted before now
+CommitCause before now _ = now ≡ before
 
 -- a crash leaves the book that is told and no other
 abbrev pub LeavesTold : (Book → Type 0) → (Book → Type 0) → Type 0
@@ -66,6 +58,6 @@ LeavesOrCommits held left leaves batch =
 -- What a crash may leave after a commit. After Done that is the book that is told and no other. After another answer
 -- it is what could be left before, or the book that was told with the batch.
 abbrev pub CommitCrash : (Book → Type 0) → (Book → Type 0) → (Book → Type 0) → (Book → Type 0) → Batch → Committed → Type 0
-CommitCrash held left holds leaves batch committed.Done = LeavesTold holds leaves
-CommitCrash held left holds leaves batch committed.Failed = LeavesOrCommits held left leaves batch
-CommitCrash held left holds leaves batch committed.NoMemory = LeavesOrCommits held left leaves batch
+CommitCrash held left holds leaves batch Committed.Done = LeavesTold holds leaves
+CommitCrash held left holds leaves batch Committed.Failed = LeavesOrCommits held left leaves batch
+CommitCrash held left holds leaves batch Committed.NoMemory = LeavesOrCommits held left leaves batch

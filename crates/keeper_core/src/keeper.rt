@@ -58,6 +58,7 @@ pub trait Keeper {
     fn load(&mut self, alloc: Global) -> Loaded
         ensures gives { Gives (holds self.new) (bad self.new) result }
         ensures kept { Keeps (holds self.old) (holds self.new) }
+        ensures kept_row { Keeps (bad self.old) (bad self.new) }
         ensures cause { LoadCause (faults self.old) (faults self.new) result }
         ensures told { tells_crash self.new → tells_crash self.old }
         ensures crash { tells_crash self.new → Keeps (leaves self.old) (leaves self.new) };
@@ -68,6 +69,7 @@ pub trait Keeper {
         requires next { (book : Book) → holds self.old book → IsBefore book batch.now.act.n }
         requires text { IsTrue (is_utf8 batch.now.act.body) }
         ensures leaves { Commits (holds self.old) (holds self.new) batch.now result }
+        ensures kept_row { Keeps (bad self.old) (bad self.new) }
         ensures cause { CommitCause (faults self.old) (faults self.new) result }
         ensures told { tells_crash self.new → tells_crash self.old }
         ensures crash { tells_crash self.new → CommitCrash (holds self.old) (leaves self.old) (holds self.new) (leaves self.new) batch.now result };

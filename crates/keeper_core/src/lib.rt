@@ -2,10 +2,12 @@
 #![tactic(auto)]
 
 mod copies;
+mod damaged;
 mod keeper;
 mod memory;
 mod planned;
 
+pub use damaged::DamagedKeeper;
 pub use keeper::{Committed, Keeper, Loaded};
 pub use memory::MemoryKeeper;
 pub use planned::PlannedKeeper;

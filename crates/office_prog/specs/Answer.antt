@@ -1,9 +1,7 @@
 -- What the program answers, and how it ends.
 use Rattle.std.specs.Prelude.{◌≡◌, ◌⊎◌, ℕ, List}
-use Rattle.std.specs.declared.option.Option.{Option}
-use Rattle.std.specs.Io.KnownBytes.{Appends}
-use Rattle.office_io.specs.Outside.{Faulted}
-use Rattle.office_io.specs.Transfer.{AppendsPart}
+use Rattle.std.specs.{declared.option.Option.Option, Io.KnownBytes.Appends}
+use Rattle.office_io.specs.{Outside.Faulted, Transfer.AppendsPart}
 
 -- what is written, and the status of the program when all of it is
 pub record Answer : Type 0 where

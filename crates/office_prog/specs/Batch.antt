@@ -2,20 +2,11 @@
 use Rattle.std.specs.Prelude.{◌≡◌, ◌⊎◌, ℕ, None, Option, List, ◌∷◌, ◌++◌, [], codes, decimal}
 use Rattle.std.specs.Io.KnownBytes.{Keeps as KeepsBytes}
 use Rattle.office_io.specs.Outside.{Faulted}
-use Rattle.book_rows.specs.declared.rows.Table.{Table}
-use Rattle.book_rows.specs.declared.rows.Table.TheVariants as table
-use Rattle.book_rows.specs.Book.{Book}
+use Rattle.book_rows.specs.{declared.rows.Table.Table, Book.Book}
 use Rattle.keeper_core.specs.Keeping.{BadRow, Keeps}
-use Rattle.office_step.specs.declared.call.Capacity.{Capacity}
-use Rattle.office_step.specs.declared.fault.Fault.{Fault}
-use Rattle.office_step.specs.Step.{IsReached}
-use Rattle.office_step.specs.Valid.{first_fault}
-use Rattle.clerk_desk.specs.declared.opening.DeskFault.{DeskFault}
-use Rattle.clerk_desk.specs.declared.opening.DeskFault.TheVariants as fault
-use Rattle.clerk_desk.specs.Opening.{IsUnopened}
-use Rattle.batch_command.specs.declared.ending.Ending.{Ending}
-use Rattle.batch_command.specs.declared.ending.Ending.TheVariants as ending
-use Rattle.batch_command.specs.Batch.{Counts, Ran, Blames}
+use Rattle.office_step.specs.{declared.call.Capacity.Capacity, declared.fault.Fault.Fault, Step.IsReached, Valid.first_fault}
+use Rattle.clerk_desk.specs.{declared.opening.DeskFault.DeskFault, Opening.IsUnopened}
+use Rattle.batch_command.specs.{declared.ending.Ending.Ending, Batch.Counts, Batch.Ran, Batch.Blames}
 use Rattle.office_prog.specs.Answer.{Answer, Ends}
 
 -- the most acts and lines of the program's book
@@ -31,22 +22,23 @@ pub record Door : Type 0 where
 -- ---- the book is opened
 
 abbrev pub status_of : Ending → ℕ
-status_of ending.Done = 0
-status_of ending.ReadFault = 3
-status_of ending.WriteFault = 4
-status_of ending.StoreFault = 5
-status_of ending.NoMemory = 7
-status_of ending.TooLong = 9
+status_of Ending.Done = 0
+status_of Ending.ReadFault = 3
+status_of Ending.WriteFault = 4
+status_of Ending.StoreFault = 5
+status_of Ending.NoMemory = 7
+status_of Ending.TooLong = 9
 
 -- An office's book was opened and the lines were answered on it. The book after them is an office's too. Where the keeper
--- tells a book now, that is the one after them, and it told the one before them.
-pub record Serves (shows : ℕ → Type 0) (holds holds_now : Book → Type 0) (old new : Door) (status : ℕ) : Type 0 where
+-- tells a book now, that is the one after them, and it told the one before them. It tells no bad row.
+pub record Serves (shows : ℕ → Type 0) (holds holds_now : Book → Type 0) (bad_now : BadRow → Type 0) (old new : Door) (status : ℕ) : Type 0 where
   pub start : Book
   pub after : Book
   pub ending : Ending
   pub valid : first_fault largest start ≡ None
   pub reached : IsReached largest after
   pub kept : (book : Book) → holds_now book → (book ≡ after) × holds start
+  pub no_bad_row : (row : BadRow) → bad_now row → ⊥
   pub ran : Ran largest shows start after old.left new.left old.held new.held ending
   pub blames : Blames old.counts new.counts ending
   pub status_is : status ≡ status_of ending
@@ -54,9 +46,9 @@ pub record Serves (shows : ℕ → Type 0) (holds holds_now : Book → Type 0) (
 -- ---- the book isn't opened
 
 abbrev pub table_name : Table → List ℕ
-table_name table.Acts = codes "acts"
-table_name table.Records = codes "records"
-table_name table.Lines = codes "lines"
+table_name Table.Acts = codes "acts"
+table_name Table.Records = codes "records"
+table_name Table.Lines = codes "lines"
 
 -- the table and the act where a book first goes wrong
 abbrev pub bad_book : Fault → Answer
@@ -70,12 +62,12 @@ pub record IsQuiet (old new : Door) : Type 0 where
 -- The fault is written; or nothing is, where the keeper failed or memory ran out. Just the one that is blamed counted a
 -- fault, of the sink and the keeper.
 abbrev pub Tells : Door → Door → DeskFault → ℕ → Type 0
-Tells old new (fault.BadBook found) status =
+Tells old new (DeskFault.BadBook found) status =
     (Ends (bad_book found) old.held new.held old.counts.sink new.counts.sink status × (new.counts.keeper ≡ old.counts.keeper))
     ⊎ ((status ≡ 7) × IsQuiet old new)
-Tells old new fault.StoreFault status =
+Tells old new DeskFault.StoreFault status =
     (status ≡ 5) × KeepsBytes old.held new.held × Faulted old.counts.keeper new.counts.keeper × (new.counts.sink ≡ old.counts.sink)
-Tells old new fault.NoMemory status = (status ≡ 7) × IsQuiet old new
+Tells old new DeskFault.NoMemory status = (status ≡ 7) × IsQuiet old new
 
 -- the book wasn't opened, for that reason, and nothing was read
 pub record Fails (holds holds_now : Book → Type 0) (bad_now : BadRow → Type 0) (old new : Door) (status : ℕ) : Type 0 where
@@ -89,4 +81,4 @@ pub record Fails (holds holds_now : Book → Type 0) (bad_now : BadRow → Type 
 -- what comes of it
 abbrev pub Batches : (ℕ → Type 0) → (Book → Type 0) → (Book → Type 0) → (BadRow → Type 0) → Door → Door → ℕ → Type 0
 Batches shows holds holds_now bad_now old new status =
-    Serves shows holds holds_now old new status ⊎ Fails holds holds_now bad_now old new status
+    Serves shows holds holds_now bad_now old new status ⊎ Fails holds holds_now bad_now old new status

@@ -1,8 +1,6 @@
 -- What the program answers to its words and its input.
 use Rattle.std.specs.Prelude.{ℕ, nat_le, if◌then◌else◌, List, [], length, codes}
-use Rattle.assess_command.specs.declared.answer.Assessed.{Assessed}
-use Rattle.assess_command.specs.declared.answer.Assessed.TheVariants.{Paid, Refused}
-use Rattle.assess_command.specs.Assess.{assessed}
+use Rattle.assess_command.specs.{declared.answer.Assessed.Assessed, Assess.assessed}
 use Rattle.office_prog.specs.Answer.{Answer}
 
 -- other words are answered with how the program is used
@@ -14,8 +12,8 @@ abbrev pub input_limit : ℕ
 input_limit = 16384
 
 abbrev pub answer_of : Assessed → Answer
-answer_of (Paid text) = record { status = 0; text = text }
-answer_of (Refused text) = record { status = 8; text = text }
+answer_of (Assessed.Paid text) = record { status = 0; text = text }
+answer_of (Assessed.Refused text) = record { status = 8; text = text }
 
 -- what `assess` answers to its input
 abbrev pub assess_answer : List ℕ → Answer

@@ -2,12 +2,11 @@
 use Rattle.std.specs.Prelude.{ℕ, if◌then◌else◌, Option, Some, None, List, [], ◌∷◌, codes, bytes_eq, String, string_bytes}
 use Rattle.std.specs.declared.alloc.Global.{Global}
 use Rattle.office_prog.specs.declared.words.Subcommand.{Subcommand}
-use Rattle.office_prog.specs.declared.words.Subcommand.TheVariants as subcommand
 
 abbrev pub named_by : List ℕ → Option Subcommand
 named_by word =
-    if bytes_eq word (codes "assess") then Some subcommand.Assess
-    else (if bytes_eq word (codes "batch") then Some subcommand.Batch else None)
+    if bytes_eq word (codes "assess") then Some Subcommand.Assess
+    else (if bytes_eq word (codes "batch") then Some Subcommand.Batch else None)
 
 -- one word names a subcommand, and no other words do
 abbrev pub subcommand_in : List (String Global) → Option Subcommand

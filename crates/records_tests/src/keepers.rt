@@ -3,8 +3,8 @@ ghost use Rattle.std.specs.Str.{is_utf8};
 ghost use Rattle.book_rows.specs.Book.{Book, book_of, IsBatch, IsBefore};
 ghost use Rattle.voucher_core.specs.declared.line.Line.{Line};
 
-use book_rows::{ActRow, Batch, Tables};
-use keeper_core::{Committed, Keeper, Loaded, MemoryKeeper, PlannedKeeper};
+use book_rows::{ActRow, Batch, Table, Tables};
+use keeper_core::{Committed, DamagedKeeper, Keeper, Loaded, MemoryKeeper, PlannedKeeper};
 use plain_data::Listed;
 use record_history::{Dates, Kind, Record};
 use sample_office::{act_row, day, line, record, text};
@@ -173,6 +173,7 @@ fn gives_its_tables(rt: &impl Abort, alloc: Global, keeper: MemoryKeeper) {
     assert!(rt; are_rows(rt, alloc, keeper.tables(), 2));
     may_cross_threads(keeper);
     may_cross_threads(PlannedKeeper::new(alloc, Vec::new(alloc)));
+    may_cross_threads(DamagedKeeper::new(Table::Acts, 1));
 }
 
 // The calls are a load and a commit of the first batch, then those of the second, and once more of what failed.
@@ -213,4 +214,14 @@ fn a_failed_load_leaves_the_rows(rt: HostRuntime) {
     assert!(rt; keeper.faults() == 2);
     assert!(rt; holds(&rt, alloc, &mut keeper, 1));
     assert!(rt; keeper.faults() == 2);
+}
+
+#[test]
+fn tells_its_bad_row(rt: HostRuntime) {
+    let mut keeper = DamagedKeeper::new(Table::Records, 3);
+    let Loaded::BadRow { table, act } = keeper.load(rt.alloc()) else {
+        panic!(rt; "no bad row");
+    };
+    assert!(rt; table == Table::Records);
+    assert!(rt; act == 3);
 }

@@ -1,8 +1,6 @@
 use Rattle.std.proofs.Common.{[], refl, arith, rules}
-use Rattle.batch_command.proofs.SoFar.{so_far_start}
-use Rattle.batch_command.proofs.Runs.{ran_without, ran_at_last}
-use Rattle.batch_command.proofs.Steps.{goes_on, ends_within, ends_with}
-use Rattle.line_input.specs.declared.reader.Next.TheVariants as next
+use Rattle.batch_command.proofs.{SoFar.so_far_start, Runs.ran_without, Steps.goes_on, Steps.ends_within, Steps.ends_with}
+use Rattle.line_input.specs.declared.reader.Next.{Next}
 use Rattle.batch_command.proofs.batch.answer_lines.Goals as goal
 
 pub loop-init : goal.loop-init
@@ -11,6 +9,7 @@ loop-init g c = record {
   capacity = refl;
   kept = c.requires;
   told_before = λ book told. (book, told);
+  kept_row = λ row told. told;
   source = refl;
   sink = refl;
   keeper = refl;
@@ -24,6 +23,7 @@ loop-preserved g c = record {
   kept = search rules;
   told_before = λ book told.
       let was = c.in_default-answer_line.ensures.told_before book told in c.loop.invariant.told_before was.0 was.1;
+  kept_row = λ row told. c.loop.invariant.kept_row row (c.in_default-answer_line.ensures.kept_row row told);
   source = search rules;
   sink = search rules;
   keeper = search rules;
@@ -41,25 +41,21 @@ returns-in-Last-clause-ran g c =
 
 pub returns-in-End-clause-ran : goal.returns-in-End-clause-ran
 returns-in-End-clause-ran g c =
-    ran_without _ _ _ _ _ _ _ _ _ _ c.loop.invariant.answered.0 c.next.new.self next.End c.loop.invariant.answered.2 (omega (arith, c.loop.invariant.answered.1))
-    (λ x. absurd x) c.in-End.ensures.comes refl
+    ran_without c.loop.invariant.answered.2 (omega (arith, c.loop.invariant.answered.1)) c.next.new.self Next.End (λ x. absurd x) c.in-End.ensures.comes refl
 
 pub returns-in-TooLong-clause-ran : goal.returns-in-TooLong-clause-ran
 returns-in-TooLong-clause-ran g c =
-    ran_without _ _ _ _ _ _ _ _ _ _ c.loop.invariant.answered.0 c.next.new.self next.TooLong c.loop.invariant.answered.2 (omega (arith, c.loop.invariant.answered.1))
-    (λ x. absurd x) c.in-TooLong.ensures.comes refl
+    ran_without c.loop.invariant.answered.2 (omega (arith, c.loop.invariant.answered.1)) c.next.new.self Next.TooLong (λ x. absurd x) c.in-TooLong.ensures.comes refl
 
 pub returns-in-Failed-clause-ran : goal.returns-in-Failed-clause-ran
 returns-in-Failed-clause-ran g c =
-    ran_without _ _ _ _ _ _ _ _ _ _ c.loop.invariant.answered.0 c.next.new.self next.Failed c.loop.invariant.answered.2 (omega (arith, c.loop.invariant.answered.1))
-    (λ x. absurd x) c.in-Failed.ensures.comes refl
+    ran_without c.loop.invariant.answered.2 (omega (arith, c.loop.invariant.answered.1)) c.next.new.self Next.Failed (λ x. absurd x) c.in-Failed.ensures.comes refl
 
 pub returns-in-NoMemory-clause-ran : goal.returns-in-NoMemory-clause-ran
 returns-in-NoMemory-clause-ran g c =
-    ran_without _ _ _ _ _ _ _ _ _ _ c.loop.invariant.answered.0 c.next.new.self next.NoMemory c.loop.invariant.answered.2 (omega (arith, c.loop.invariant.answered.1))
-    (λ x. absurd x) c.in-NoMemory.ensures.comes refl
+    ran_without c.loop.invariant.answered.2 (omega (arith, c.loop.invariant.answered.1)) c.next.new.self Next.NoMemory (λ x. absurd x) c.in-NoMemory.ensures.comes refl
 
 pub returns-clause-ran : goal.returns-clause-ran
 returns-clause-ran g c =
-    ran_at_last _ _ _ _ _ _ _ _ _ _ c.loop.invariant.answered.0 c.next-2.new.self c.next-2.result _ c.without_line.ensures c.loop.invariant.answered.2
-    (omega (arith, c.loop.invariant.answered.1)) c.next-2.ensures.comes refl
+    rw c.without_line.ensures (ran_without c.loop.invariant.answered.2 (omega (arith, c.loop.invariant.answered.1)) c.next-2.new.self c.next-2.result
+    (λ x. omega (arith, c.loop.invariant.answered.1)) c.next-2.ensures.comes refl)
