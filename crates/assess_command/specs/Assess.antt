@@ -6,12 +6,8 @@ use Rattle.json_form.specs.Written.{number_data, refused, bad_form_data}
 use Rattle.facts_core.specs.Rules.{broken_rule}
 use Rattle.income_rules.specs.Annual.{annual_income_of}
 use Rattle.deduction_rules.specs.Deductions.{adjusted_income_of}
-use Rattle.payment_rules.specs.declared.figures.Payment.{Payment}
-use Rattle.payment_rules.specs.Payment.{payment_of}
-use Rattle.assess_command.specs.declared.household.Household.{Household}
-use Rattle.assess_command.specs.declared.answer.Assessed.{Assessed}
-use Rattle.assess_command.specs.declared.answer.Assessed.TheVariants.{Paid, Refused}
-use Rattle.assess_command.specs.Household.{household_from}
+use Rattle.payment_rules.specs.{declared.figures.Payment.Payment, Payment.payment_of}
+use Rattle.assess_command.specs.{declared.household.Household.Household, declared.answer.Assessed.Assessed, Household.household_from}
 
 -- ---- the payment
 
@@ -52,12 +48,12 @@ abbrev pub line : Data → List ℕ
 line d = compact_text d ++ 10 ∷ []
 
 abbrev pub answer_by_rule : Household → Option ℕ → Assessed
-answer_by_rule h None = Paid (line (figures (household_annual h) (household_adjusted h) (household_payment h)))
-answer_by_rule h (Some rule) = Refused (line (bad_facts rule))
+answer_by_rule h None = Assessed.Paid (line (figures (household_annual h) (household_adjusted h) (household_payment h)))
+answer_by_rule h (Some rule) = Assessed.Refused (line (bad_facts rule))
 
 abbrev pub answer_to : Result Household (List ℕ) → Assessed
 answer_to (Ok h) = answer_by_rule h (broken_rule h.facts h.day)
-answer_to (Err path) = Refused (line (bad_form_data path))
+answer_to (Err path) = Assessed.Refused (line (bad_form_data path))
 
 -- What the bytes are answered with: the payment of the household that they are, or the refusal by the first bad path or
 -- by the least rule that is broken.

@@ -1,42 +1,36 @@
 -- An office's own tables: each act that is done again appends the rows that are there.
-use Rattle.book_replay.proofs.Words.{◌≡◌, ◌∙◌, sym, ap, ap₂, refl, subst, ℕ, ◌+◌, ◌≤◌, ◌<◌, ◌==◌, ◌&&◌, arith, Bool, true, false, not, List, [], ◌∷◌, ◌++◌, Option, Some, None, length, filter, option_and_then, option_to_list, if◌then◌else◌, append_assoc, All, IfSome, option_or, option_map, option_eq, pointwise, pointwise_decides, and_from, eq-eqb, ne_eqb, append-nil, length_push, All-nil, All-cons, All-append, All-weaker, filter-append, Record, Line, Command, ActRow, Batch, Book, IsBatch, IsBefore, empty_book, appended, kind_number, same_dates, same_heading, same_figures, same_act, same_record, same_line, record_equal, line_equal, Call, Capacity, Fault, step, IsAppended, IsReached, reached_empty, reached_more, fault_in, fit_call, call_of, rows_in, replayed, difference, records_by, lines_by, with_rows, fault_from, Accepted, AppendedIsAccepted, ReachedIsValid, filter_all, filter_none, All-IfSome, common_steps, Decides-int_eq}
+use Rattle.book_replay.proofs.Words.{◌≡◌, ◌∙◌, sym, ap, refl, ℕ, ◌+◌, ◌≤◌, ◌==◌, arith, true, List, [], ◌∷◌, ◌++◌, Option, Some, None, length, option_and_then, option_to_list, append_assoc, All, option_or, option_map, option_eq, pointwise, pointwise_decides, eq-eqb, append-nil, length_push, All-nil, All-append, Record, Line, ActRow, Batch, Book, IsBatch, IsBefore, empty_book, appended, same_dates, same_act, same_record, same_line, record_equal, line_equal, Call, Capacity, step, IsAppended, IsReached, reached_empty, reached_more, fault_in, call_of, rows_in, replayed, difference, records_by, lines_by, fault_from, Accepted, AppendedIsAccepted, ReachedIsValid, All-IfSome, common_steps, Decides-int_eq}
 use Rattle.std.specs.Cmp.{booleans_Decides}
 use Rattle.std.proofs.lemmas.Slice.Eq.{bytes_eq-Decides}
 use Rattle.record_history.specs.declared.records.Dates.{Dates}
-use Rattle.book_rows.specs.declared.rows.Table.TheVariants as table
+use Rattle.book_rows.specs.declared.rows.Table.{Table}
 use Rattle.office_laws.specs.Kept.{Kept, BooksAreKept, BatchesFollow}
 use Rattle.book_replay.proofs.InPlace.{in_place}
 use Rattle.list_laws.proofs.ByNumber.{filter_earlier, filter_last}
 
 -- ---- a row is the same as itself
 
-number : (n : ℕ) (rest : Bool) → rest ≡ true → (n == n && rest) ≡ true
-number n rest is = and_from (n == n) rest (eq-eqb n n refl) is
+number_itself : (n : ℕ) → (n == n) ≡ true
+number_itself n = eq-eqb n n refl
 
 act_itself : (a : ActRow) → same_act a a ≡ true
-act_itself a = number a.n _ (number a.session _ (number a.clerk _ (number a.request _ (number a.day _ ((bytes_eq-Decides a.body a.body).1 refl)))))
+act_itself a = simp (number_itself, (bytes_eq-Decides a.body a.body).1 refl)
 
 dates_themselves : (dates : Option Dates) → option_eq same_dates dates dates ≡ true
 dates_themselves None = refl
-dates_themselves (Some dates) = number dates.event _ (number dates.notice _ (eq-eqb dates.done dates.done refl))
+dates_themselves (Some dates) = simp number_itself
 
 record_itself : (r : Record) → same_record r r ≡ true
-record_itself r =
-    and_from (same_heading r r) (same_figures r r)
-    (number r.household _ (number r.number _ (number r.act _ (number (kind_number r.kind) _ (number r.from _ (number r.corrects _ (eq-eqb r.unit r.unit refl)))))))
-    (number r.persons _ (number r.size _ (and_from _ _ ((booleans_Decides r.extremely r.extremely).1 refl)
-    (number r.annual _ (number r.adjusted _ (number r.ttp _ (number r.rents.contract_rent _ (number r.rents.utility _ (number r.assistance _ (dates_themselves r.dates))))))))))
+record_itself r = simp (number_itself, (booleans_Decides r.extremely r.extremely).1 refl, dates_themselves)
 
 line_itself : (line : Line) → same_line line line ≡ true
-line_itself line =
-    number line.act _ (number line.place _ (number line.month _ (number line.household _ (number line.for_month _ (number line.first _ (number line.last _
-    (number line.old _ (number line.new _ ((Decides-int_eq line.amount line.amount).1 refl)))))))))
+line_itself line = simp (number_itself, (Decides-int_eq line.amount line.amount).1 refl)
 
-records_decide : (a b : Record) → (same_record a b ≡ true → a ≡ b) × (a ≡ b → same_record a b ≡ true)
-records_decide a b = (record_equal a b, λ is. subst (λ (r : Record). same_record a r ≡ true) is (record_itself a))
+pub records_decide : (a b : Record) → (same_record a b ≡ true → a ≡ b) × (a ≡ b → same_record a b ≡ true)
+records_decide a b = (record_equal a b, λ is. rw (← is) (record_itself a))
 
-lines_decide : (a b : Line) → (same_line a b ≡ true → a ≡ b) × (a ≡ b → same_line a b ≡ true)
-lines_decide a b = (line_equal a b, λ is. subst (λ (line : Line). same_line a line ≡ true) is (line_itself a))
+pub lines_decide : (a b : Line) → (same_line a b ≡ true → a ≡ b) × (a ≡ b → same_line a b ≡ true)
+lines_decide a b = (line_equal a b, λ is. rw (← is) (line_itself a))
 
 -- ---- one act
 
@@ -84,10 +78,7 @@ module _ (accepted : AppendedIsAccepted) (follow : BatchesFollow) (capacity : Ca
           (sym (has.lines rows.act.n last ∙ filter_last (λ (line : Line). line.act) rows.act.n book.lines rows.lines earlier.lines own.lines))
 
   call_is : call_of rows.act ≡ Some more.call
-  call_is =
-      ap (option_and_then (λ (asked : Command). fit_call (record { clerk = rows.act.clerk; request = rows.act.request; command = asked }))) more.read
-      ∙ ap₂ (λ (clerk request : ℕ). fit_call (record { clerk = clerk; request = request; command = more.call.command })) is.clerk is.request
-      ∙ ap (λ (fit : Bool). if fit then Some more.call else None) more.fit
+  call_is = rw (more.read, is.clerk, is.request, more.fit) refl
 
   done_again : replayed capacity book rows.act ≡ Some rows
   done_again =
@@ -103,10 +94,7 @@ module _ (accepted : AppendedIsAccepted) (follow : BatchesFollow) (capacity : Ca
   fault_through _ (reached_more {book} {rows} reached more) rest has =
       ap (fault_from capacity tables empty_book) (append_assoc book.acts (rows.act ∷ []) rest)
       ∙ fault_through book reached (rows.act ∷ rest) (has_before accepted follow capacity tables book rows reached more has)
-      ∙ ap (λ (found : Option Batch). option_or (difference tables rows.act found) (fault_from capacity tables (with_rows book found) rest))
-      (done_again accepted follow capacity tables book rows reached more)
-      ∙ ap (λ (first : Option Fault). option_or first (fault_from capacity tables (appended book rows) rest))
-      (same_rows accepted follow capacity tables book rows reached more has)
+      ∙ rw (done_again accepted follow capacity tables book rows reached more, same_rows accepted follow capacity tables book rows reached more has) refl
 
 -- every record and line is of an act from 1
 record FromOne (book : Book) : Type 0 where
@@ -121,14 +109,13 @@ from_one accepted follow capacity _ (reached_more {book} {rows} reached more) =
     let own : IsBatch rows = (follow capacity book rows reached more).0 in
     record {
       records = All-append (λ r. 1 ≤ r.act) book.records (option_to_list rows.made) so_far.records
-          (All-weaker (λ r. r.act ≡ rows.act.n) (λ r. 1 ≤ r.act) (λ r is. omega (arith, is, n)) (option_to_list rows.made)
-          (All-IfSome (λ r. r.act ≡ rows.act.n) rows.made own.made));
+          (λ k d within. omega (arith, n, All-IfSome (λ r. r.act ≡ rows.act.n) rows.made own.made k d within));
       lines = All-append (λ line. 1 ≤ line.act) book.lines rows.lines so_far.lines
-          (All-weaker (λ line. line.act ≡ rows.act.n) (λ line. 1 ≤ line.act) (λ line is. omega (arith, is, n)) rows.lines own.lines);
+          (λ k d within. omega (arith, n, own.lines k d within));
     }
 
 no_stray : (count : ℕ) (records lines : Option ℕ) → records ≡ None → lines ≡ None →
-    option_or (option_map (fault_in table.Records) records) (option_map (fault_in table.Lines) lines) ≡ None
+    option_or (option_map (fault_in Table.Records) records) (option_map (fault_in Table.Lines) lines) ≡ None
 no_stray count records lines none also = grind (arith, common_steps, none, also)
 
 pub reached_is_valid : AppendedIsAccepted → BatchesFollow → BooksAreKept → ReachedIsValid

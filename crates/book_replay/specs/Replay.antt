@@ -1,12 +1,8 @@
 -- The acts of tables, done again one after another, and what that tells of the tables.
 use Rattle.std.specs.Prelude.{◌≡◌, ◌≤◌, ℕ, ◌+◌, Some, None, take, drop, length, slice_get}
 use Rattle.std.specs.List.{range_with_len, flat_map}
-use Rattle.book_rows.specs.declared.rows.ActRow.{ActRow}
-use Rattle.book_rows.specs.declared.rows.Batch.{Batch}
-use Rattle.book_rows.specs.Book.{Book, empty_book, appended}
-use Rattle.office_step.specs.declared.call.Capacity.{Capacity}
-use Rattle.office_step.specs.declared.fault.Fault.{Fault}
-use Rattle.office_step.specs.Step.{IsReached}
+use Rattle.book_rows.specs.{declared.rows.ActRow.ActRow, declared.rows.Batch.Batch, Book.Book, Book.empty_book, Book.appended}
+use Rattle.office_step.specs.{declared.call.Capacity.Capacity, declared.fault.Fault.Fault, Step.IsReached}
 use Rattle.office_step.specs.Valid.{replayed, difference, records_by, lines_by, stray_row, fault_from, first_fault, IsValid}
 
 -- the book after that many acts of the tables were done again, and no row differed: it has these acts, each act's records

@@ -1,15 +1,8 @@
 -- Rows that are the same field by field are equal.
 use Rattle.std.proofs.Common.{◌≡◌, ℕ, ◌&&◌, ◌==◌, Bool, true, Option, Some, None, if◌then◌else◌, refl, ap, sym, ◌∙◌}
-use Rattle.std.specs.Bool.{beq}
-use Rattle.std.specs.Cmp.{booleans_Decides}
-use Rattle.std.specs.Option.{option_eq}
-use Rattle.std.proofs.lemmas.Bool.{and_parts, eqb-true}
-use Rattle.std.proofs.lemmas.Bool.Decides.{Decides-int_eq}
-use Rattle.std.proofs.lemmas.Slice.Eq.{bytes_eq-Decides}
-use Rattle.record_history.specs.declared.records.Kind.{Kind}
-use Rattle.record_history.specs.declared.records.Kind.TheVariants as kind
-use Rattle.record_history.specs.declared.records.Dates.{Dates}
-use Rattle.record_history.specs.declared.records.Record.{Record}
+use Rattle.std.specs.{Bool.beq, Cmp.booleans_Decides, Option.option_eq}
+use Rattle.std.proofs.lemmas.{Bool.and_parts, Bool.eqb-true, Bool.Decides.Decides-int_eq, Slice.Eq.bytes_eq-Decides}
+use Rattle.record_history.specs.declared.records.{Kind.Kind, Dates.Dates, Record.Record}
 use Rattle.voucher_core.specs.declared.line.Line.{Line}
 use Rattle.book_rows.specs.declared.rows.ActRow.{ActRow}
 use Rattle.book_rows.specs.Same.{kind_number, same_dates, same_heading, same_figures, same_act, same_record, same_line}
@@ -20,26 +13,26 @@ number_first a b rest h = let both = and_parts (a == b) rest h in (eqb-true a b 
 
 abbrev kind_from : ℕ → Kind
 kind_from number =
-    if number == 1 then kind.MI
-    else (if number == 2 then kind.IC
-    else (if number == 3 then kind.AR
-    else (if number == 4 then kind.IR
-    else (if number == 5 then kind.GR
-    else (if number == 6 then kind.UT
-    else (if number == 7 then kind.MO
-    else (if number == 8 then kind.TM
-    else kind.WD)))))))
+    if number == 1 then Kind.MI
+    else (if number == 2 then Kind.IC
+    else (if number == 3 then Kind.AR
+    else (if number == 4 then Kind.IR
+    else (if number == 5 then Kind.GR
+    else (if number == 6 then Kind.UT
+    else (if number == 7 then Kind.MO
+    else (if number == 8 then Kind.TM
+    else Kind.WD)))))))
 
 kind_again : (k : Kind) → kind_from (kind_number k) ≡ k
-kind_again kind.MI = refl
-kind_again kind.IC = refl
-kind_again kind.AR = refl
-kind_again kind.IR = refl
-kind_again kind.GR = refl
-kind_again kind.UT = refl
-kind_again kind.MO = refl
-kind_again kind.TM = refl
-kind_again kind.WD = refl
+kind_again Kind.MI = refl
+kind_again Kind.IC = refl
+kind_again Kind.AR = refl
+kind_again Kind.IR = refl
+kind_again Kind.GR = refl
+kind_again Kind.UT = refl
+kind_again Kind.MO = refl
+kind_again Kind.TM = refl
+kind_again Kind.WD = refl
 
 dates_equal : (a b : Dates) → same_dates a b ≡ true → a ≡ b
 dates_equal a b h =

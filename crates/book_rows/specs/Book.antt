@@ -2,9 +2,7 @@
 use Rattle.std.specs.Prelude.{◌≡◌, ◌≤◌, ◌<◌, ℕ, ◌+◌, ◌-◌, List, [], ◌∷◌, ◌++◌, All, length, slice_index_or, option_to_list, IfSome, vec_len, vec_capacity}
 use Rattle.record_history.specs.declared.records.Record.{Record}
 use Rattle.voucher_core.specs.declared.line.Line.{Line}
-use Rattle.book_rows.specs.declared.rows.ActRow.{ActRow}
-use Rattle.book_rows.specs.declared.rows.Batch.{Batch}
-use Rattle.book_rows.specs.declared.tables.Tables.{Tables}
+use Rattle.book_rows.specs.declared.{rows.ActRow.ActRow, rows.Batch.Batch, tables.Tables.Tables}
 
 -- the acts, and the records and lines that they made, in the order in which they came
 pub record Book : Type 0 where

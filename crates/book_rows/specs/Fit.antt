@@ -5,14 +5,8 @@
 use Rattle.std.specs.Prelude.{ℕ, ◌-◌, ◌&&◌, ◌==◌, nat_le, Bool, true, not, List, length, slice_index_or}
 use Rattle.std.specs.List.{list_all}
 use Rattle.days_core.specs.declared.rents.Rents.{Rents}
-use Rattle.rent_table.specs.declared.plan.Bound.{Bound}
-use Rattle.rent_table.specs.declared.plan.Plan.{Plan}
-use Rattle.book_rows.specs.declared.property.UnitAct.{UnitAct}
-use Rattle.book_rows.specs.declared.property.RentsAct.{RentsAct}
-use Rattle.book_rows.specs.declared.property.LimitsAct.{LimitsAct}
-use Rattle.book_rows.specs.declared.applicants.ApplyAct.{ApplyAct}
-use Rattle.book_rows.specs.declared.command.Command.{Command}
-use Rattle.book_rows.specs.declared.command.Command.TheVariants as command
+use Rattle.rent_table.specs.declared.plan.{Bound.Bound, Plan.Plan}
+use Rattle.book_rows.specs.declared.{property.UnitAct.UnitAct, property.RentsAct.RentsAct, property.LimitsAct.LimitsAct, applicants.ApplyAct.ApplyAct, command.Command.Command}
 
 -- the number lies in the range
 abbrev pub is_within : ℕ → ℕ → ℕ → Bool
@@ -98,14 +92,10 @@ is_application apply =
 -- ---- commands
 
 abbrev pub is_fit : Command → Bool
-is_fit (command.Plan plan) = is_plan plan
-is_fit (command.Unit unit) = is_unit unit
-is_fit (command.Rents rents) = is_rents rents
-is_fit (command.Limits limits) = is_limits limits
-is_fit (command.Apply apply) = is_application apply
-is_fit (command.Remove remove) = true
-is_fit (command.Start start) = is_name 40 start.name
-is_fit (command.Admit admit) = true
-is_fit (command.AskTransfer ask) = true
-is_fit (command.Household act) = true
-is_fit (command.Close close) = true
+is_fit (Command.Plan plan) = is_plan plan
+is_fit (Command.Unit unit) = is_unit unit
+is_fit (Command.Rents rents) = is_rents rents
+is_fit (Command.Limits limits) = is_limits limits
+is_fit (Command.Apply apply) = is_application apply
+is_fit (Command.Start start) = is_name 40 start.name
+is_fit _ = true

@@ -1,13 +1,7 @@
 -- When two rows of a book are the same: field by field.
 use Rattle.std.specs.Prelude.{ℕ, ◌&&◌, ◌==◌, nat_eq, Bool}
-use Rattle.std.specs.Option.{option_eq}
-use Rattle.std.specs.Ordering.{int_eq}
-use Rattle.std.specs.Cmp.Lexicographic.{pointwise}
-use Rattle.std.specs.Bool.{beq}
-use Rattle.record_history.specs.declared.records.Kind.{Kind}
-use Rattle.record_history.specs.declared.records.Kind.TheVariants as kind
-use Rattle.record_history.specs.declared.records.Dates.{Dates}
-use Rattle.record_history.specs.declared.records.Record.{Record}
+use Rattle.std.specs.{Option.option_eq, Ordering.int_eq, Cmp.Lexicographic.pointwise, Bool.beq}
+use Rattle.record_history.specs.declared.records.{Kind.Kind, Dates.Dates, Record.Record}
 use Rattle.voucher_core.specs.declared.line.Line.{Line}
 use Rattle.book_rows.specs.declared.rows.ActRow.{ActRow}
 
@@ -19,15 +13,15 @@ same_act a b =
 
 -- the place of a kind among the kinds, from 1
 abbrev pub kind_number : Kind → ℕ
-kind_number kind.MI = 1
-kind_number kind.IC = 2
-kind_number kind.AR = 3
-kind_number kind.IR = 4
-kind_number kind.GR = 5
-kind_number kind.UT = 6
-kind_number kind.MO = 7
-kind_number kind.TM = 8
-kind_number kind.WD = 9
+kind_number Kind.MI = 1
+kind_number Kind.IC = 2
+kind_number Kind.AR = 3
+kind_number Kind.IR = 4
+kind_number Kind.GR = 5
+kind_number Kind.UT = 6
+kind_number Kind.MO = 7
+kind_number Kind.TM = 8
+kind_number Kind.WD = 9
 
 abbrev pub same_dates : Dates → Dates → Bool
 same_dates a b = a.event == b.event && (a.notice == b.notice && a.done == b.done)

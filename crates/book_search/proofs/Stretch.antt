@@ -1,5 +1,5 @@
 -- The elements of a number in a list that never falls: one stretch of it.
-use Rattle.book_search.proofs.Words.{◌≡◌, ℕ, zero, suc, ◌<◌, ◌≤◌, true, false, List, [], ◌∷◌, length, get_or, take, drop, eqb, refl, sym, ap, subst, arith, ◌⊎◌, inl, inr, filter, AllPairs, nat_lt, nat_le, cases_lt, nat_tests}
+use Rattle.book_search.proofs.Words.{◌≡◌, ℕ, zero, suc, ◌<◌, ◌≤◌, true, false, List, [], ◌∷◌, length, get_or, take, drop, eqb, refl, sym, ap, arith, filter, AllPairs, nat_lt, nat_le, nat_tests}
 use Rattle.std.specs.List.Sorted.{IsPartitionPoint, IsNonDecreasingBy}
 use Rattle.list_laws.proofs.Filters.{filter_none}
 
@@ -35,11 +35,7 @@ filter_stretch n (x ∷ xs) a zero (suc j) le up first last =
 
 -- numbers that rise never fall
 pub never_falls_either : {X : Type 0} (n : X → ℕ) (xs : List X) → AllPairs (λ x next. n x ≤ n next) xs → IsNonDecreasingBy n xs
-never_falls_either n xs rise i j d le within = by (cases_lt i j)
-  where
-    by : (i < j) ⊎ (j ≤ i) → n (get_or xs i d) ≤ n (get_or xs j d)
-    by (inl lt) = rise i j d lt within
-    by (inr ge) = subst (λ k. n (get_or xs i d) ≤ n (get_or xs k d)) {x = i} (omega (arith, le, ge)) (omega arith)
+never_falls_either n xs rise i j d le within = grind (arith, rise i j d)
 
 pub never_falls : {X : Type 0} (n : X → ℕ) (xs : List X) → AllPairs (λ x next. n x < n next) xs → IsNonDecreasingBy n xs
-never_falls n xs rise = never_falls_either n xs (λ i j d before within. let less = rise i j d before within in omega (arith, less))
+never_falls n xs rise i j d le within = grind (arith, rise i j d)

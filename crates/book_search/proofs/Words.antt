@@ -1,8 +1,6 @@
 -- The names that most proofs here cite, passed on from one place. Declares nothing.
 pub use Rattle.std.proofs.Common.{◌≡◌, ℕ, ◌&&◌, nat_eq, Bool, true, false, List, get_or, refl, sym, ap, ◌∙◌, arith, zero, suc, ◌<◌, ◌≤◌, [], ◌∷◌, length, take, drop, eqb, subst, ◌⊎◌, inl, inr, rules, nat_lt}
-pub use Rattle.std.proofs.lemmas.Bool.{cases_lt, false≢true}
-pub use Rattle.std.proofs.lemmas.Bool.Decides.{nat_tests}
-pub use Rattle.std.proofs.lemmas.List.Sorted.{IsPartitionPoint-from_clause, IsPartitionedBy-ltb, IsPartitionedBy-leb}
+pub use Rattle.std.proofs.lemmas.{Bool.Decides.nat_tests, Grind.common_steps, List.Sorted.IsPartitionPoint-from_clause, List.Sorted.IsPartitionedBy-ltb, List.Sorted.IsPartitionedBy-leb}
 pub use Rattle.std.specs.Option.{option_copied, option_and_then}
 pub use Rattle.std.specs.Prelude.{Option, Some, None, find, filter, All, AllPairs, nat_le, slice_get, not, bytes_eq}
 pub use Rattle.book_rows.specs.declared.rows.ActRow.{ActRow}

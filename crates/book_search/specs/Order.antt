@@ -2,8 +2,7 @@
 use Rattle.std.specs.Prelude.{◌<◌, ◌≤◌, List, AllPairs}
 use Rattle.record_history.specs.declared.records.Record.{Record}
 use Rattle.voucher_core.specs.declared.line.Line.{Line}
-use Rattle.book_rows.specs.declared.rows.ActRow.{ActRow}
-use Rattle.book_rows.specs.declared.rows.Batch.{Batch}
+use Rattle.book_rows.specs.declared.rows.{ActRow.ActRow, Batch.Batch}
 use Rattle.book_rows.specs.Book.{Book, empty_book, appended, IsBatch, IsBefore}
 
 -- each act has a greater number than those before it

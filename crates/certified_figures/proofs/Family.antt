@@ -1,15 +1,11 @@
 -- How many persons and members of the family facts that break no rule have.
 use Rattle.std.proofs.Common.{◌≡◌, ℕ, ◌≤◌, cond, None, arith, true}
-use Rattle.std.proofs.lemmas.Bool.Decides.{nat_tests}
+use Rattle.std.proofs.lemmas.{Bool.Decides.nat_tests, List.Sums.count_by-le-length, List.Sums.sum_by-le-sum_by, Grind.common_steps}
 use Rattle.std.specs.Prelude.{not, count_by}
-use Rattle.std.proofs.lemmas.List.Sums.{count_by-le-length, sum_by-le-sum_by}
-use Rattle.facts_core.specs.declared.members.Relation.{Relation}
-use Rattle.facts_core.specs.declared.members.Member.{Member}
-use Rattle.facts_core.specs.declared.facts.Facts.{Facts}
+use Rattle.facts_core.specs.declared.{members.Relation.Relation, members.Member.Member, facts.Facts.Facts}
 use Rattle.facts_core.specs.Rules.{is_head, is_aide, has_one_head, is_in_size, broken_rule}
 use Rattle.income_rules.proofs.Kept.{keeps, is_short}
 use Rattle.certified_figures.specs.Figures.{persons_of, size_of}
-use Rattle.std.proofs.lemmas.Grind.{common_steps}
 
 -- the head is of the family
 head_counts : (relation : Relation) → cond (is_head relation) 1 0 ≤ cond (not (is_aide relation)) 1 0

@@ -1,8 +1,7 @@
 -- What a record certifies of a household (24 CFR 5.609, 5.611, 5.628; Handbook 4350.3 REV-1, chapters 5 and 7).
 use Rattle.std.specs.Prelude.{ℕ, ◌≤◌, not, length, count_by}
 use Rattle.days_core.specs.declared.rents.Rents.{Rents}
-use Rattle.facts_core.specs.declared.facts.Facts.{Facts}
-use Rattle.facts_core.specs.Rules.{is_aide}
+use Rattle.facts_core.specs.{declared.facts.Facts.Facts, Rules.is_aide}
 use Rattle.income_rules.specs.Annual.{annual_income_of}
 use Rattle.deduction_rules.specs.Deductions.{adjusted_income_of}
 use Rattle.payment_rules.specs.Payment.{total_tenant_payment_of, assistance_of}

@@ -2,8 +2,7 @@
 use Rattle.std.proofs.Common.{◌≡◌, ◌≢◌, true, List, Some, None, Ok, ap, refl, sym, ◌∙◌, arith}
 use Rattle.std.specs.Prelude.{ℕ, option_and_then}
 use Rattle.std.proofs.lemmas.Slice.Eq.{bytes_eq-Decides}
-use Rattle.book_rows.specs.declared.command.Command.{Command}
-use Rattle.book_rows.specs.Fit.{is_fit}
+use Rattle.book_rows.specs.{declared.command.Command.Command, Fit.is_fit}
 use Rattle.command_forms.specs.Holdable.{IsHoldable}
 use Rattle.command_forms.specs.Commands.{command_at, command_data, body_of, accepted, only_own, command_in, is_same_command}
 use Rattle.json_form.proofs.Plain.{read_compact}

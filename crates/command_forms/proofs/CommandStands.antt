@@ -5,10 +5,7 @@ use Rattle.json_form.specs.Form.{u32_at, one_of, is_object_at, field, only}
 use Rattle.json_form.specs.Written.{number_data}
 use Rattle.json_form.proofs.Stands.{Stands, word, flag, within, below, number, day, month}
 use Rattle.facts_core.proofs.FactsStand.{facts_stand}
-use Rattle.book_rows.specs.declared.household.HouseholdChange.{HouseholdChange}
-use Rattle.book_rows.specs.declared.household.HouseholdChange.TheVariants as change
-use Rattle.book_rows.specs.declared.command.Command.{Command}
-use Rattle.book_rows.specs.declared.command.Command.TheVariants as command
+use Rattle.book_rows.specs.declared.{household.HouseholdChange.HouseholdChange, command.Command.Command}
 use Rattle.book_rows.specs.Fit.{is_within, is_name, is_group, are_bounds, are_ranks, are_rents, are_limits, are_preferences, is_fit}
 use Rattle.command_forms.specs.Property.{plan_at, plan_members, unit_at, unit_members, rents_at, rents_members, limits_act_at, limits_members}
 use Rattle.command_forms.specs.Applicants.{apply_at, apply_members, remove_at, remove_members, start_at, start_members, admit_at, admit_members}
@@ -20,19 +17,19 @@ use Rattle.command_forms.proofs.Fields.{name, month_in, preferences, limits, bou
 -- ---- acts on a household
 
 abbrev act_of : ℕ → ℕ → HouseholdChange → Command
-act_of household seen change = command.Household (record { household = household; seen = seen; change = change })
+act_of household seen change = Command.Household (record { household = household; seen = seen; change = change })
 
 change_stands : (household seen : ℕ) (c : HouseholdChange) → Stands 3 u32_at (number_data household) household → Stands 3 u32_at (number_data seen) seen → IsHoldableChange c
     → Stands 4 command_at (command_data (act_of household seen c)) (act_of household seen c)
 unfolding command_at command_members fields_at household_at household_members change_at change_members one_of is_object_at field only
-change_stands household seen (change.Annual annual) n s h =
+change_stands household seen (HouseholdChange.Annual annual) n s h =
     let from = day 3 annual.from h.0 in
     let facts = facts_stand annual.facts h.1 in
     record {
       again = simp (n.again, s.again, from.again, facts.again) refl;
       plain = (refl, refl, (facts.plain, (from.plain, (n.plain, (word (codes "annual") refl, (s.plain, tt))))));
     }
-change_stands household seen (change.Interim interim) n s h =
+change_stands household seen (HouseholdChange.Interim interim) n s h =
     let event = day 3 interim.dates.event h.0.event in
     let notice = day 3 interim.dates.notice h.0.notice in
     let done = day 3 interim.dates.done h.0.done in
@@ -42,7 +39,7 @@ change_stands household seen (change.Interim interim) n s h =
       again = simp (n.again, s.again, event.again, notice.again, done.again, from.again, facts.again) refl;
       plain = (refl, refl, (done.plain, (event.plain, (facts.plain, (from.plain, (n.plain, (word (codes "interim") refl, (notice.plain, (s.plain, tt)))))))));
     }
-change_stands household seen (change.Resume resume) n s h =
+change_stands household seen (HouseholdChange.Resume resume) n s h =
     let done = day 3 resume.done h.0 in
     let from = day 3 resume.from h.1 in
     let facts = facts_stand resume.facts h.2 in
@@ -50,10 +47,10 @@ change_stands household seen (change.Resume resume) n s h =
       again = simp (n.again, s.again, done.again, from.again, facts.again) refl;
       plain = (refl, refl, (done.plain, (facts.plain, (from.plain, (n.plain, (word (codes "resume") refl, (s.plain, tt)))))));
     }
-change_stands household seen (change.Gross gross) n s h =
+change_stands household seen (HouseholdChange.Gross gross) n s h =
     let from = day 3 gross.from h in
     record { again = simp (n.again, s.again, from.again) refl; plain = (refl, refl, (from.plain, (n.plain, (word (codes "gross") refl, (s.plain, tt))))) }
-change_stands household seen (change.Correct correct) n s h =
+change_stands household seen (HouseholdChange.Correct correct) n s h =
     let target = number 3 correct.target h.0 in
     let from = day 3 correct.from h.1 in
     let facts = facts_stand correct.facts h.2 in
@@ -61,20 +58,20 @@ change_stands household seen (change.Correct correct) n s h =
       again = simp (n.again, s.again, target.again, from.again, facts.again) refl;
       plain = (refl, refl, (facts.plain, (from.plain, (n.plain, (word (codes "correct") refl, (target.plain, (s.plain, tt)))))));
     }
-change_stands household seen (change.Transfer transfer) n s h =
+change_stands household seen (HouseholdChange.Transfer transfer) n s h =
     let unit = number 3 transfer.unit h.0 in
     let from = day 3 transfer.from h.1 in
     record {
       again = simp (n.again, s.again, unit.again, from.again) refl;
       plain = (refl, refl, (from.plain, (n.plain, (word (codes "transfer") refl, (s.plain, (unit.plain, tt))))));
     }
-change_stands household seen (change.MoveOut move_out) n s h =
+change_stands household seen (HouseholdChange.MoveOut move_out) n s h =
     let last = day 3 move_out.last h in
     record { again = simp (n.again, s.again, last.again) refl; plain = (refl, refl, (n.plain, (word (codes "move_out") refl, (last.plain, (s.plain, tt))))) }
-change_stands household seen (change.Terminate terminate) n s h =
+change_stands household seen (HouseholdChange.Terminate terminate) n s h =
     let from = day 3 terminate.from h in
     record { again = simp (n.again, s.again, from.again) refl; plain = (refl, refl, (from.plain, (n.plain, (word (codes "terminate") refl, (s.plain, tt))))) }
-change_stands household seen (change.Withdraw withdraw) n s h =
+change_stands household seen (HouseholdChange.Withdraw withdraw) n s h =
     let target = number 3 withdraw.target h in
     record { again = simp (n.again, s.again, target.again) refl; plain = (refl, refl, (n.plain, (word (codes "withdraw") refl, (target.plain, (s.plain, tt))))) }
 
@@ -82,7 +79,7 @@ change_stands household seen (change.Withdraw withdraw) n s h =
 
 pub command_stands : (asked : Command) → is_fit asked ≡ true → IsHoldable asked → Stands 4 command_at (command_data asked) asked
 unfolding command_at command_members fields_at plan_at plan_members unit_at unit_members rents_at rents_members limits_act_at limits_members apply_at apply_members remove_at remove_members start_at start_members admit_at admit_members ask_transfer_at ask_transfer_members one_of is_object_at field only
-command_stands (command.Plan plan) fit h =
+command_stands (Command.Plan plan) fit h =
     let first = and_parts (is_within 1440 2639 plan.first) _ fit in
     let method = and_parts (is_within 1 2 plan.method) _ first.1 in
     let fiscal_month = and_parts (is_within 1 12 plan.fiscal_month) _ method.1 in
@@ -103,7 +100,7 @@ command_stands (command.Plan plan) fit h =
       again = simp (first_stands.again, early.again, method_stands.again, fiscal_month_stands.again, report_days_stand.again, passbook_stands.again, expected_stands.again, bounds_stand.again, ranks.again) refl;
       plain = (refl, refl, (bounds_stand.plain, (tt, (expected_stands.plain, (first_stands.plain, (fiscal_month_stands.plain, (word (codes "plan") refl, (method_stands.plain, (passbook_stands.plain, (ranks.plain, (report_days_stand.plain, tt)))))))))));
     }
-command_stands (command.Unit unit) fit h =
+command_stands (Command.Unit unit) fit h =
     let parts = and_parts (is_name 10 unit.name) _ fit in
     let numbers = and_parts (is_group unit.group) (nat_le unit.bedrooms 5) parts.1 in
     let name = name 3 10 unit.name parts.0 in
@@ -114,7 +111,7 @@ command_stands (command.Unit unit) fit h =
       again = simp (name.again, group.again, bedrooms.again, accessible.again) refl;
       plain = (refl, refl, (tt, (bedrooms.plain, (group.plain, (word (codes "unit") refl, (name.plain, tt))))));
     }
-command_stands (command.Rents rents) fit h =
+command_stands (Command.Rents rents) fit h =
     let parts = and_parts (is_group rents.group) (are_rents rents.rents) fit in
     let both = and_parts (nat_le rents.rents.contract_rent 99999) (nat_le rents.rents.utility 9999) parts.1 in
     let group = within 3 1 99 rents.group parts.0 (omega arith) in
@@ -125,7 +122,7 @@ command_stands (command.Rents rents) fit h =
       again = simp (group.again, from.again, contract_rent.again, utility.again) refl;
       plain = (refl, refl, (contract_rent.plain, (from.plain, (group.plain, (word (codes "rents") refl, (utility.plain, tt))))));
     }
-command_stands (command.Limits act) fit h =
+command_stands (Command.Limits act) fit h =
     let parts = and_parts (are_limits act.low) _ fit in
     let others = and_parts (are_limits act.very_low) (are_limits act.extremely_low) parts.1 in
     let from = day 3 act.from h in
@@ -136,7 +133,7 @@ command_stands (command.Limits act) fit h =
       again = simp (from.again, low.again, very_low.again, extremely_low.again) refl;
       plain = (refl, refl, (extremely_low.plain, (from.plain, (word (codes "limits") refl, (low.plain, (very_low.plain, tt))))));
     }
-command_stands (command.Apply apply) fit h =
+command_stands (Command.Apply apply) fit h =
     let first = and_parts (is_name 40 apply.name) _ fit in
     let sizes = and_parts (is_within 1 12 apply.size) _ first.1 in
     let all = and_parts (is_within apply.size 16 apply.persons) _ sizes.1 in
@@ -151,10 +148,10 @@ command_stands (command.Apply apply) fit h =
       again = simp (name.again, size.again, persons.again, codes_stand.again, accessible.again, annual.again) refl;
       plain = (refl, refl, (tt, (annual.plain, (word (codes "apply") refl, (name.plain, (persons.plain, (codes_stand.plain, (size.plain, tt))))))));
     }
-command_stands (command.Remove remove) fit h =
+command_stands (Command.Remove remove) fit h =
     let applicant = number 3 remove.applicant h in
     record { again = simp applicant.again refl; plain = (refl, refl, (applicant.plain, (word (codes "remove") refl, tt))) }
-command_stands (command.Start start) fit h =
+command_stands (Command.Start start) fit h =
     let name = name 3 40 start.name fit in
     let unit = number 3 start.unit h.0 in
     let from = day 3 start.from h.1 in
@@ -163,7 +160,7 @@ command_stands (command.Start start) fit h =
       again = simp (name.again, unit.again, from.again, facts.again) refl;
       plain = (refl, refl, (facts.plain, (from.plain, (word (codes "start") refl, (name.plain, (unit.plain, tt))))));
     }
-command_stands (command.Admit admit) fit h =
+command_stands (Command.Admit admit) fit h =
     let applicant = number 3 admit.applicant h.0 in
     let unit = number 3 admit.unit h.1 in
     let from = day 3 admit.from h.2 in
@@ -172,7 +169,7 @@ command_stands (command.Admit admit) fit h =
       again = simp (applicant.again, unit.again, from.again, facts.again) refl;
       plain = (refl, refl, (applicant.plain, (facts.plain, (from.plain, (word (codes "admit") refl, (unit.plain, tt))))));
     }
-command_stands (command.AskTransfer ask) fit h =
+command_stands (Command.AskTransfer ask) fit h =
     let household = number 3 ask.household h in
     let wanted = flag 3 ask.wanted in
     let accessible = flag 3 ask.accessible in
@@ -180,8 +177,8 @@ command_stands (command.AskTransfer ask) fit h =
       again = simp (household.again, wanted.again, accessible.again) refl;
       plain = (refl, refl, (tt, (household.plain, (word (codes "ask_transfer") refl, (tt, tt)))));
     }
-command_stands (command.Household act) fit h =
+command_stands (Command.Household act) fit h =
     change_stands act.household act.seen act.change (number 3 act.household h.0) (number 3 act.seen h.1) h.2
-command_stands (command.Close close) fit h =
+command_stands (Command.Close close) fit h =
     let month = month 3 close.month h in
     record { again = simp month.again refl; plain = (refl, refl, (word (codes "close") refl, (month.plain, tt))) }

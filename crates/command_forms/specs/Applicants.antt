@@ -4,12 +4,7 @@ use Rattle.serde_json.specs.Data.{Data, boolean, Members, member, no_members}
 use Rattle.json_form.specs.Form.{◌>>=◌, bool_at, u32_at, number_at, day_at, field}
 use Rattle.json_form.specs.Written.{number_data, day_data, text_data, array_data}
 use Rattle.facts_core.specs.Facts.{facts_at, facts_data}
-use Rattle.book_rows.specs.declared.applicants.ApplyAct.{ApplyAct}
-use Rattle.book_rows.specs.declared.applicants.RemoveAct.{RemoveAct}
-use Rattle.book_rows.specs.declared.certifications.StartAct.{StartAct}
-use Rattle.book_rows.specs.declared.certifications.AdmitAct.{AdmitAct}
-use Rattle.book_rows.specs.declared.command.Command.{Command}
-use Rattle.book_rows.specs.declared.command.Command.TheVariants as command
+use Rattle.book_rows.specs.declared.{applicants.ApplyAct.ApplyAct, applicants.RemoveAct.RemoveAct, certifications.StartAct.StartAct, certifications.AdmitAct.AdmitAct, command.Command.Command}
 use Rattle.command_forms.specs.Fields.{name_at, preferences_at}
 
 -- no fewer persons than the family has members
@@ -21,7 +16,7 @@ apply_at d = do
   preferences ← field (codes "preferences") (preferences_at 16) d
   accessible ← field (codes "accessible") bool_at d
   annual ← field (codes "annual") (number_at 0 9999999) d
-  Ok (command.Apply (record { name = name; size = size; persons = persons; preferences = preferences; accessible = accessible; annual = annual }))
+  Ok (Command.Apply (record { name = name; size = size; persons = persons; preferences = preferences; accessible = accessible; annual = annual }))
 
 unfoldable pub apply_members : ApplyAct → Members
 apply_members apply =
@@ -35,7 +30,7 @@ apply_members apply =
 unfoldable pub remove_at : Data → Result Command (List ℕ)
 remove_at d = do
   applicant ← field (codes "applicant") u32_at d
-  Ok (command.Remove (record { applicant = applicant }))
+  Ok (Command.Remove (record { applicant = applicant }))
 
 unfoldable pub remove_members : RemoveAct → Members
 remove_members remove = member (codes "applicant") (number_data remove.applicant) no_members
@@ -46,7 +41,7 @@ start_at d = do
   unit ← field (codes "unit") u32_at d
   from ← field (codes "from") day_at d
   facts ← field (codes "facts") facts_at d
-  Ok (command.Start (record { name = name; unit = unit; from = from; facts = facts }))
+  Ok (Command.Start (record { name = name; unit = unit; from = from; facts = facts }))
 
 unfoldable pub start_members : StartAct → Members
 start_members start =
@@ -61,7 +56,7 @@ admit_at d = do
   unit ← field (codes "unit") u32_at d
   from ← field (codes "from") day_at d
   facts ← field (codes "facts") facts_at d
-  Ok (command.Admit (record { applicant = applicant; unit = unit; from = from; facts = facts }))
+  Ok (Command.Admit (record { applicant = applicant; unit = unit; from = from; facts = facts }))
 
 unfoldable pub admit_members : AdmitAct → Members
 admit_members admit =

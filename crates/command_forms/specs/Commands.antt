@@ -5,10 +5,7 @@ use Rattle.serde_json.specs.Written.{compact_text}
 use Rattle.json_form.specs.Form.{◌>>=◌, month_at, one_of, is_object_at, field, closed_by, data_from}
 use Rattle.json_form.specs.Written.{month_data}
 use Rattle.book_rows.specs.declared.command.Command.{Command}
-use Rattle.book_rows.specs.declared.command.Command.TheVariants as command
-use Rattle.command_forms.specs.declared.kind.Kind.{Kind}
-use Rattle.command_forms.specs.declared.kind.Kind.TheVariants as kind
-use Rattle.command_forms.specs.Kinds.{kinds, word_of}
+use Rattle.command_forms.specs.{declared.kind.Kind.Kind, Kinds.kinds, Kinds.word_of}
 use Rattle.command_forms.specs.Property.{plan_at, plan_members, unit_at, unit_members, rents_at, rents_members, limits_act_at, limits_members}
 use Rattle.command_forms.specs.Applicants.{apply_at, apply_members, remove_at, remove_members, start_at, start_members, admit_at, admit_members}
 use Rattle.command_forms.specs.Changes.{ask_transfer_at, ask_transfer_members, household_at, household_members}
@@ -17,30 +14,30 @@ use Rattle.command_forms.specs.Changes.{ask_transfer_at, ask_transfer_members, h
 
 -- the fields of a command, behind its kind
 unfoldable pub fields_at : Kind → Data → Result Command (List ℕ)
-fields_at kind.Plan d = plan_at d
-fields_at kind.Unit d = unit_at d
-fields_at kind.Rents d = rents_at d
-fields_at kind.Limits d = limits_act_at d
-fields_at kind.Apply d = apply_at d
-fields_at kind.Remove d = remove_at d
-fields_at kind.Start d = start_at d
-fields_at kind.Admit d = admit_at d
-fields_at kind.AskTransfer d = ask_transfer_at d
-fields_at (kind.Household change) d = household_at change d
-fields_at kind.Close d = field (codes "month") month_at d >>= λ month. Ok (command.Close (record { month = month }))
+fields_at Kind.Plan d = plan_at d
+fields_at Kind.Unit d = unit_at d
+fields_at Kind.Rents d = rents_at d
+fields_at Kind.Limits d = limits_act_at d
+fields_at Kind.Apply d = apply_at d
+fields_at Kind.Remove d = remove_at d
+fields_at Kind.Start d = start_at d
+fields_at Kind.Admit d = admit_at d
+fields_at Kind.AskTransfer d = ask_transfer_at d
+fields_at (Kind.Household change) d = household_at change d
+fields_at Kind.Close d = field (codes "month") month_at d >>= λ month. Ok (Command.Close (record { month = month }))
 
 abbrev pub field_members : Command → Members
-field_members (command.Plan plan) = plan_members plan
-field_members (command.Unit unit) = unit_members unit
-field_members (command.Rents rents) = rents_members rents
-field_members (command.Limits limits) = limits_members limits
-field_members (command.Apply apply) = apply_members apply
-field_members (command.Remove remove) = remove_members remove
-field_members (command.Start start) = start_members start
-field_members (command.Admit admit) = admit_members admit
-field_members (command.AskTransfer ask) = ask_transfer_members ask
-field_members (command.Household act) = household_members act
-field_members (command.Close close) = member (codes "month") (month_data close.month) no_members
+field_members (Command.Plan plan) = plan_members plan
+field_members (Command.Unit unit) = unit_members unit
+field_members (Command.Rents rents) = rents_members rents
+field_members (Command.Limits limits) = limits_members limits
+field_members (Command.Apply apply) = apply_members apply
+field_members (Command.Remove remove) = remove_members remove
+field_members (Command.Start start) = start_members start
+field_members (Command.Admit admit) = admit_members admit
+field_members (Command.AskTransfer ask) = ask_transfer_members ask
+field_members (Command.Household act) = household_members act
+field_members (Command.Close close) = member (codes "month") (month_data close.month) no_members
 
 -- the kind among them
 unfoldable pub command_members : Command → Members

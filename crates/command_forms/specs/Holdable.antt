@@ -4,10 +4,7 @@
 use Rattle.std.specs.Prelude.{ℕ, ◌<◌, ◌≤◌, ◌^◌, ⊤}
 use Rattle.facts_core.specs.Facts.{FactsFit}
 use Rattle.record_history.specs.declared.records.Dates.{Dates}
-use Rattle.book_rows.specs.declared.household.HouseholdChange.{HouseholdChange}
-use Rattle.book_rows.specs.declared.household.HouseholdChange.TheVariants as change
-use Rattle.book_rows.specs.declared.command.Command.{Command}
-use Rattle.book_rows.specs.declared.command.Command.TheVariants as command
+use Rattle.book_rows.specs.declared.{household.HouseholdChange.HouseholdChange, command.Command.Command}
 
 -- a number of an applicant, a household, a unit or a record
 abbrev pub IsNumber : ℕ → Type 0
@@ -25,25 +22,23 @@ pub record AreDates (dates : Dates) : Type 0 where
   pub done : IsDay dates.done
 
 abbrev pub IsHoldableChange : HouseholdChange → Type 0
-IsHoldableChange (change.Annual annual) = IsDay annual.from × FactsFit annual.facts
-IsHoldableChange (change.Interim interim) = AreDates interim.dates × IsDay interim.from × FactsFit interim.facts
-IsHoldableChange (change.Resume resume) = IsDay resume.done × IsDay resume.from × FactsFit resume.facts
-IsHoldableChange (change.Gross gross) = IsDay gross.from
-IsHoldableChange (change.Correct correct) = IsNumber correct.target × IsDay correct.from × FactsFit correct.facts
-IsHoldableChange (change.Transfer transfer) = IsNumber transfer.unit × IsDay transfer.from
-IsHoldableChange (change.MoveOut move_out) = IsDay move_out.last
-IsHoldableChange (change.Terminate terminate) = IsDay terminate.from
-IsHoldableChange (change.Withdraw withdraw) = IsNumber withdraw.target
+IsHoldableChange (HouseholdChange.Annual annual) = IsDay annual.from × FactsFit annual.facts
+IsHoldableChange (HouseholdChange.Interim interim) = AreDates interim.dates × IsDay interim.from × FactsFit interim.facts
+IsHoldableChange (HouseholdChange.Resume resume) = IsDay resume.done × IsDay resume.from × FactsFit resume.facts
+IsHoldableChange (HouseholdChange.Gross gross) = IsDay gross.from
+IsHoldableChange (HouseholdChange.Correct correct) = IsNumber correct.target × IsDay correct.from × FactsFit correct.facts
+IsHoldableChange (HouseholdChange.Transfer transfer) = IsNumber transfer.unit × IsDay transfer.from
+IsHoldableChange (HouseholdChange.MoveOut move_out) = IsDay move_out.last
+IsHoldableChange (HouseholdChange.Terminate terminate) = IsDay terminate.from
+IsHoldableChange (HouseholdChange.Withdraw withdraw) = IsNumber withdraw.target
 
 abbrev pub IsHoldable : Command → Type 0
-IsHoldable (command.Plan plan) = ⊤
-IsHoldable (command.Unit unit) = ⊤
-IsHoldable (command.Rents rents) = IsDay rents.from
-IsHoldable (command.Limits limits) = IsDay limits.from
-IsHoldable (command.Apply apply) = ⊤
-IsHoldable (command.Remove remove) = IsNumber remove.applicant
-IsHoldable (command.Start start) = IsNumber start.unit × IsDay start.from × FactsFit start.facts
-IsHoldable (command.Admit admit) = IsNumber admit.applicant × IsNumber admit.unit × IsDay admit.from × FactsFit admit.facts
-IsHoldable (command.AskTransfer ask) = IsNumber ask.household
-IsHoldable (command.Household act) = IsNumber act.household × IsNumber act.seen × IsHoldableChange act.change
-IsHoldable (command.Close close) = IsMonth close.month
+IsHoldable (Command.Rents rents) = IsDay rents.from
+IsHoldable (Command.Limits limits) = IsDay limits.from
+IsHoldable (Command.Remove remove) = IsNumber remove.applicant
+IsHoldable (Command.Start start) = IsNumber start.unit × IsDay start.from × FactsFit start.facts
+IsHoldable (Command.Admit admit) = IsNumber admit.applicant × IsNumber admit.unit × IsDay admit.from × FactsFit admit.facts
+IsHoldable (Command.AskTransfer ask) = IsNumber ask.household
+IsHoldable (Command.Household act) = IsNumber act.household × IsNumber act.seen × IsHoldableChange act.change
+IsHoldable (Command.Close close) = IsMonth close.month
+IsHoldable _ = ⊤

@@ -4,11 +4,7 @@ use Rattle.serde_json.specs.Data.{Data, boolean, Members, member, no_members}
 use Rattle.json_form.specs.Form.{◌>>=◌, bool_at, day_at, number_at, field}
 use Rattle.json_form.specs.Written.{number_data, day_data, month_data, text_data, array_data}
 use Rattle.rent_table.specs.declared.plan.Plan.{Plan}
-use Rattle.book_rows.specs.declared.property.UnitAct.{UnitAct}
-use Rattle.book_rows.specs.declared.property.RentsAct.{RentsAct}
-use Rattle.book_rows.specs.declared.property.LimitsAct.{LimitsAct}
-use Rattle.book_rows.specs.declared.command.Command.{Command}
-use Rattle.book_rows.specs.declared.command.Command.TheVariants as command
+use Rattle.book_rows.specs.declared.{property.UnitAct.UnitAct, property.RentsAct.RentsAct, property.LimitsAct.LimitsAct, command.Command.Command}
 use Rattle.command_forms.specs.Fields.{month_within, name_at, preferences_at, limits_at, bounds_at, bound_data}
 
 -- ---- the plan
@@ -25,7 +21,7 @@ plan_at d = do
   expected ← field (codes "expected") (number_at 0 9999) d
   bounds ← field (codes "bounds") bounds_at d
   ranks ← field (codes "ranks") (preferences_at 99) d
-  Ok (command.Plan (record { first = first; early = early; method = method; fiscal_month = fiscal_month; report_days = report_days; passbook = passbook; expected = expected; bounds = bounds; ranks = ranks }))
+  Ok (Command.Plan (record { first = first; early = early; method = method; fiscal_month = fiscal_month; report_days = report_days; passbook = passbook; expected = expected; bounds = bounds; ranks = ranks }))
 
 unfoldable pub plan_members : Plan → Members
 plan_members plan =
@@ -47,7 +43,7 @@ unit_at d = do
   group ← field (codes "group") (number_at 1 99) d
   bedrooms ← field (codes "bedrooms") (number_at 0 5) d
   accessible ← field (codes "accessible") bool_at d
-  Ok (command.Unit (record { name = name; group = group; bedrooms = bedrooms; accessible = accessible }))
+  Ok (Command.Unit (record { name = name; group = group; bedrooms = bedrooms; accessible = accessible }))
 
 unfoldable pub unit_members : UnitAct → Members
 unit_members unit =
@@ -64,7 +60,7 @@ rents_at d = do
   from ← field (codes "from") day_at d
   contract_rent ← field (codes "contract_rent") (number_at 0 99999) d
   utility ← field (codes "utility") (number_at 0 9999) d
-  Ok (command.Rents (record { group = group; from = from; rents = record { contract_rent = contract_rent; utility = utility } }))
+  Ok (Command.Rents (record { group = group; from = from; rents = record { contract_rent = contract_rent; utility = utility } }))
 
 unfoldable pub rents_members : RentsAct → Members
 rents_members rents =
@@ -81,7 +77,7 @@ limits_act_at d = do
   low ← field (codes "low") limits_at d
   very_low ← field (codes "very_low") limits_at d
   extremely_low ← field (codes "extremely_low") limits_at d
-  Ok (command.Limits (record { from = from; low = low; very_low = very_low; extremely_low = extremely_low }))
+  Ok (Command.Limits (record { from = from; low = low; very_low = very_low; extremely_low = extremely_low }))
 
 unfoldable pub limits_members : LimitsAct → Members
 limits_members limits =

@@ -1,25 +1,12 @@
 -- The calendar of the definitions is that of `jiff`: from months counted in days to years, months and days.
-use Rattle.std.proofs.Common.{◌≡◌, ℕ, zero, suc, ◌+◌, ◌-◌, ◌*◌, ◌%◌, ◌<◌, ◌≤◌, inl, inr, true, refl, ap, ◌∙◌, arith, ℤ, pos, negsuc, ◌+ℤ◌, ◌≤ℤ◌, unsigned_abs}
-use Rattle.std.specs.Prelude.{nat_le, nat_lt, ◌==◌, ◌&&◌}
-use Rattle.std.proofs.lemmas.Bool.{cases_order, cond_both, or_cases, and_parts, ltb-true, eqb-true, leb-true, leb-false, le-leb}
-use Rattle.jiff_core.specs.declared.civil.date.Date.{Date}
-use Rattle.jiff_core.specs.Calendar.{day_count, days_in_month}
-use Rattle.jiff_core.specs.Date.{epoch_day}
-use Rattle.jiff_core.proofs.SignedLemmas.{signed_arith}
-use Rattle.jiff_core.proofs.MarchLemmas.{day_count-early}
+use Rattle.std.proofs.Common.{◌≡◌, ℕ, zero, suc, ◌+◌, ◌-◌, ◌*◌, ◌%◌, ◌<◌, ◌≤◌, inl, inr, true, refl, ◌∙◌, arith, ℤ, pos, negsuc, ◌+ℤ◌, ◌≤ℤ◌, unsigned_abs}
+use Rattle.std.proofs.lemmas.Bool.{cases_order, cases_lt, Decides.nat_tests, le-leb}
+use Rattle.jiff_core.specs.{declared.civil.date.Date.Date, Calendar.day_count, Calendar.days_in_month, Date.epoch_day}
+use Rattle.jiff_core.proofs.{SignedLemmas.signed_arith, MarchLemmas.day_count-early, DateLemmas.epoch_day_injective}
 use Rattle.jiff_core.proofs.CalendarLemmas.{days_from_civil-day_count, day_count-day, day_count-next_month, day_count-next_year, day_count-last_of_year, days_in_month_bounds}
-use Rattle.jiff_core.proofs.DateLemmas.{epoch_day_injective}
 use Rattle.days_core.specs.Calendar.{last_month, month_year, month_place, days_in, first_of, last_of, month_up_to, month_of, year_of, month_in_year, day_in_month, day_number, is_date, is_earlier_in_year}
 
 -- ---- months follow each other
-
--- the next month of a month before December
-next_place : (month : ℕ) → month % 12 + 1 < 12 → (month_year (suc month) ≡ month_year month) × (month_place (suc month) ≡ month_place month + 1)
-next_place month h = (omega arith, omega arith)
-
--- and January behind December
-next_january : (month : ℕ) → month % 12 + 1 ≡ 12 → (month_year (suc month) ≡ month_year month + 1) × (month_place (suc month) ≡ 1)
-next_january month h = (omega arith, omega arith)
 
 -- the days of a December and the next January
 january_after : (year : ℕ) → day_count (pos (year + 1)) 1 1 ≡ day_count (pos year) 12 1 + 31
@@ -31,14 +18,16 @@ counted_on : (month : ℕ) → day_count (pos (month_year month)) (month_place m
 counted_on month so_far =
     elim (cases_order (month % 12 + 1) 12) [
       | inl december ↦
-          let next = next_january month december in
           let place : month_place month ≡ 12 = december in
+          let next_year : month_year (suc month) ≡ month_year month + 1 = omega arith in
+          let next_place : month_place (suc month) ≡ 1 = omega arith in
           let was = rw place at so_far in
-          let long : days_in month ≡ 31 = rw place refl in
-          rw (next.0, next.1) (omega (arith, january_after (month_year month)))
+          let long : days_in month ≡ 31 = rw place in
+          rw (next_year, next_place) (omega (arith, january_after (month_year month)))
       | inr (inl earlier) ↦
-          let next = next_place month earlier in
-          rw (next.0, next.1) (omega (arith, day_count-next_month (pos (month_year month)) (month_place month) (omega arith)))
+          let next_year : month_year (suc month) ≡ month_year month = omega arith in
+          let next_place : month_place (suc month) ≡ month_place month + 1 = omega arith in
+          rw (next_year, next_place) (omega (arith, day_count-next_month (pos (month_year month)) (month_place month) (omega arith)))
       | inr (inr later) ↦ absurd (omega arith)
     ]
 
@@ -53,9 +42,7 @@ pub first_of-end : first_of 3840 ≡ 116878
 first_of-end = omega (arith, day_count-first_of 3840, day_count-early (pos 2200) 12199 1 1 refl (omega arith) (omega arith) (omega arith))
 
 pub days_in_bounds : (month : ℕ) → (28 ≤ days_in month) × (days_in month ≤ 31)
-days_in_bounds month =
-    let b = days_in_month_bounds (pos (month_year month)) (month_place month) in
-    (b.1, b.0)
+days_in_bounds month = (let bounds = days_in_month_bounds (pos (month_year month)) (month_place month) in (bounds.1, bounds.0))
 
 pub first_of-suc : (month : ℕ) → first_of (suc month) ≡ first_of month + days_in month
 unfolding first_of
@@ -65,16 +52,9 @@ pub first_of-zero : first_of 0 ≡ 0
 unfolding first_of
 first_of-zero = refl
 
-first_of-add : (month more : ℕ) → first_of month ≤ first_of (more + month)
-first_of-add month zero = let same : 0 + month ≡ month = omega arith in rw same (omega arith)
-first_of-add month (suc more) =
-    let next : suc more + month ≡ suc (more + month) = omega arith in
-    rw next (omega (arith, first_of-add month more, first_of-suc (more + month)))
-
 pub first_of_mono : (month later : ℕ) → month ≤ later → first_of month ≤ first_of later
-first_of_mono month later h =
-    let same : later - month + month ≡ later = omega arith in
-    rw same at (first_of-add month (later - month))
+first_of_mono month zero h = grind arith
+first_of_mono month (suc later) h = grind (arith, first_of-suc later, first_of_mono month later)
 
 -- ---- the month of a day
 
@@ -82,21 +62,18 @@ first_of_mono month later h =
 pub month_up_to_begins : (top day : ℕ) → first_of (month_up_to top day) ≤ day
 unfolding month_up_to
 month_up_to_begins zero day = rw first_of-zero (omega arith)
-month_up_to_begins (suc top) day =
-    cond_both (nat_le (first_of (suc top)) day) (suc top) (month_up_to top day) (λ (month : ℕ). first_of month ≤ day) (λ begun. leb-true _ _ begun) (λ _. month_up_to_begins top day)
+month_up_to_begins (suc top) day = grind (arith, nat_tests, month_up_to_begins top day)
 
 pub month_up_to_bound : (top day : ℕ) → month_up_to top day ≤ top
 unfolding month_up_to
 month_up_to_bound zero day = omega arith
-month_up_to_bound (suc top) day =
-    cond_both (nat_le (first_of (suc top)) day) (suc top) (month_up_to top day) (λ (month : ℕ). month ≤ suc top) (λ _. omega arith) (λ _. omega (arith, month_up_to_bound top day))
+month_up_to_bound (suc top) day = grind (arith, nat_tests, month_up_to_bound top day)
 
 -- and the next one hasn't
 pub month_up_to_ends : (top day : ℕ) → day < first_of (suc top) → day < first_of (suc (month_up_to top day))
 unfolding month_up_to
 month_up_to_ends zero day h = h
-month_up_to_ends (suc top) day h =
-    cond_both (nat_le (first_of (suc top)) day) (suc top) (month_up_to top day) (λ (month : ℕ). day < first_of (suc month)) (λ _. h) (λ later. month_up_to_ends top day (leb-false _ _ later))
+month_up_to_ends (suc top) day h = grind (arith, nat_tests, month_up_to_ends top day)
 
 -- a month that has begun by the day, and whose next month hasn't, is the month of the day
 pub month_up_to_is : (top month day : ℕ) → month ≤ top → first_of month ≤ day → day < first_of (suc month) → month_up_to top day ≡ month
@@ -198,12 +175,9 @@ number_of_date date days low high count =
 
 pub month_of_mono : (day later : ℕ) → day ≤ later → later ≤ 116877 → month_of day ≤ month_of later
 month_of_mono day later h last =
-    let fits = month_of_fits day (omega arith) in
-    let fits_later = month_of_fits later last in
-    elim (cases_order (month_of later) (month_of day)) [
-      | inl same ↦ omega arith
-      | inr (inl less) ↦ absurd (omega (arith, first_of_mono (suc (month_of later)) (month_of day) less, first_of-suc (month_of later), fits.begun, fits_later.ends))
-      | inr (inr more) ↦ omega arith
+    elim (cases_lt (month_of later) (month_of day)) [
+      | inl less ↦ absurd (omega (arith, first_of_mono (suc (month_of later)) (month_of day) less, first_of-suc (month_of later), (month_of_fits day (omega arith)).begun, (month_of_fits later last).ends))
+      | inr more ↦ more
     ]
 
 pub year_of_mono : (day later : ℕ) → day ≤ later → later ≤ 116877 → year_of day ≤ year_of later
@@ -212,24 +186,7 @@ year_of_mono day later h last = omega (arith, month_of_mono day later h last)
 -- a later day whose month and day come earlier in the year lies in a later year
 pub year_of-lt : (day later : ℕ) → day ≤ later → later ≤ 116877 → is_earlier_in_year (month_in_year later) (day_in_month later) (month_in_year day) (day_in_month day) ≡ true → year_of day < year_of later
 year_of-lt day later h last earlier =
-    let months = month_of_mono day later h last in
-    let fits = month_of_fits day (omega arith) in
-    let fits_later = month_of_fits later last in
-    let less_month = nat_lt (month_in_year later) (month_in_year day) in
-    let same_month = month_in_year later == month_in_year day in
-    let less_day = nat_lt (day_in_month later) (day_in_month day) in
-    elim (or_cases less_month (same_month && less_day) earlier) [
-      | inl month ↦ omega (arith, ltb-true (month_in_year later) (month_in_year day) month)
-      | inr same ↦
-          let both = and_parts same_month less_day same in
-          let place = eqb-true _ _ both.0 in
-          let before = ltb-true _ _ both.1 in
-          elim (cases_order (month_of day) (month_of later)) [
-            | inl equal ↦ absurd (omega (arith, ap first_of equal, fits.begun, fits_later.begun))
-            | inr (inl less) ↦ omega arith
-            | inr (inr more) ↦ absurd (omega arith)
-          ]
-    ]
+    grind (arith, nat_tests, month_of_mono day later h last, (month_of_fits day (omega arith)).begun, (month_of_fits later last).begun)
 
 -- ---- the test of a date
 
@@ -263,20 +220,4 @@ pub record IsDate (year month day : ℕ) : Type 0 where
   pub day_last : day ≤ days_in_month (pos year) month
 
 pub is_date-says : (year month day : ℕ) → is_date year month day ≡ true → IsDate year month day
-is_date-says year month day e =
-    let years = nat_le 1880 year && nat_le year 2199 in
-    let months = nat_le 1 month && nat_le month 12 in
-    let days = nat_le 1 day && nat_le day (days_in_month (pos year) month) in
-    let a = and_parts years (months && days) e in
-    let b = and_parts months days a.1 in
-    let y = and_parts (nat_le 1880 year) (nat_le year 2199) a.0 in
-    let m = and_parts (nat_le 1 month) (nat_le month 12) b.0 in
-    let d = and_parts (nat_le 1 day) (nat_le day (days_in_month (pos year) month)) b.1 in
-    record {
-      first_year = leb-true _ _ y.0;
-      last_year = leb-true _ _ y.1;
-      month_first = leb-true _ _ m.0;
-      month_last = leb-true _ _ m.1;
-      day_first = leb-true _ _ d.0;
-      day_last = leb-true _ _ d.1;
-    }
+is_date-says year month day e = grind (arith, nat_tests)

@@ -1,8 +1,8 @@
 -- A text names a day exactly where it is the day's text.
-use Rattle.std.proofs.Common.{◌≡◌, ◌≢◌, ℕ, ◌+◌, ◌-◌, ◌*◌, ◌/◌, ◌%◌, ◌<◌, ◌≤◌, Bool, true, false, cond, List, [], ◌∷◌, ◌++◌, Option, Some, None, Result, Ok, Err, refl, sym, ap, ◌∙◌, arith, pos}
+use Rattle.std.proofs.Common.{◌≡◌, ◌≢◌, ℕ, ◌+◌, ◌-◌, ◌*◌, ◌/◌, ◌%◌, ◌<◌, ◌≤◌, Bool, true, cond, List, [], ◌∷◌, ◌++◌, Option, Some, None, Result, Ok, Err, refl, sym, arith, pos}
 use Rattle.std.specs.Result.{result_ok}
-use Rattle.std.specs.Prelude.{IfOk, OnErr, nat_le, ◌&&◌, ◌==◌}
-use Rattle.std.proofs.lemmas.Bool.{and_parts, eqb-true, leb-true, le-leb}
+use Rattle.std.specs.Prelude.{IfOk, OnErr, ◌&&◌, ◌==◌}
+use Rattle.std.proofs.lemmas.{Bool.and_parts, Bool.eqb-true, Bool.Decides.nat_tests, Grind.common_steps}
 use Rattle.std.proofs.lemmas.Option.{cond_some}
 use Rattle.jiff_core.specs.Calendar.{days_in_month}
 use Rattle.days_core.specs.Calendar.{days_in, month_year, month_place, month_of, year_of, month_in_year, day_in_month, day_number, is_date}
@@ -12,14 +12,10 @@ use Rattle.days_core.proofs.Bridge.{IsInMonth, month_of_fits, month_of_is, month
 -- ---- from a day to its text and back
 
 digit_from-again : (digit : ℕ) → digit < 10 → digit_from (48 + digit) ≡ Some digit
-digit_from-again digit h =
-    let same : 48 + digit - 48 ≡ digit = omega arith in
-    rw (le-leb 48 (48 + digit) (omega arith), le-leb (48 + digit) 57 (omega arith), same) refl
+digit_from-again digit h = grind (arith, nat_tests)
 
 two_digits-again : (number : ℕ) → number < 100 → two_digits_from (48 + number / 10) (48 + number % 10) ≡ Some number
-two_digits-again number h =
-    let same : 10 * (number / 10) + number % 10 ≡ number = omega arith in
-    rw (digit_from-again (number / 10) (omega arith), digit_from-again (number % 10) (omega arith), same) refl
+two_digits-again number h = grind (arith, common_steps, digit_from-again (number / 10), digit_from-again (number % 10))
 
 pub day_from-day_text : (day : ℕ) → day ≤ 116877 → day_from (day_text day) ≡ Some day
 unfolding day_from
@@ -37,19 +33,10 @@ bind_some (Some x) f y e = (x, refl, e)
 bind_some None f y e = absurd cc
 
 tested : {A : Type 0} (b : Bool) (o : Option A) (y : A) → cond b o None ≡ Some y → (b ≡ true) × (o ≡ Some y)
-tested true o y e = (refl, e)
-tested false o y e = absurd cc
+tested b o y e = grind (arith, common_steps)
 
 digit_from-is : (byte digit : ℕ) → digit_from byte ≡ Some digit → (byte ≡ 48 + digit) × (digit < 10)
-digit_from-is byte digit e =
-    let is = cond_some (nat_le 48 byte && nat_le byte 57) (byte - 48) digit e in
-    let both = and_parts (nat_le 48 byte) (nat_le byte 57) is.0 in
-    let low = leb-true 48 byte both.0 in
-    let high = leb-true byte 57 both.1 in
-    (omega arith, omega arith)
-
-some_is : {A : Type 0} (x y : A) → Some x ≡ Some y → x ≡ y
-some_is x y e = cc
+digit_from-is byte digit e = (grind (arith, nat_tests), grind (arith, nat_tests))
 
 two_digits-is : (tens ones number : ℕ) → two_digits_from tens ones ≡ Some number → (tens ≡ 48 + number / 10) × (ones ≡ 48 + number % 10) × (number < 100)
 two_digits-is tens ones number e =
@@ -57,7 +44,7 @@ two_digits-is tens ones number e =
     let b = bind_some (digit_from ones) (λ one. Some (10 * a.0 + one)) number a.2 in
     let ten = digit_from-is tens a.0 a.1 in
     let one = digit_from-is ones b.0 b.1 in
-    let sum : 10 * a.0 + b.0 ≡ number = some_is (10 * a.0 + b.0) number b.2 in
+    let sum : 10 * a.0 + b.0 ≡ number = cc in
     (omega arith, omega arith, omega arith)
 
 -- the day that is named has this year, month and day
@@ -109,17 +96,17 @@ day_from-is (c ∷ d ∷ y ∷ z ∷ dash ∷ m ∷ n ∷ second_dash ∷ e ∷ 
     (spelled c d y z dash m n second_dash e f century_read.0 year_read.0 month_read.0 day_read.0 day century year month day_is (eqb-true dash 45 dashes.0, eqb-true second_dash 45 dashes.1) named.0 named.1 named.2, named.3)
 day_from-is _ day found = absurd cc
 
--- ---- what a reader that gives the day says
+-- ---- what a reader says that gives what the definition reads
 
-pub is_written : {E : Type 0} (result : Result ℕ E) (text : List ℕ) → result_ok result ≡ day_from text → IfOk result (λ day. text ≡ day_text day)
-is_written (Ok day) text e = (day_from-is text day (sym e)).0
-is_written (Err _) text e = tt
+module _ {E : Type 0} (text_of : ℕ → List ℕ) (from : List ℕ → Option ℕ) (most : ℕ) (is : (text : List ℕ) (number : ℕ) → from text ≡ Some number → text ≡ text_of number)
+    (again : (number : ℕ) → number ≤ most → from (text_of number) ≡ Some number) where
+  pub is_written : (result : Result ℕ E) (text : List ℕ) → result_ok result ≡ from text → IfOk result (λ number. text ≡ text_of number)
+  is_written (Ok number) text e = is text number (sym e)
+  is_written (Err _) text e = tt
 
-pub no_other : {E : Type 0} (result : Result ℕ E) (text : List ℕ) → result_ok result ≡ day_from text → OnErr result ((day : ℕ) → day ≤ 116877 → text ≢ day_text day)
-no_other (Ok day) text e = tt
-no_other (Err _) text e = λ day h same.
-    let found : day_from text ≡ Some day = ap day_from same ∙ day_from-day_text day h in
-    absurd (cc (e, found))
+  pub no_other : (result : Result ℕ E) (text : List ℕ) → result_ok result ≡ from text → OnErr result ((number : ℕ) → number ≤ most → text ≢ text_of number)
+  no_other (Ok number) text e = tt
+  no_other (Err _) text e = λ number h same. (let found = again number h in absurd (cc (e, same)))
 
 -- ---- months
 
@@ -131,15 +118,6 @@ month_from-month_text month h =
     let test = is_date-from (month_year month) (month_place month) 1 (omega arith) (omega arith) (omega arith) (omega arith) (omega arith) (omega arith) in
     let same : 12 * (month_year month - 1880) + (month_place month - 1) ≡ month = omega arith in
     rw (two_digits-again (month_year month / 100) (omega arith), two_digits-again (month_year month % 100) (omega arith), two_digits-again (month_place month) (omega arith), year, test, same) refl
-
-spelled_month : (c d y z dash m n century year place month : ℕ)
-    → (c ≡ 48 + century / 10) × (d ≡ 48 + century % 10) × (century < 100) → (y ≡ 48 + year / 10) × (z ≡ 48 + year % 10) × (year < 100)
-    → (m ≡ 48 + place / 10) × (n ≡ 48 + place % 10) × (place < 100) → dash ≡ 45 → (month_year month ≡ 100 * century + year) → (month_place month ≡ place)
-    → c ∷ d ∷ y ∷ z ∷ dash ∷ m ∷ n ∷ [] ≡ month_text month
-spelled_month c d y z dash m n century year place month first second third dashed years places =
-    let high : month_year month / 100 ≡ century = omega arith in
-    let low : month_year month % 100 ≡ year = omega arith in
-    rw (high, low, places) cc
 
 pub month_from-is : (text : List ℕ) (month : ℕ) → month_from text ≡ Some month → text ≡ month_text month
 unfolding month_from
@@ -153,16 +131,11 @@ month_from-is (c ∷ d ∷ y ∷ z ∷ dash ∷ m ∷ n ∷ []) month found =
     let named = cond_some (is_date (100 * century_read.0 + year_read.0) place_read.0 1) (12 * (100 * century_read.0 + year_read.0 - 1880) + (place_read.0 - 1)) month place_read.2 in
     let date = is_date-says (100 * century_read.0 + year_read.0) place_read.0 1 named.0 in
     let parts = month_parts (100 * century_read.0 + year_read.0) place_read.0 date.first_year date.last_year date.month_first date.month_last in
-    spelled_month c d y z dash m n century_read.0 year_read.0 place_read.0 month (two_digits-is c d century_read.0 century_read.1) (two_digits-is y z year_read.0 year_read.1) (two_digits-is m n place_read.0 place_read.1)
-    (eqb-true dash 45 dashed.0) (rw named.1 at parts.0) (rw named.1 at parts.1)
+    let century = two_digits-is c d century_read.0 century_read.1 in
+    let year = two_digits-is y z year_read.0 year_read.1 in
+    let place = two_digits-is m n place_read.0 place_read.1 in
+    let year_is = rw named.1 at parts.0 in
+    let high : month_year month / 100 ≡ century_read.0 = omega (arith, year.2) in
+    let low : month_year month % 100 ≡ year_read.0 = omega (arith, year.2) in
+    rw (high, low, rw named.1 at parts.1) (cc (century.0, century.1, year.0, year.1, place.0, place.1, eqb-true dash 45 dashed.0))
 month_from-is _ month found = absurd cc
-
-pub is_written_month : {E : Type 0} (result : Result ℕ E) (text : List ℕ) → result_ok result ≡ month_from text → IfOk result (λ month. text ≡ month_text month)
-is_written_month (Ok month) text e = month_from-is text month (sym e)
-is_written_month (Err _) text e = tt
-
-pub no_other_month : {E : Type 0} (result : Result ℕ E) (text : List ℕ) → result_ok result ≡ month_from text → OnErr result ((month : ℕ) → month ≤ 3839 → text ≢ month_text month)
-no_other_month (Ok month) text e = tt
-no_other_month (Err _) text e = λ month h same.
-    let found : month_from text ≡ Some month = ap month_from same ∙ month_from-month_text month h in
-    absurd (cc (e, found))

@@ -1,20 +1,12 @@
 -- What the members and the deductions of facts that break no rule are bounded by.
 use Rattle.std.proofs.Common.{◌≡◌, ℕ, ◌+◌, ◌≤◌, min, true, false, Bool, length, None, arith}
 use Rattle.std.specs.Prelude.{All, ◌-◌, nat_le, nat_lt, if◌then◌else◌, sum_by, count_by, slice_get}
-use Rattle.std.specs.List.{range_with_len, list_any}
-use Rattle.std.specs.Option.{option_map_or}
-use Rattle.std.proofs.lemmas.Bool.{leb-true}
-use Rattle.std.proofs.lemmas.List.Elements.{All-weaker}
-use Rattle.std.proofs.lemmas.List.Sums.{AllPass-from_list_all, count_by-le-length, sum_by-le-sum_by}
-use Rattle.facts_core.specs.declared.members.Member.{Member}
-use Rattle.facts_core.specs.declared.facts.Facts.{Facts}
-use Rattle.facts_core.specs.Rules.{broken_rule}
+use Rattle.std.specs.{List.range_with_len, List.list_any, Option.option_map_or}
+use Rattle.std.proofs.lemmas.{Bool.leb-true, List.Elements.All-weaker, List.Sums.AllPass-from_list_all, List.Sums.count_by-le-length, List.Sums.sum_by-le-sum_by, Grind.common_steps}
+use Rattle.facts_core.specs.{declared.members.Member.Member, declared.facts.Facts.Facts, Rules.broken_rule}
 use Rattle.income_rules.specs.Income.{counted_earned_of}
-use Rattle.income_rules.proofs.Kept.{keeps, is_short, amounts_hold}
-use Rattle.income_rules.proofs.Sums.{sum_by-filter, cond-le}
-use Rattle.income_rules.proofs.Fits.{family_within}
+use Rattle.income_rules.proofs.{Kept.keeps, Kept.is_short, Kept.amounts_hold, Sums.sum_by-filter, Sums.cond-le, Fits.family_within}
 use Rattle.deduction_rules.specs.Deductions.{is_dependent, dependents_of, is_elderly_family, elderly_deduction_of, child_care_of, disability_deduction_of, medical_deduction_of, three_percent_of, earned_by, is_helped_adult, is_young_child}
-use Rattle.std.proofs.lemmas.Grind.{common_steps}
 
 -- each member was born by the day
 pub all_born : (facts : Facts) (day : ℕ) → broken_rule facts day ≡ None → All (λ member. member.born ≤ day) facts.members

@@ -1,27 +1,17 @@
 -- What is deducted from the annual income of a family, in whole dollars a year (24 CFR 5.611).
 use Rattle.std.specs.Prelude.{ℕ, ◌+◌, ◌-◌, ◌*◌, ◌&&◌, ◌||◌, not, nat_le, nat_lt, min, if◌then◌else◌, Bool, true, false, filter, sum_by, count_by, slice_get}
-use Rattle.std.specs.List.{list_any}
-use Rattle.std.specs.Option.{option_map_or}
-use Rattle.days_core.specs.Calendar.{age_on}
-use Rattle.days_core.specs.Rounding.{round_half_up}
-use Rattle.facts_core.specs.declared.members.Relation.{Relation}
-use Rattle.facts_core.specs.declared.members.Relation.TheVariants as relation
-use Rattle.facts_core.specs.declared.members.Member.{Member}
-use Rattle.facts_core.specs.declared.facts.Facts.{Facts}
-use Rattle.facts_core.specs.Rules.{is_aide}
-use Rattle.income_rules.specs.Members.{is_head_or_partner, is_under, numbers_of}
-use Rattle.income_rules.specs.Income.{counted_earned_of}
+use Rattle.std.specs.{List.list_any, Option.option_map_or}
+use Rattle.days_core.specs.{Calendar.age_on, Rounding.round_half_up}
+use Rattle.facts_core.specs.{declared.members.Relation.Relation, declared.members.Member.Member, declared.facts.Facts.Facts, Rules.is_aide}
+use Rattle.income_rules.specs.{Members.is_head_or_partner, Members.is_under, Members.numbers_of, Income.counted_earned_of}
 use Rattle.deduction_rules.specs.declared.figures.Allowances.{Allowances}
 
 -- ---- dependents, the elderly and the disabled
 
 -- a member of the family other than the head, the spouse and the co-head
 abbrev pub is_other : Relation → Bool
-is_other relation.Head = false
-is_other relation.Spouse = false
-is_other relation.Cohead = false
-is_other relation.Other = true
-is_other relation.Aide = false
+is_other Relation.Other = true
+is_other _ = false
 
 -- another member who is under 18, disabled or a full-time student (24 CFR 5.603(b))
 abbrev pub is_dependent : ℕ → Member → Bool

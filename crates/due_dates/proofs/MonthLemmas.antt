@@ -1,14 +1,11 @@
 -- Which month is the first that passes, and the months of the days that an office meets.
-use Rattle.due_dates.proofs.Words.{◌≡◌, ℕ, zero, suc, ◌+◌, ◌-◌, ◌*◌, ◌%◌, ◌<◌, ◌≤◌, Bool, true, false, Option, Some, ap, arith, inl, inr, nat_lt, ◌==◌, unwrap_or, cases_lt, cases_eq, and_from, le-leb, lt-leb, lt-ltb, le-ltb, eq-eqb, ne_eqb, and_left, and_right, month_of, month_in_year, month_place, first_of, last_month, days_in_bounds, first_of-suc, first_of_mono, first_of-end, month_of_fits, IsLeastOne, first_month_that, begins_from, has_anniversary_after}
+use Rattle.due_dates.proofs.Words.{◌≡◌, ◌≢◌, ℕ, zero, suc, ◌+◌, ◌-◌, ◌*◌, ◌%◌, ◌<◌, ◌≤◌, Bool, true, false, Option, Some, ap, arith, inl, inr, unwrap_or, cases_lt, cases_eq, le-leb, lt-leb, lt-ltb, le-ltb, eq-eqb, ne_eqb, and_right, month_of, month_in_year, month_place, first_of, last_month, days_in_bounds, first_of-suc, first_of_mono, first_of-end, month_of_fits, IsLeastOne, first_month_that, begins_from, has_anniversary_after}
 use Rattle.due_dates.proofs.LeastLemmas.{least_that-is}
 
 -- so many months have at most 31 days each
 first_of_within : (month more : ℕ) → first_of (more + month) ≤ first_of month + 31 * more
-first_of_within month zero = let same : 0 + month ≡ month = omega arith in rw same (omega arith)
-first_of_within month (suc more) =
-    let next : suc more + month ≡ suc (more + month) = omega arith in
-    let long = days_in_bounds (more + month) in
-    rw next (omega (arith, first_of_within month more, first_of-suc (more + month)))
+first_of_within month zero = grind arith
+first_of_within month (suc more) = grind (arith, first_of_within month more, first_of-suc (more + month), days_in_bounds (more + month))
 
 -- a month begins after all days of the months before it
 pub first_of_above : (day month : ℕ) → day ≤ 116877 → month_of day < month → day < first_of month
@@ -34,13 +31,6 @@ month_of_by day h =
 pub first_month_that-is : (passes : ℕ → Bool) (month : ℕ) → IsLeastOne passes 0 last_month month → first_month_that passes ≡ month
 first_month_that-is passes month is = ap (λ (o : Option ℕ). unwrap_or o (last_month + 1)) (least_that-is passes 0 last_month (Some month) is)
 
--- a month begins on the day or later
-pub from_there : (day month : ℕ) → day ≤ first_of month → begins_from day month ≡ true
-from_there day month h = le-leb day (first_of month) h
-
-before_there : (day month : ℕ) → first_of month < day → begins_from day month ≡ false
-before_there day month h = lt-leb day (first_of month) h
-
 -- a first of the month begins the first month from it on
 pub first_start-own : (day : ℕ) → day ≤ 80383 → first_of (month_of day) ≡ day → IsLeastOne (begins_from day) 0 last_month (month_of day)
 first_start-own day h is =
@@ -48,20 +38,20 @@ first_start-own day h is =
     record {
       from_first = omega arith;
       to_last = omega arith;
-      this = from_there day (month_of day) (omega arith);
-      none_earlier = λ n low less. before_there day n (let long = days_in_bounds n in omega (arith, first_of-suc n, first_of_mono (suc n) (month_of day) less));
+      this = le-leb day (first_of (month_of day)) (omega arith);
+      none_earlier = λ n low less. lt-leb day (first_of n) (omega (arith, days_in_bounds n, first_of-suc n, first_of_mono (suc n) (month_of day) less));
     }
 
 -- and from another day on that is the next month
-pub first_start-next : (day : ℕ) → day ≤ 80383 → (first_of (month_of day) ≡ day → ⊥) → IsLeastOne (begins_from day) 0 last_month (month_of day + 1)
+pub first_start-next : (day : ℕ) → day ≤ 80383 → first_of (month_of day) ≢ day → IsLeastOne (begins_from day) 0 last_month (month_of day + 1)
 first_start-next day h other =
     let in_calendar = month_of_by day h in
     let begun = first_of_below day (month_of day) (omega arith) (omega arith) in
     record {
       from_first = omega arith;
       to_last = omega arith;
-      this = from_there day (month_of day + 1) (omega (arith, first_of_above day (month_of day + 1) (omega arith) (omega arith)));
-      none_earlier = λ n low less. before_there day n (omega (arith, first_of_mono n (month_of day) (omega arith)));
+      this = le-leb day _ (omega (arith, first_of_above day (month_of day + 1) (omega arith) (omega arith)));
+      none_earlier = λ n low less. lt-leb day (first_of n) (omega (arith, first_of_mono n (month_of day) (omega (arith, less))));
     }
 
 -- so there is one
@@ -77,23 +67,18 @@ pub place_reached : (place next : ℕ) → (next + (place % 12 + 12 - next % 12)
 place_reached place next = omega arith
 
 -- none before it is at that place
-place_missed : (place next month : ℕ) → next ≤ month → month < next + (place % 12 + 12 - next % 12) % 12 → month % 12 ≡ place % 12 → ⊥
+place_missed : (place next month : ℕ) → next ≤ month → month < next + (place % 12 + 12 - next % 12) % 12 → month % 12 ≢ place % 12
 place_missed place next month low high same = omega arith
 
 -- a month begins with an anniversary later than the day
 pub reached : (opening after month : ℕ) → month % 12 ≡ month_of opening % 12 → after < first_of month → has_anniversary_after opening after month ≡ true
-reached opening after month place later =
-    and_from (month_place month == month_in_year opening) (nat_lt after (first_of month))
-    (eq-eqb (month_place month) (month_in_year opening) (omega arith)) (lt-ltb after (first_of month) later)
+reached opening after month place later = rw (lt-ltb after (first_of month) later) (rw (eq-eqb (month_place month) (month_in_year opening) (omega arith)))
 
-missed : (opening after month : ℕ) → (month % 12 ≡ month_of opening % 12 → ⊥) → has_anniversary_after opening after month ≡ false
-missed opening after month other =
-    and_left (month_place month == month_in_year opening) (nat_lt after (first_of month))
-    (ne_eqb (month_place month) (month_in_year opening) (λ same. other (omega arith)))
+missed : (opening after month : ℕ) → month % 12 ≢ month_of opening % 12 → has_anniversary_after opening after month ≡ false
+missed opening after month other = rw (ne_eqb (month_place month) (month_in_year opening) (λ same. other (omega arith)))
 
 passed : (opening after month : ℕ) → first_of month ≤ after → has_anniversary_after opening after month ≡ false
-passed opening after month begun =
-    and_right (month_place month == month_in_year opening) (nat_lt after (first_of month)) (le-ltb after (first_of month) begun)
+passed opening after month begun = and_right _ _ (le-ltb after (first_of month) begun)
 
 -- how many months after the next one the next anniversary is
 abbrev pub wait_of : ℕ → ℕ → ℕ

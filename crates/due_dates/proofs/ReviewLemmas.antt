@@ -1,8 +1,5 @@
 -- The least day on which rents are stale is found among the first day and the beginnings.
-use Rattle.due_dates.proofs.Words.{◌≡◌, ◌∙◌, sym, refl, ℕ, ◌+◌, ◌-◌, Bool, List, [], ◌∷◌, ◌++◌, Option, None, ap, arith, filter, fold, nat_le, nat_lt, ◌&&◌, filter_agree, later, earliest, is_within, ChangesAtBeginnings, first_day-is, least_that, with_day, with_days}
-use Rattle.std.proofs.lemmas.Bool.Decides.{nat_tests}
-use Rattle.std.proofs.lemmas.List.Sums.{fold-append}
-use Rattle.std.proofs.lemmas.Grind.{common_steps}
+use Rattle.due_dates.proofs.Words.{◌≡◌, ◌∙◌, sym, refl, ℕ, ◌+◌, ◌-◌, Bool, List, [], ◌∷◌, ◌++◌, Option, None, ap, arith, filter, fold, nat_le, nat_lt, ◌&&◌, filter_agree, later, earliest, is_within, ChangesAtBeginnings, first_day-is, least_that, with_day, with_days, nat_tests, fold-append, common_steps}
 
 -- a day that doesn't pass is passed over
 with_days-filter : (passes : ℕ → Bool) (best : Option ℕ) (days : List ℕ) →

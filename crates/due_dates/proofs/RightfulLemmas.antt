@@ -1,7 +1,6 @@
 -- What the rightful days come to.
-use Rattle.due_dates.proofs.Words.{◌≡◌, ◌∙◌, ℕ, ◌+◌, ◌≤◌, sym, ap, subst, arith, inl, inr, cases_lt, both_ways, leb-true, month_of, month_place, first_of, days_in_bounds, first_of_mono, month_of_is, first_month_that, next_month, begins_from, first_start_from, has_anniversary_after, next_anniversary}
-use Rattle.due_dates.specs.Law.{BeginsMonth, IsMonthAfter, IsFirstStart, IsNextAnniversary}
-use Rattle.due_dates.proofs.MonthLemmas.{first_of_above, month_of_by, first_month_that-is, first_start, from_there, anniversary, place_reached, reached, wait_of}
+use Rattle.due_dates.proofs.Words.{◌≡◌, ◌∙◌, ℕ, ◌+◌, ◌≤◌, sym, ap, arith, inl, inr, cases_lt, both_ways, leb-true, leb-false, month_of, month_place, first_of, days_in_bounds, first_of_mono, month_of_is, first_month_that, next_month, begins_from, first_start_from, has_anniversary_after, next_anniversary, BeginsMonth, IsMonthAfter, IsFirstStart, IsNextAnniversary}
+use Rattle.due_dates.proofs.MonthLemmas.{first_of_above, month_of_by, first_month_that-is, first_start, anniversary, place_reached, reached, wait_of}
 
 -- a month begins on its first day
 month_of-first_of : (month : ℕ) → month ≤ 3839 → month_of (first_of month) ≡ month
@@ -29,8 +28,7 @@ is_first_start day h =
       from_day = leb-true day (first_of month) least.this;
       none_between = λ other first from_day.
           elim (cases_lt (month_of other) month) [
-            | inl less ↦ absurd (both_ways (begins_from day (month_of other)) (least.none_earlier (month_of other) (omega arith) less)
-                (from_there day (month_of other) (omega (arith, first))))
+            | inl less ↦ omega (arith, first, leb-false day (first_of (month_of other)) (least.none_earlier (month_of other) (omega arith) less))
             | inr more ↦ omega (arith, first, first_of_mono month (month_of other) more)
           ];
     }
@@ -40,8 +38,7 @@ is_next_anniversary opening after h =
     let least = anniversary opening after h in
     let month = month_of after + 1 + wait_of opening after in
     let in_calendar = month_of_by after (omega arith) in
-    let is : next_anniversary opening after ≡ first_of month = ap first_of (first_month_that-is (has_anniversary_after opening after) month least) in
-    subst (λ (day : ℕ). IsNextAnniversary opening after day) (sym is) (record {
+    rw (first_month_that-is (has_anniversary_after opening after) month least) (record {
       anniversary = record {
         begins = begins month least.to_last;
         same_month = ap month_place (month_of-first_of month least.to_last) ∙ ap (λ (place : ℕ). place + 1) (place_reached (month_of opening) (month_of after + 1));

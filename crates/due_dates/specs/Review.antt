@@ -2,8 +2,7 @@
 use Rattle.std.specs.Prelude.{ℕ, ◌&&◌, nat_lt, nat_le, if◌then◌else◌, Bool, Option, List, fold}
 use Rattle.record_history.specs.Held.{records_of}
 use Rattle.row_choice.specs.Latest.{later}
-use Rattle.due_dates.specs.declared.review.RentReview.{RentReview}
-use Rattle.due_dates.specs.Stale.{is_rent_stale_on}
+use Rattle.due_dates.specs.{declared.review.RentReview.RentReview, Stale.is_rent_stale_on}
 
 -- the day lies in the span, and the household's rents are stale on it
 abbrev pub is_due_on : RentReview → ℕ → Bool

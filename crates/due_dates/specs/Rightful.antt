@@ -2,9 +2,7 @@
 use Rattle.std.specs.Prelude.{ℕ, ◌+◌, ◌≤◌, ◌&&◌, ◌==◌, nat_lt, nat_le, if◌then◌else◌, Bool, unwrap_or}
 use Rattle.days_core.specs.Calendar.{month_of, month_in_year, month_place, first_of, last_month}
 use Rattle.record_history.specs.declared.records.Dates.{Dates}
-use Rattle.due_dates.specs.declared.due.Due.{Due}
-use Rattle.due_dates.specs.declared.due.Due.TheVariants as due
-use Rattle.due_dates.specs.Least.{least_that}
+use Rattle.due_dates.specs.{declared.due.Due.Due, Least.least_that}
 
 -- the first month that passes, and the one after the calendar's last where none does
 abbrev pub first_month_that : (ℕ → Bool) → ℕ
@@ -46,13 +44,13 @@ next_anniversary opening after = first_of (first_month_that (has_anniversary_aft
 
 -- the day on which the certification may take effect
 abbrev pub rightful_day_of : Due → ℕ
-rightful_day_of (due.Interim dates higher report_days) = interim_day dates higher report_days
-rightful_day_of (due.Annual opening after) = next_anniversary opening after
-rightful_day_of (due.Resume done) = next_month done
+rightful_day_of (Due.Interim dates higher report_days) = interim_day dates higher report_days
+rightful_day_of (Due.Annual opening after) = next_anniversary opening after
+rightful_day_of (Due.Resume done) = next_month done
 
 -- the days come no later than 2099-12-31
 abbrev pub IsInRange : Due → Type 0
-IsInRange (due.Interim dates higher report_days) =
+IsInRange (Due.Interim dates higher report_days) =
     (dates.event ≤ 80353) × (dates.notice ≤ 80353) × (dates.done ≤ 80353)
-IsInRange (due.Annual opening after) = (opening ≤ 80353) × (after ≤ 80353)
-IsInRange (due.Resume done) = done ≤ 80353
+IsInRange (Due.Annual opening after) = (opening ≤ 80353) × (after ≤ 80353)
+IsInRange (Due.Resume done) = done ≤ 80353

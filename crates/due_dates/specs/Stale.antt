@@ -3,26 +3,15 @@
 use Rattle.std.specs.Prelude.{ℕ, ◌&&◌, ◌==◌, not, Bool, true, false, List, Option}
 use Rattle.std.specs.Option.{option_map_or, option_and_then}
 use Rattle.days_core.specs.declared.rents.Rents.{Rents}
-use Rattle.record_history.specs.declared.records.Kind.{Kind}
-use Rattle.record_history.specs.declared.records.Kind.TheVariants as kind
-use Rattle.record_history.specs.declared.records.Record.{Record}
-use Rattle.record_history.specs.Records.{in_force}
-use Rattle.rent_table.specs.declared.rows.Unit.{Unit as UnitRow}
-use Rattle.rent_table.specs.declared.rows.RentRow.{RentRow}
-use Rattle.rent_table.specs.Table.{unit_at, rents_on}
+use Rattle.record_history.specs.{declared.records.Kind.Kind, declared.records.Record.Record, Records.in_force}
+use Rattle.rent_table.specs.{declared.rows.Unit.Unit as UnitRow, declared.rows.RentRow.RentRow, Table.unit_at, Table.rents_on}
 use Rattle.due_dates.specs.Least.{least_that}
 
 -- it is a move-out or a termination
 abbrev pub ends_assistance : Kind → Bool
-ends_assistance kind.MI = false
-ends_assistance kind.IC = false
-ends_assistance kind.AR = false
-ends_assistance kind.IR = false
-ends_assistance kind.GR = false
-ends_assistance kind.UT = false
-ends_assistance kind.MO = true
-ends_assistance kind.TM = true
-ends_assistance kind.WD = false
+ends_assistance Kind.MO = true
+ends_assistance Kind.TM = true
+ends_assistance _ = false
 
 -- the rents of that unit on the day, where it is in the table and its group has rents then
 abbrev pub unit_rents_on : List UnitRow → List RentRow → ℕ → ℕ → Option Rents

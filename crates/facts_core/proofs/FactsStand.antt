@@ -3,34 +3,26 @@ use Rattle.std.proofs.Common.{◌≡◌, ◌≤◌, codes, Ok, IsUtf8, refl}
 use Rattle.json_form.specs.Form.{one_of, is_object_at, field, only}
 use Rattle.json_form.proofs.Stands.{Stands, word, number, day, flag, array}
 use Rattle.serde_json.specs.Data.{string}
-use Rattle.facts_core.specs.declared.members.Relation.{Relation}
-use Rattle.facts_core.specs.declared.members.Relation.TheVariants as relation
-use Rattle.facts_core.specs.declared.members.Member.{Member}
-use Rattle.facts_core.specs.declared.incomes.IncomeKind.{IncomeKind}
-use Rattle.facts_core.specs.declared.incomes.IncomeKind.TheVariants as kind
-use Rattle.facts_core.specs.declared.incomes.Income.{Income}
-use Rattle.facts_core.specs.declared.property.Asset.{Asset}
-use Rattle.facts_core.specs.declared.property.Disposal.{Disposal}
-use Rattle.facts_core.specs.declared.facts.Facts.{Facts}
+use Rattle.facts_core.specs.declared.{members.Relation.Relation, members.Member.Member, incomes.IncomeKind.IncomeKind, incomes.Income.Income, property.Asset.Asset, property.Disposal.Disposal, facts.Facts.Facts}
 use Rattle.facts_core.specs.Facts.{relations, relation_word, member_at, member_data, kinds, kind_word, income_at, income_data, asset_at, asset_data, disposal_at, disposal_data, facts_fields_at, facts_at, facts_data}
 use Rattle.facts_core.specs.Facts.{IncomeFits, AssetFits, DisposalFits, FactsFit}
 
 relation_stands : (r : Relation) → Stands 0 (one_of relations) (string (relation_word r)) r
 unfolding one_of
-relation_stands relation.Head = record { again = refl; plain = word (codes "Head") refl }
-relation_stands relation.Spouse = record { again = refl; plain = word (codes "Spouse") refl }
-relation_stands relation.Cohead = record { again = refl; plain = word (codes "Cohead") refl }
-relation_stands relation.Other = record { again = refl; plain = word (codes "Other") refl }
-relation_stands relation.Aide = record { again = refl; plain = word (codes "Aide") refl }
+relation_stands Relation.Head = record { again = refl; plain = word (codes "Head") refl }
+relation_stands Relation.Spouse = record { again = refl; plain = word (codes "Spouse") refl }
+relation_stands Relation.Cohead = record { again = refl; plain = word (codes "Cohead") refl }
+relation_stands Relation.Other = record { again = refl; plain = word (codes "Other") refl }
+relation_stands Relation.Aide = record { again = refl; plain = word (codes "Aide") refl }
 
 kind_stands : (k : IncomeKind) → Stands 0 (one_of kinds) (string (kind_word k)) k
 unfolding one_of
-kind_stands kind.Wages = record { again = refl; plain = word (codes "Wages") refl }
-kind_stands kind.Business = record { again = refl; plain = word (codes "Business") refl }
-kind_stands kind.Benefits = record { again = refl; plain = word (codes "Benefits") refl }
-kind_stands kind.Welfare = record { again = refl; plain = word (codes "Welfare") refl }
-kind_stands kind.Adoption = record { again = refl; plain = word (codes "Adoption") refl }
-kind_stands kind.Other = record { again = refl; plain = word (codes "Other") refl }
+kind_stands IncomeKind.Wages = record { again = refl; plain = word (codes "Wages") refl }
+kind_stands IncomeKind.Business = record { again = refl; plain = word (codes "Business") refl }
+kind_stands IncomeKind.Benefits = record { again = refl; plain = word (codes "Benefits") refl }
+kind_stands IncomeKind.Welfare = record { again = refl; plain = word (codes "Welfare") refl }
+kind_stands IncomeKind.Adoption = record { again = refl; plain = word (codes "Adoption") refl }
+kind_stands IncomeKind.Other = record { again = refl; plain = word (codes "Other") refl }
 
 member_stands : (person : Member) → person.born ≤ 116877 → Stands 1 member_at (member_data person) person
 unfolding member_at member_data is_object_at field only

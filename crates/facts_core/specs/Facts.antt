@@ -5,30 +5,22 @@ use Rattle.std.specs.List.{All}
 use Rattle.serde_json.specs.Data.{Data, boolean, string, object, Members, member, no_members}
 use Rattle.json_form.specs.Form.{◌>>=◌, bool_at, u32_at, day_at, one_of, is_object_at, field, closed_by, array_at}
 use Rattle.json_form.specs.Written.{number_data, day_data, array_data}
-use Rattle.facts_core.specs.declared.members.Relation.{Relation}
-use Rattle.facts_core.specs.declared.members.Relation.TheVariants as relation
-use Rattle.facts_core.specs.declared.members.Member.{Member}
-use Rattle.facts_core.specs.declared.incomes.IncomeKind.{IncomeKind}
-use Rattle.facts_core.specs.declared.incomes.IncomeKind.TheVariants as kind
-use Rattle.facts_core.specs.declared.incomes.Income.{Income}
-use Rattle.facts_core.specs.declared.property.Asset.{Asset}
-use Rattle.facts_core.specs.declared.property.Disposal.{Disposal}
-use Rattle.facts_core.specs.declared.facts.Facts.{Facts}
+use Rattle.facts_core.specs.declared.{members.Relation.Relation, members.Member.Member, incomes.IncomeKind.IncomeKind, incomes.Income.Income, property.Asset.Asset, property.Disposal.Disposal, facts.Facts.Facts}
 
 -- ---- members
 
 abbrev pub relations : List (List ℕ × Relation)
 relations =
-    (codes "Head", relation.Head) ∷ (codes "Spouse", relation.Spouse) ∷ (codes "Cohead", relation.Cohead)
-    ∷ (codes "Other", relation.Other) ∷ (codes "Aide", relation.Aide) ∷ []
+    (codes "Head", Relation.Head) ∷ (codes "Spouse", Relation.Spouse) ∷ (codes "Cohead", Relation.Cohead)
+    ∷ (codes "Other", Relation.Other) ∷ (codes "Aide", Relation.Aide) ∷ []
 
 -- the word for a relation
 abbrev pub relation_word : Relation → List ℕ
-relation_word relation.Head = codes "Head"
-relation_word relation.Spouse = codes "Spouse"
-relation_word relation.Cohead = codes "Cohead"
-relation_word relation.Other = codes "Other"
-relation_word relation.Aide = codes "Aide"
+relation_word Relation.Head = codes "Head"
+relation_word Relation.Spouse = codes "Spouse"
+relation_word Relation.Cohead = codes "Cohead"
+relation_word Relation.Other = codes "Other"
+relation_word Relation.Aide = codes "Aide"
 
 abbrev pub member_members : Member → Members
 member_members person =
@@ -57,17 +49,17 @@ member_at d = do
 
 abbrev pub kinds : List (List ℕ × IncomeKind)
 kinds =
-    (codes "Wages", kind.Wages) ∷ (codes "Business", kind.Business) ∷ (codes "Benefits", kind.Benefits)
-    ∷ (codes "Welfare", kind.Welfare) ∷ (codes "Adoption", kind.Adoption) ∷ (codes "Other", kind.Other) ∷ []
+    (codes "Wages", IncomeKind.Wages) ∷ (codes "Business", IncomeKind.Business) ∷ (codes "Benefits", IncomeKind.Benefits)
+    ∷ (codes "Welfare", IncomeKind.Welfare) ∷ (codes "Adoption", IncomeKind.Adoption) ∷ (codes "Other", IncomeKind.Other) ∷ []
 
 -- the word for a kind of income
 abbrev pub kind_word : IncomeKind → List ℕ
-kind_word kind.Wages = codes "Wages"
-kind_word kind.Business = codes "Business"
-kind_word kind.Benefits = codes "Benefits"
-kind_word kind.Welfare = codes "Welfare"
-kind_word kind.Adoption = codes "Adoption"
-kind_word kind.Other = codes "Other"
+kind_word IncomeKind.Wages = codes "Wages"
+kind_word IncomeKind.Business = codes "Business"
+kind_word IncomeKind.Benefits = codes "Benefits"
+kind_word IncomeKind.Welfare = codes "Welfare"
+kind_word IncomeKind.Adoption = codes "Adoption"
+kind_word IncomeKind.Other = codes "Other"
 
 abbrev pub income_members : Income → Members
 income_members income =

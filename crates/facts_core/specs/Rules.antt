@@ -1,35 +1,25 @@
 -- The seven rules that the facts of a household keep on a day.
 use Rattle.std.specs.Prelude.{ℕ, ◌&&◌, ◌==◌, nat_le, nat_lt, Bool, true, false, not, if◌then◌else◌, length, count_by, Option, Some, None}
 use Rattle.std.specs.List.{list_all}
-use Rattle.facts_core.specs.declared.members.Relation.{Relation}
-use Rattle.facts_core.specs.declared.members.Relation.TheVariants as relation
-use Rattle.facts_core.specs.declared.facts.Facts.{Facts}
+use Rattle.facts_core.specs.declared.{members.Relation.Relation, facts.Facts.Facts}
 
 -- an amount of the facts, in whole dollars
 abbrev pub is_amount : ℕ → Bool
 is_amount amount = nat_le amount 9999999
 
 abbrev pub is_head : Relation → Bool
-is_head relation.Head = true
-is_head relation.Spouse = false
-is_head relation.Cohead = false
-is_head relation.Other = false
-is_head relation.Aide = false
+is_head Relation.Head = true
+is_head _ = false
 
 abbrev pub is_partner : Relation → Bool
-is_partner relation.Head = false
-is_partner relation.Spouse = true
-is_partner relation.Cohead = true
-is_partner relation.Other = false
-is_partner relation.Aide = false
+is_partner Relation.Spouse = true
+is_partner Relation.Cohead = true
+is_partner _ = false
 
 -- a live-in aide is no member of the family (24 CFR 5.403)
 abbrev pub is_aide : Relation → Bool
-is_aide relation.Head = false
-is_aide relation.Spouse = false
-is_aide relation.Cohead = false
-is_aide relation.Other = false
-is_aide relation.Aide = true
+is_aide Relation.Aide = true
+is_aide _ = false
 
 -- 1. There is exactly one head.
 abbrev pub has_one_head : Facts → Bool

@@ -1,13 +1,7 @@
 -- The sums of facts that break no rule fit their types.
-use Rattle.income_rules.proofs.Words.{◌≡◌, ℕ, ◌+◌, ◌≤◌, min, max, mul-le-mul_left, true, Bool, cond, List, [], ◌∷◌, length, Option, Some, None, arith, ◌==◌, ◌&&◌, if◌then◌else◌, sum_by, slice_get, nat_lt, range_with_len, sum_by-cons, sum_by-le-sum_by, and_parts, leb-true, Member, Income, Asset, Disposal, Facts, is_amount, is_aide, broken_rule, is_earned, is_adoption, is_counted_whole, sum_of, counted_of_earnings, counted_of_others, counted_earned_of, counted_unearned_of, window_start, is_between, disposals_by, given_away_of, net_assets_of, actual_asset_income_of, imputed_asset_income, asset_income_of, list_all, common_steps}
-use Rattle.std.specs.Option.{option_map_or}
-use Rattle.facts_core.specs.declared.incomes.IncomeKind.{IncomeKind}
-use Rattle.income_rules.specs.Members.{is_head_or_partner, is_under}
-use Rattle.income_rules.specs.Annual.{annual_income_of}
+use Rattle.income_rules.proofs.Words.{◌≡◌, ℕ, ◌+◌, ◌≤◌, max, mul-le-mul_left, true, Bool, cond, List, [], ◌∷◌, length, Option, None, arith, ◌==◌, ◌&&◌, if◌then◌else◌, sum_by, slice_get, nat_lt, range_with_len, sum_by-cons, sum_by-le-sum_by, leb-true, Member, Income, Asset, Disposal, Facts, is_amount, broken_rule, is_earned, is_adoption, is_counted_whole, sum_of, counted_of_earnings, counted_of_others, counted_earned_of, counted_unearned_of, window_start, is_between, given_away_of, net_assets_of, imputed_asset_income, asset_income_of, list_all, common_steps, nat_tests, sum_by-le, option_map_or, IncomeKind, annual_income_of}
 use Rattle.income_rules.proofs.Kept.{keeps, is_short, amounts_hold}
-use Rattle.income_rules.proofs.Sums.{sum_by-bounded, sum_by-filter, sum_by-filter-le, sum_by-add, cond-le, only_once}
-use Rattle.std.proofs.lemmas.Grind.{common_steps}
-use Rattle.std.proofs.Common.{arith}
+use Rattle.income_rules.proofs.Sums.{sum_by-bounded, sum_by-filter-le, sum_by-add, cond-le, only_once}
 
 -- ---- the lists of the facts
 
@@ -19,30 +13,28 @@ amounts_fit : {X : Type 0} (amount : X → ℕ) (fits : X → Bool) (xs : List X
     list_all fits xs ≡ true → length xs ≤ 40 → sum_by amount xs ≤ 399999960
 amounts_fit amount fits xs bound all short = omega (arith, sum_by-bounded amount fits 9999999 bound xs all, short)
 
-pub incomes_fit : (facts : Facts) (day : ℕ) → broken_rule facts day ≡ None → incomes_sum facts.incomes ≤ 399999960
-incomes_fit facts day e =
-    let k = keeps facts day e in
-    amounts_fit (λ (income : Income). income.annual) (λ income. is_amount income.annual) facts.incomes (λ income fits. leb-true _ _ fits) (amounts_hold facts k.amounts).incomes (is_short facts k.size).incomes
+-- so do the sums of facts that break no rule
+pub record SumsFit (facts : Facts) : Type 0 where
+  pub incomes : incomes_sum facts.incomes ≤ 399999960
+  pub asset_values : sum_by (λ asset. asset.value) facts.assets ≤ 399999960
+  pub asset_incomes : sum_by (λ asset. asset.income) facts.assets ≤ 399999960
+  pub disposal_values : sum_by (λ disposal. disposal.value) facts.disposals ≤ 399999960
+  pub disposal_receipts : sum_by (λ disposal. disposal.received) facts.disposals ≤ 399999960
 
-pub asset_values_fit : (facts : Facts) (day : ℕ) → broken_rule facts day ≡ None → sum_by (λ asset. asset.value) facts.assets ≤ 399999960
-asset_values_fit facts day e =
-    let k = keeps facts day e in
-    amounts_fit (λ (asset : Asset). asset.value) (λ asset. is_amount asset.value && is_amount asset.income) facts.assets (λ asset fits. leb-true _ _ (and_parts (is_amount asset.value) (is_amount asset.income) fits).0) (amounts_hold facts k.amounts).assets (is_short facts k.size).assets
-
-pub asset_incomes_fit : (facts : Facts) (day : ℕ) → broken_rule facts day ≡ None → sum_by (λ asset. asset.income) facts.assets ≤ 399999960
-asset_incomes_fit facts day e =
-    let k = keeps facts day e in
-    amounts_fit (λ (asset : Asset). asset.income) (λ asset. is_amount asset.value && is_amount asset.income) facts.assets (λ asset fits. leb-true _ _ (and_parts (is_amount asset.value) (is_amount asset.income) fits).1) (amounts_hold facts k.amounts).assets (is_short facts k.size).assets
-
-pub disposal_values_fit : (facts : Facts) (day : ℕ) → broken_rule facts day ≡ None → sum_by (λ disposal. disposal.value) facts.disposals ≤ 399999960
-disposal_values_fit facts day e =
-    let k = keeps facts day e in
-    amounts_fit (λ (disposal : Disposal). disposal.value) (λ disposal. is_amount disposal.value && is_amount disposal.received) facts.disposals (λ disposal fits. leb-true _ _ (and_parts (is_amount disposal.value) (is_amount disposal.received) fits).0) (amounts_hold facts k.amounts).disposals (is_short facts k.size).disposals
-
-pub disposal_receipts_fit : (facts : Facts) (day : ℕ) → broken_rule facts day ≡ None → sum_by (λ disposal. disposal.received) facts.disposals ≤ 399999960
-disposal_receipts_fit facts day e =
-    let k = keeps facts day e in
-    amounts_fit (λ (disposal : Disposal). disposal.received) (λ disposal. is_amount disposal.value && is_amount disposal.received) facts.disposals (λ disposal fits. leb-true _ _ (and_parts (is_amount disposal.value) (is_amount disposal.received) fits).1) (amounts_hold facts k.amounts).disposals (is_short facts k.size).disposals
+pub sums_fit : (facts : Facts) (day : ℕ) → broken_rule facts day ≡ None → SumsFit facts
+sums_fit facts day e =
+    let kept = keeps facts day e in
+    let amounts = amounts_hold facts kept.amounts in
+    let short = is_short facts kept.size in
+    let asset_fits : Asset → Bool = λ asset. is_amount asset.value && is_amount asset.income in
+    let disposal_fits : Disposal → Bool = λ disposal. is_amount disposal.value && is_amount disposal.received in
+    record {
+      incomes = amounts_fit _ (λ (income : Income). is_amount income.annual) facts.incomes (λ income fits. leb-true _ _ fits) amounts.incomes short.incomes;
+      asset_values = amounts_fit _ asset_fits facts.assets (λ asset fits. grind (arith, nat_tests)) amounts.assets short.assets;
+      asset_incomes = amounts_fit _ asset_fits facts.assets (λ asset fits. grind (arith, nat_tests)) amounts.assets short.assets;
+      disposal_values = amounts_fit _ disposal_fits facts.disposals (λ disposal fits. grind (arith, nat_tests)) amounts.disposals short.disposals;
+      disposal_receipts = amounts_fit _ disposal_fits facts.disposals (λ disposal fits. grind (arith, nat_tests)) amounts.disposals short.disposals;
+    }
 
 -- ---- the incomes of one member
 
@@ -55,107 +47,56 @@ abbrev pub total_for : List Income → ℕ → ℕ
 total_for incomes number = sum_by (λ income. cond (income.member == number) income.annual 0) incomes
 
 -- an income is of one kind
-one_kind : (same : Bool) (k : IncomeKind) (n : ℕ) → cond (same && is_earned k) n 0 + (cond (same && is_counted_whole k) n 0 + cond (same && is_adoption k) n 0) ≤ cond same n 0
-one_kind same k n = grind (arith, common_steps)
-
 pub kinds_within : (incomes : List Income) (number : ℕ) → sum_of is_earned incomes number + (sum_of is_counted_whole incomes number + sum_of is_adoption incomes number) ≤ total_for incomes number
-kinds_within incomes number =
-    let annual : Income → ℕ = λ income. income.annual in
-    let earned : Income → ℕ = λ income. cond (income.member == number && is_earned income.kind) income.annual 0 in
-    let whole : Income → ℕ = λ income. cond (income.member == number && is_counted_whole income.kind) income.annual 0 in
-    let adoption : Income → ℕ = λ income. cond (income.member == number && is_adoption income.kind) income.annual 0 in
-    let all : Income → ℕ = λ income. cond (income.member == number) income.annual 0 in
-    omega (
-      arith,
-      sum_by-filter annual (λ income. income.member == number && is_earned income.kind) incomes,
-      sum_by-filter annual (λ income. income.member == number && is_counted_whole income.kind) incomes,
-      sum_by-filter annual (λ income. income.member == number && is_adoption income.kind) incomes,
-      sum_by-add earned (λ income. whole income + adoption income) incomes,
-      sum_by-add whole adoption incomes,
-      sum_by-le-sum_by (λ income. earned income + (whole income + adoption income)) all incomes (λ income. one_kind (income.member == number) income.kind income.annual),
-    )
+kinds_within [] number = omega arith
+kinds_within (income ∷ incomes) number = grind (arith, common_steps, kinds_within incomes number)
 
 -- ---- the incomes of all members
 
-none_to_sum : (ns : List ℕ) → sum_by (total_for []) ns ≤ 0
-none_to_sum [] = omega arith
-none_to_sum (n ∷ ns) = omega (arith, sum_by-cons (total_for []) n ns, none_to_sum ns)
-
-first_and_others : (income : Income) (incomes : List Income) (n : ℕ) → total_for (income ∷ incomes) n ≤ cond (income.member == n) income.annual 0 + total_for incomes n
-first_and_others income incomes n =
-    omega (arith, sum_by-cons (λ (i : Income). cond (i.member == n) i.annual 0) income incomes)
-
 -- each income is one member's
 pub numbers_within : (incomes : List Income) (k : ℕ) → sum_by (total_for incomes) (range_with_len 0 k) ≤ incomes_sum incomes
-numbers_within [] k = none_to_sum (range_with_len 0 k)
+numbers_within [] k = omega (arith, sum_by-le (total_for []) 0 (range_with_len 0 k) (λ i d within. omega arith))
 numbers_within (income ∷ incomes) k =
     let first : ℕ → ℕ = λ n. cond (income.member == n) income.annual 0 in
-    let others : ℕ → ℕ = total_for incomes in
-    omega (
-      arith,
-      sum_by-le-sum_by (total_for (income ∷ incomes)) (λ n. first n + others n) (range_with_len 0 k) (λ n. first_and_others income incomes n),
-      sum_by-add first others (range_with_len 0 k),
-      only_once income.member income.annual 0 k,
-      numbers_within incomes k,
-      sum_by-cons (λ (i : Income). i.annual) income incomes,
-    )
+    let each = λ (n : ℕ). sum_by-cons (λ (i : Income). cond (i.member == n) i.annual 0) income incomes in
+    let all = sum_by-le-sum_by (total_for (income ∷ incomes)) (λ n. first n + total_for incomes n) (range_with_len 0 k) (λ n. omega (arith, each n)) in
+    let once = only_once income.member income.annual 0 k in
+    let others = numbers_within incomes k in
+    omega (arith, sum_by-add first (total_for incomes) (range_with_len 0 k), sum_by-cons (λ (i : Income). i.annual) income incomes)
 
 -- what is counted of earnings is at most all
-counted_least : (aide principal young student : Bool) (n : ℕ) → (if aide then 0 else (if principal then n else (if young then 0 else (if student then min 480 n else n)))) ≤ n
-counted_least aide principal young student n = grind (arith, common_steps)
-
-others_least : (aide : Bool) (whole adoption : ℕ) → (if aide then 0 else whole + min 480 adoption) ≤ whole + adoption
-others_least aide whole adoption = grind (arith, common_steps)
-
 earned_part : (o : Option Member) (day earnings : ℕ) → option_map_or (λ member. counted_of_earnings member day earnings) o 0 ≤ earnings
-earned_part None day earnings = omega arith
-earned_part (Some member) day earnings = counted_least (is_aide member.relation) (is_head_or_partner member.relation) (is_under 18 member day) member.student earnings
+earned_part o day earnings = grind (arith, common_steps)
 
 others_part : (o : Option Member) (whole adoption : ℕ) → option_map_or (λ member. counted_of_others member whole adoption) o 0 ≤ whole + adoption
-others_part None whole adoption = omega arith
-others_part (Some member) whole adoption = others_least (is_aide member.relation) whole adoption
+others_part o whole adoption = grind (arith, common_steps)
 
 pub counted_within : (facts : Facts) (day number : ℕ) → counted_earned_of facts number day + counted_unearned_of facts number ≤ total_for facts.incomes number
 counted_within facts day number =
-    omega (
-      arith,
-      earned_part (slice_get facts.members number) day (sum_of is_earned facts.incomes number),
-      others_part (slice_get facts.members number) (sum_of is_counted_whole facts.incomes number) (sum_of is_adoption facts.incomes number),
-      kinds_within facts.incomes number,
-    )
+    let earned = earned_part (slice_get facts.members number) day (sum_of is_earned facts.incomes number) in
+    let others = others_part (slice_get facts.members number) (sum_of is_counted_whole facts.incomes number) (sum_of is_adoption facts.incomes number) in
+    omega (arith, kinds_within facts.incomes number)
 
 -- what is counted of the incomes of the first members
 pub family_within : (facts : Facts) (day k : ℕ) → broken_rule facts day ≡ None → sum_by (λ number. counted_earned_of facts number day) (range_with_len 0 k) + sum_by (counted_unearned_of facts) (range_with_len 0 k) ≤ 399999960
 family_within facts day k e =
     let earned : ℕ → ℕ = λ number. counted_earned_of facts number day in
     let unearned : ℕ → ℕ = counted_unearned_of facts in
-    omega (
-      arith,
-      sum_by-add earned unearned (range_with_len 0 k),
-      sum_by-le-sum_by (λ number. earned number + unearned number) (total_for facts.incomes) (range_with_len 0 k) (counted_within facts day),
-      numbers_within facts.incomes k,
-      incomes_fit facts day e,
-    )
+    let counted = sum_by-le-sum_by (λ number. earned number + unearned number) (total_for facts.incomes) (range_with_len 0 k) (counted_within facts day) in
+    omega (arith, sum_by-add earned unearned (range_with_len 0 k), numbers_within facts.incomes k, (sums_fit facts day e).incomes)
 
 pub whole_and_adoption_fit : (facts : Facts) (day number : ℕ) → broken_rule facts day ≡ None → sum_of is_counted_whole facts.incomes number + sum_of is_adoption facts.incomes number ≤ 399999960
 whole_and_adoption_fit facts day number e =
-    let within = kinds_within facts.incomes number in
     let all = sum_by-le-sum_by (λ (income : Income). cond (income.member == number) income.annual 0) (λ income. income.annual) facts.incomes (λ income. cond-le (income.member == number) income.annual) in
-    omega (arith, within, all, incomes_fit facts day e)
+    omega (arith, kinds_within facts.incomes number, (sums_fit facts day e).incomes)
 
 -- ---- assets
 
 pub net_assets_fit : (facts : Facts) (day : ℕ) → broken_rule facts day ≡ None → net_assets_of facts day ≤ 799999920
 net_assets_fit facts day e =
-    let difference : ℕ = given_away_of facts.disposals day in
-    let values : ℕ = sum_by (λ (disposal : Disposal). disposal.value) (disposals_by facts.disposals day) in
-    omega (
-      arith,
-      asset_values_fit facts day e,
-      cond-le (nat_lt 1000 difference) difference,
-      sum_by-filter-le (λ (disposal : Disposal). disposal.value) (is_between (window_start day) day) facts.disposals,
-      disposal_values_fit facts day e,
-    )
+    let fit = sums_fit facts day e in
+    let counted = cond-le (nat_lt 1000 (given_away_of facts.disposals day)) (given_away_of facts.disposals day) in
+    omega (arith, sum_by-filter-le (λ (disposal : Disposal). disposal.value) (is_between (window_start day) day) facts.disposals)
 
 -- at most the whole of the net assets is imputed
 imputed-le : (net passbook : ℕ) → passbook ≤ 10000 → imputed_asset_income net passbook ≤ net
@@ -166,10 +107,8 @@ greater-le above actual imputed most a i = grind (arith, common_steps, a, i)
 
 pub asset_income_fits : (facts : Facts) (day passbook : ℕ) → broken_rule facts day ≡ None → passbook ≤ 10000 → asset_income_of facts day passbook ≤ 799999920
 asset_income_fits facts day passbook e le =
-    let net : ℕ = net_assets_of facts day in
-    let actual : actual_asset_income_of facts ≤ 799999920 = omega (arith, asset_incomes_fit facts day e) in
-    let imputed : imputed_asset_income net passbook ≤ 799999920 = omega (arith, imputed-le net passbook le, net_assets_fit facts day e) in
-    greater-le (nat_lt 5000 net) (actual_asset_income_of facts) (imputed_asset_income net passbook) 799999920 actual imputed
+    greater-le (nat_lt 5000 (net_assets_of facts day)) _ _ 799999920 (omega (arith, (sums_fit facts day e).asset_incomes))
+    (omega (arith, imputed-le (net_assets_of facts day) passbook le, net_assets_fit facts day e))
 
 -- ---- the whole
 

@@ -1,6 +1,5 @@
 -- What it says of facts that they break no rule.
-use Rattle.income_rules.proofs.Words.{◌≡◌, ℕ, zero, suc, ◌≤◌, subst, true, List, [], ◌∷◌, length, Some, None, ◌&&◌, nat_le, slice_get, list_all, and_parts, leb-true, Member, Facts, is_amount, has_one_head, has_at_most_one_partner, names_members, has_amounts, has_fair_disposals, is_in_size, has_births_by, broken_rule, arith, common_steps}
-use Rattle.list_laws.proofs.Options.{unless_none}
+use Rattle.income_rules.proofs.Words.{◌≡◌, ℕ, zero, suc, ◌≤◌, true, List, [], ◌∷◌, length, Some, None, ◌&&◌, nat_le, slice_get, list_all, and_parts, Member, Facts, is_amount, has_one_head, has_at_most_one_partner, names_members, has_amounts, has_fair_disposals, is_in_size, has_births_by, broken_rule, arith, common_steps, nat_tests, unless_none}
 
 -- the rules that the sums rest on
 pub record Keeps (facts : Facts) (day : ℕ) : Type 0 where
@@ -28,12 +27,7 @@ pub record IsShort (facts : Facts) : Type 0 where
   pub disposals : length facts.disposals ≤ 40
 
 pub is_short : (facts : Facts) → is_in_size facts ≡ true → IsShort facts
-is_short facts e = record {
-  members = grind (arith, common_steps, e);
-  incomes = grind (arith, common_steps, e);
-  assets = grind (arith, common_steps, e);
-  disposals = grind (arith, common_steps, e);
-}
+is_short facts e = grind (arith, common_steps)
 
 -- the amounts are what the rules allow
 pub record HasAmounts (facts : Facts) : Type 0 where
@@ -46,23 +40,10 @@ pub record HasAmounts (facts : Facts) : Type 0 where
   pub medical : facts.medical ≤ 9999999
 
 pub amounts_hold : (facts : Facts) → has_amounts facts ≡ true → HasAmounts facts
-amounts_hold facts e = record {
-  incomes = grind (arith, common_steps, e);
-  assets = grind (arith, common_steps, e);
-  disposals = grind (arith, common_steps, e);
-  care_work = grind (arith, common_steps, e);
-  care_school = grind (arith, common_steps, e);
-  disability = grind (arith, common_steps, e);
-  medical = grind (arith, common_steps, e);
-}
+amounts_hold facts e = grind (arith, common_steps)
 
 -- a member was born by the day by which all were
 pub born_by : (members : List Member) (number day : ℕ) (member : Member) → list_all (λ m. nat_le m.born day) members ≡ true → slice_get members number ≡ Some member → member.born ≤ day
 born_by [] number day member e there = cc
-born_by (first ∷ others) zero day member e there =
-    let both = and_parts (nat_le first.born day) (list_all (λ (m : Member). nat_le m.born day) others) e in
-    let here : first ≡ member = cc in
-    subst (λ (m : Member). m.born ≤ day) here (leb-true _ _ both.0)
-born_by (first ∷ others) (suc number) day member e there =
-    let both = and_parts (nat_le first.born day) (list_all (λ (m : Member). nat_le m.born day) others) e in
-    born_by others number day member both.1 there
+born_by (first ∷ others) zero day member e there = grind (arith, common_steps, nat_tests)
+born_by (first ∷ others) (suc number) day member e there = born_by others number day member (and_parts (nat_le first.born day) _ e).1 there

@@ -1,9 +1,7 @@
 -- The net assets of a family, and the income from them, in whole dollars.
 use Rattle.std.specs.Prelude.{ℕ, ◌+◌, ◌-◌, ◌*◌, ◌&&◌, nat_le, nat_lt, max, if◌then◌else◌, Bool, List, filter, sum_by, unwrap_or}
-use Rattle.days_core.specs.Calendar.{years_before}
-use Rattle.days_core.specs.Rounding.{round_half_up}
-use Rattle.facts_core.specs.declared.property.Disposal.{Disposal}
-use Rattle.facts_core.specs.declared.facts.Facts.{Facts}
+use Rattle.days_core.specs.{Calendar.years_before, Rounding.round_half_up}
+use Rattle.facts_core.specs.declared.{property.Disposal.Disposal, facts.Facts.Facts}
 
 -- the day two years before, or 1880-01-01 where the calendar doesn't reach back so far
 abbrev pub window_start : ℕ → ℕ

@@ -1,40 +1,26 @@
 -- The income of the members of a family, in whole dollars a year (24 CFR 5.609).
 use Rattle.std.specs.Prelude.{ℕ, ◌+◌, ◌&&◌, ◌==◌, min, if◌then◌else◌, Bool, true, false, List, filter, sum_by, slice_get}
 use Rattle.std.specs.Option.{option_map_or}
-use Rattle.facts_core.specs.declared.members.Member.{Member}
-use Rattle.facts_core.specs.declared.incomes.IncomeKind.{IncomeKind}
-use Rattle.facts_core.specs.declared.incomes.IncomeKind.TheVariants as kind
-use Rattle.facts_core.specs.declared.incomes.Income.{Income}
-use Rattle.facts_core.specs.declared.facts.Facts.{Facts}
-use Rattle.facts_core.specs.Rules.{is_aide}
+use Rattle.facts_core.specs.{declared.members.Member.Member, declared.incomes.IncomeKind.IncomeKind, declared.incomes.Income.Income, declared.facts.Facts.Facts, Rules.is_aide}
 use Rattle.income_rules.specs.Members.{is_head_or_partner, is_under, numbers_of}
 
 -- wages and the net income of a business are earned (24 CFR 5.609(b)(1), (2))
 abbrev pub is_earned : IncomeKind → Bool
-is_earned kind.Wages = true
-is_earned kind.Business = true
-is_earned kind.Benefits = false
-is_earned kind.Welfare = false
-is_earned kind.Adoption = false
-is_earned kind.Other = false
+is_earned IncomeKind.Wages = true
+is_earned IncomeKind.Business = true
+is_earned _ = false
 
 -- assistance for an adopted child, whom it names as its member
 abbrev pub is_adoption : IncomeKind → Bool
-is_adoption kind.Wages = false
-is_adoption kind.Business = false
-is_adoption kind.Benefits = false
-is_adoption kind.Welfare = false
-is_adoption kind.Adoption = true
-is_adoption kind.Other = false
+is_adoption IncomeKind.Adoption = true
+is_adoption _ = false
 
 -- what is neither is counted whole (24 CFR 5.609(a), (b))
 abbrev pub is_counted_whole : IncomeKind → Bool
-is_counted_whole kind.Wages = false
-is_counted_whole kind.Business = false
-is_counted_whole kind.Benefits = true
-is_counted_whole kind.Welfare = true
-is_counted_whole kind.Adoption = false
-is_counted_whole kind.Other = true
+is_counted_whole IncomeKind.Benefits = true
+is_counted_whole IncomeKind.Welfare = true
+is_counted_whole IncomeKind.Other = true
+is_counted_whole _ = false
 
 -- what the incomes of such kinds give the member of that number in a year
 abbrev pub sum_of : (IncomeKind → Bool) → List Income → ℕ → ℕ

@@ -2,18 +2,15 @@
 use Rattle.std.specs.Prelude.{ℕ, nat_lt, Bool, true, false, List, length}
 use Rattle.std.specs.List.{range_with_len}
 use Rattle.days_core.specs.Calendar.{age_on}
-use Rattle.facts_core.specs.declared.members.Relation.{Relation}
-use Rattle.facts_core.specs.declared.members.Relation.TheVariants as relation
-use Rattle.facts_core.specs.declared.members.Member.{Member}
-use Rattle.facts_core.specs.declared.facts.Facts.{Facts}
+use Rattle.facts_core.specs.declared.{members.Relation.Relation, members.Member.Member, facts.Facts.Facts}
 
 -- the head, the spouse or the co-head
 abbrev pub is_head_or_partner : Relation → Bool
-is_head_or_partner relation.Head = true
-is_head_or_partner relation.Spouse = true
-is_head_or_partner relation.Cohead = true
-is_head_or_partner relation.Other = false
-is_head_or_partner relation.Aide = false
+is_head_or_partner Relation.Head = true
+is_head_or_partner Relation.Spouse = true
+is_head_or_partner Relation.Cohead = true
+is_head_or_partner Relation.Other = false
+is_head_or_partner Relation.Aide = false
 
 -- the member is younger on the day than so many years
 abbrev pub is_under : ℕ → Member → ℕ → Bool

@@ -1,9 +1,7 @@
 -- Faults of a part, as faults of the whole.
 use Rattle.std.proofs.Common.{ℕ, List, Result, Err, ap, sym, ◌∙◌}
 use Rattle.json_form.specs.Form.{◌>>=◌, under}
-use Rattle.json_form.specs.Gives.{Faults, IsUnder}
-use Rattle.json_form.specs.declared.fault.FormFault.{FormFault}
-use Rattle.json_form.specs.declared.fault.FormFault.TheVariants.{BadField, NoMemory}
+use Rattle.json_form.specs.{Gives.Faults, Gives.IsUnder, declared.fault.FormFault.FormFault, declared.fault.FormFault.TheVariants.BadField, declared.fault.FormFault.TheVariants.NoMemory}
 
 pub Faults-under : {A : Type 0} (step : List ℕ) (inner outer : FormFault) (form : Result A (List ℕ)) → IsUnder step inner outer → Faults inner form → Faults outer (under step form)
 Faults-under step (BadField path) (BadField longer) form is faults = ap (under step) faults ∙ ap (λ whole. Err whole) (sym is)

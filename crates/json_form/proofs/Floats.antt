@@ -1,12 +1,9 @@
 -- Values without floats: an array or an object of such values has none.
-use Rattle.std.proofs.Common.{◌≡◌, ℕ, Bool, false, List, [], ◌∷◌, ◌++◌, Ordering, Less, Equal, Greater, refl}
-use Rattle.std.specs.Ordering.{nat_cmp, match_ordering}
-use Rattle.std.specs.Cmp.Lexicographic.{slice_cmp}
+use Rattle.std.proofs.Common.{◌≡◌, ℕ, false, List, [], ◌∷◌, ◌++◌, Ordering, Less, Equal, Greater, refl}
+use Rattle.std.specs.{Ordering.nat_cmp, Ordering.match_ordering, Cmp.Lexicographic.slice_cmp}
 use Rattle.std.proofs.lemmas.Bool.{or_parts}
 use Rattle.serde_json.specs.Data.{Data, Members, no_members, member, put}
-use Rattle.serde_json.specs.View.{view, items_view}
-use Rattle.serde_json.specs.Written.{has_float, items_have_float, members_have_float}
-use Rattle.serde_json.specs.declared.value.Value.{Value}
+use Rattle.serde_json.specs.{View.view, View.items_view, Written.has_float, Written.items_have_float, Written.members_have_float, declared.value.Value.Value}
 
 pub items_without_float : (vs : List Value) (v : Value) → items_have_float (items_view vs) ≡ false → has_float (view v) ≡ false → items_have_float (items_view (vs ++ v ∷ [])) ≡ false
 items_without_float [] v none one = rw one refl

@@ -1,4 +1,3 @@
-pub mod DataFrom
 pub mod Faults
 pub mod Floats
 pub mod Items

@@ -1,21 +1,15 @@
 -- Values that are written plainly, and read again as what they were written for.
-use Rattle.std.proofs.Common.{◌≡◌, ℕ, suc, ◌+◌, ◌<◌, ◌≤◌, ◌^◌, ◌/◌, ◌%◌, ◌&&◌, Bool, true, nat_le, List, [], ◌∷◌, ◌++◌, map, length, Result, Ok, IsUtf8, ap, refl, arith}
+use Rattle.std.proofs.Common.{◌≡◌, ℕ, suc, ◌+◌, ◌<◌, ◌≤◌, ◌^◌, ◌&&◌, Bool, true, nat_le, List, [], ◌∷◌, map, length, Result, Ok, IsUtf8, ap, refl, arith}
 use Rattle.std.specs.List.{All, AllByRecursion, list_all}
-use Rattle.std.proofs.lemmas.Bool.{and_parts, le-leb, leb-true}
-use Rattle.std.proofs.lemmas.List.Elements.{recursion_from_All, All-from_recursion}
-use Rattle.std.proofs.lemmas.Str.{IsUtf8-from_ascii}
-use Rattle.std.proofs.lemmas.Str.Ascii.{IsAscii-from_all}
+use Rattle.std.proofs.lemmas.{Bool.and_parts, Bool.le-leb, Bool.leb-true, List.Elements.recursion_from_All, List.Sums.AllPass-from_list_all, List.Elements.All-from_recursion, Str.IsUtf8-from_ascii, Str.Ascii.IsAscii-from_all}
 use Rattle.json.proofs.Printed.Utf8.{are_ascii, IsUtf8-are_ascii}
-use Rattle.serde_json.specs.Data.{Data, boolean}
-use Rattle.serde_json.specs.View.{items_of}
-use Rattle.days_core.specs.Calendar.{month_of, year_of, month_in_year, day_in_month, month_year}
-use Rattle.days_core.specs.DayText.{two_digits, day_text, month_text}
-use Rattle.days_core.proofs.Bridge.{month_of_fits, days_in_bounds}
-use Rattle.days_core.proofs.DayTextLemmas.{day_from-day_text, month_from-month_text}
+use Rattle.serde_json.specs.{Data.Data, Data.boolean, View.items_of}
+use Rattle.days_core.specs.Calendar.{month_of, month_year}
+use Rattle.days_core.specs.DayText.{day_text, month_text}
+use Rattle.days_core.proofs.{Bridge.month_of_fits, Bridge.days_in_bounds, DayTextLemmas.day_from-day_text, DayTextLemmas.month_from-month_text}
 use Rattle.json_form.specs.Form.{◌>>=◌, fit, passing, bool_at, text_at, number_at, u32_at, day_at, month_at, items_from, count_of, array_at, array_if}
 use Rattle.json_form.specs.Written.{number_data, day_data, month_data, text_data, array_data}
-use Rattle.json_form.proofs.Texts.{text_data-text}
-use Rattle.json_form.proofs.Plain.{IsPlain, ArePlain}
+use Rattle.json_form.proofs.{Texts.text_data-text, Plain.IsPlain, Plain.ArePlain}
 
 -- what stands as that value, of that depth, is plain and is read again
 pub record Stands {A : Type 0} (depth : ℕ) (form : Data → Result A (List ℕ)) (d : Data) (x : A) : Type 0 where
@@ -47,22 +41,12 @@ number n x h = below n 4294967295 x (le-leb x 4294967295 (omega arith)) (omega a
 abbrev AreAscii : List ℕ → Type 0
 AreAscii bytes = AllByRecursion (λ byte. byte < 128) bytes
 
-two_digits-before : (number : ℕ) (rest : List ℕ) → number < 100 → AreAscii rest → AreAscii (two_digits number ++ rest)
-two_digits-before number rest h others = (omega arith, (omega arith, others))
-
 pub day_text-is_utf8 : (day : ℕ) → day ≤ 116877 → IsUtf8 (day_text day)
 day_text-is_utf8 day h =
     let fits = month_of_fits day h in
     let short = days_in_bounds (month_of day) in
-    let dash : 45 < 128 = omega arith in
-    let day_part = 45 ∷ two_digits (day_in_month day) in
-    let month_part = 45 ∷ two_digits (month_in_year day) ++ day_part in
-    let last_part = two_digits (year_of day % 100) ++ month_part in
-    let in_day : AreAscii day_part = (dash, two_digits-before (day_in_month day) [] (omega (arith, fits.begun, fits.ends, short.1)) tt) in
-    let in_month : AreAscii month_part = (dash, two_digits-before (month_in_year day) day_part (omega arith) in_day) in
-    let in_last = two_digits-before (year_of day % 100) month_part (omega arith) in_month in
-    let in_all = two_digits-before (year_of day / 100) last_part (omega (arith, fits.month_in)) in_last in
-    IsUtf8-from_ascii (day_text day) (IsAscii-from_all (day_text day) (All-from_recursion (λ byte. byte < 128) (day_text day) in_all))
+    let each : AreAscii (day_text day) = omega (arith, fits.begun, fits.ends, fits.month_in, short.1) in
+    IsUtf8-from_ascii (day_text day) (IsAscii-from_all (day_text day) (All-from_recursion (λ byte. byte < 128) (day_text day) each))
 
 pub day : (n x : ℕ) → x ≤ 116877 → Stands n day_at (day_data x) x
 unfolding day_at day_data
@@ -71,7 +55,7 @@ day n x h = record { again = ap fit (day_from-day_text x h); plain = day_text-is
 month_text-is_utf8 : (month : ℕ) → month ≤ 3839 → IsUtf8 (month_text month)
 month_text-is_utf8 month h =
     let year : month_year month ≤ 2199 = omega arith in
-    let each : AreAscii (month_text month) = (omega arith, (omega arith, (omega arith, (omega arith, (omega arith, (omega arith, (omega arith, tt))))))) in
+    let each : AreAscii (month_text month) = omega arith in
     IsUtf8-from_ascii (month_text month) (IsAscii-from_all (month_text month) (All-from_recursion (λ byte. byte < 128) (month_text month) each))
 
 pub month : (n x : ℕ) → x ≤ 3839 → Stands n month_at (month_data x) x
@@ -93,22 +77,13 @@ tested n form test d x h passes = record { again = rw (h.again, passes) refl; pl
 abbrev RowsStand : {A : Type 0} → ℕ → (Data → Result A (List ℕ)) → (A → Data) → List A → Type 0
 RowsStand depth form write rows = AllByRecursion (λ row. Stands depth form (write row) row) rows
 
-passing_stand : {A : Type 0} (n : ℕ) (form : Data → Result A (List ℕ)) (write : A → Data) (test : A → Bool) → ((x : A) → test x ≡ true → Stands n form (write x) x)
-    → (rows : List A) → list_all test rows ≡ true → RowsStand n form write rows
-passing_stand n form write test each [] h = tt
-passing_stand n form write test each (row ∷ rows) h =
-    let both = and_parts (test row) (list_all test rows) h in
-    (each row both.0, passing_stand n form write test each rows both.1)
-
-items_again : {A : Type 0} (n : ℕ) (form : Data → Result A (List ℕ)) (write : A → Data) (index : ℕ) (rows : List A)
-    → RowsStand n form write rows → items_from form index (items_of (map write rows)) ≡ Ok rows
+items_stand : {A : Type 0} (n : ℕ) (form : Data → Result A (List ℕ)) (write : A → Data) (index : ℕ) (rows : List A) → RowsStand n form write rows
+    → (items_from form index (items_of (map write rows)) ≡ Ok rows) × ArePlain n (items_of (map write rows))
 unfolding items_from
-items_again n form write index [] stand = refl
-items_again n form write index (row ∷ rows) stand = rw (stand.0.again, items_again n form write (index + 1) rows stand.1) refl
-
-items_plain : {A : Type 0} (n : ℕ) (form : Data → Result A (List ℕ)) (write : A → Data) (rows : List A) → RowsStand n form write rows → ArePlain n (items_of (map write rows))
-items_plain n form write [] stand = tt
-items_plain n form write (row ∷ rows) stand = (stand.0.plain, items_plain n form write rows stand.1)
+items_stand n form write index [] stand = (refl, tt)
+items_stand n form write index (row ∷ rows) stand =
+    let others = items_stand n form write (index + 1) rows stand.1 in
+    (rw (stand.0.again, others.0) refl, (stand.0.plain, others.1))
 
 count_as_length : {A : Type 0} (write : A → Data) (rows : List A) → count_of (items_of (map write rows)) ≡ length rows
 count_as_length write [] = refl
@@ -120,7 +95,7 @@ pub array : {A : Type 0} (n : ℕ) (form : Data → Result A (List ℕ)) (write 
 unfolding array_at array_data
 array n form write Fits each rows fit =
     let stand : RowsStand n form write rows = recursion_from_All (λ row. Stands n form (write row) row) rows (λ k d h. each _ (fit k d h)) in
-    record { again = items_again n form write 0 rows stand; plain = items_plain n form write rows stand }
+    let items = items_stand n form write 0 rows stand in record { again = items.0; plain = items.1 }
 
 -- the rows of which each passes a test, where their number does
 pub array_passing : {A : Type 0} (n : ℕ) (form : Data → Result A (List ℕ)) (write : A → Data) (test : A → Bool) → ((x : A) → test x ≡ true → Stands n form (write x) x)
@@ -128,5 +103,6 @@ pub array_passing : {A : Type 0} (n : ℕ) (form : Data → Result A (List ℕ))
 unfolding array_if array_data
 array_passing n form write test each fits rows h =
     let both = and_parts (fits (length rows)) (list_all test rows) h in
-    let stand = passing_stand n form write test each rows both.1 in
-    record { again = rw (count_as_length write rows, both.0) (items_again n form write 0 rows stand); plain = items_plain n form write rows stand }
+    let stand : RowsStand n form write rows =
+    recursion_from_All (λ row. Stands n form (write row) row) rows (λ k d h. each _ (AllPass-from_list_all test rows both.1 k d h)) in
+    let items = items_stand n form write 0 rows stand in record { again = rw (count_as_length write rows, both.0) items.0; plain = items.1 }

@@ -4,14 +4,12 @@
 -- the value. The whole of a value comes before its parts, and its parts in the order in which the form names
 -- them.
 use Rattle.std.specs.Prelude.{ℕ, suc, ◌+◌, ◌&&◌, ◌||◌, ◌==◌, nat_le, Bool, false, not, if◌then◌else◌, List, [], ◌∷◌, Option, Some, None, option_and_then, Result, Ok, Err, ⊤, codes, bytes_eq}
-use Rattle.std.specs.List.{list_any}
-use Rattle.std.specs.Str.{is_utf8}
+use Rattle.std.specs.{List.list_any, Str.is_utf8}
 use Rattle.serde_json.specs.Data.{Data, Items, no_items, item, Members, no_members, member}
 use Rattle.serde_json.specs.Find.{get, as_bool, as_number, as_str, as_array, as_object, as_u64}
 use Rattle.serde_json.specs.Read.{read}
 use Rattle.days_core.specs.DayText.{day_from, month_from}
-use Rattle.json_form.specs.Path.{position, joined}
-use Rattle.json_form.specs.Written.{names_of}
+use Rattle.json_form.specs.{Path.position, Path.joined, Written.names_of}
 
 -- one reading after the other: the first that fails is what fails
 infixl 10 ◌>>=◌

@@ -2,8 +2,7 @@
 use Rattle.std.specs.Prelude.{ℕ, ℤ, if◌then◌else◌, List, [], ◌∷◌, map, Option, Some, None, codes}
 use Rattle.std.specs.Str.{is_utf8}
 use Rattle.serde_json.specs.Data.{Data, null, number, unsigned, string, array, object, Members, no_members, member}
-use Rattle.serde_json.specs.Find.{of_integer}
-use Rattle.serde_json.specs.View.{items_of}
+use Rattle.serde_json.specs.{Find.of_integer, View.items_of}
 use Rattle.days_core.specs.DayText.{day_text, month_text}
 
 -- a number, without fraction or exponent

@@ -3,22 +3,11 @@ use Rattle.std.specs.Prelude.{ℕ, ℤ, List, Option, Some, None, codes}
 use Rattle.serde_json.specs.Data.{Data, null, boolean, string, object, member, no_members}
 use Rattle.serde_json.specs.Written.{compact_text}
 use Rattle.json_form.specs.Written.{number_data, amount_data, day_data, month_data, text_data, or_null, array_data}
-use Rattle.record_history.specs.declared.records.Kind.{Kind}
-use Rattle.record_history.specs.declared.records.Kind.TheVariants as kind
-use Rattle.record_history.specs.declared.records.Dates.{Dates}
-use Rattle.record_history.specs.declared.records.Record.{Record}
+use Rattle.record_history.specs.declared.records.{Kind.Kind, Dates.Dates, Record.Record}
 use Rattle.voucher_core.specs.declared.line.Line.{Line}
 use Rattle.wait_list.specs.declared.ask.Candidate.{Candidate}
-use Rattle.office_answers.specs.declared.answer.HouseholdSummary.{HouseholdSummary}
-use Rattle.office_answers.specs.declared.answer.Voucher.{Voucher}
-use Rattle.office_answers.specs.declared.answer.DueDay.{DueDay}
-use Rattle.office_answers.specs.declared.answer.Admissions.{Admissions}
-use Rattle.office_answers.specs.declared.answer.Answer.{Answer}
-use Rattle.office_answers.specs.declared.answer.Answer.TheVariants as answer
-use Rattle.office_answers.specs.declared.answer.Asked.{Asked}
-use Rattle.office_answers.specs.declared.answer.Asked.TheVariants as asked
-use Rattle.json_front.specs.Values.{candidate_data}
-use Rattle.json_front.specs.Refusals.{refusal_data, failure_data}
+use Rattle.office_answers.specs.declared.answer.{HouseholdSummary.HouseholdSummary, Voucher.Voucher, DueDay.DueDay, Admissions.Admissions, Answer.Answer, Asked.Asked}
+use Rattle.json_front.specs.{Values.candidate_data, Refusals.refusal_data, Refusals.failure_data}
 
 -- ---- households and records
 
@@ -30,15 +19,15 @@ household_data summary = object (
     member (codes "newest") (number_data summary.newest) no_members))))
 
 abbrev pub kind_word : Kind → List ℕ
-kind_word kind.MI = codes "MI"
-kind_word kind.IC = codes "IC"
-kind_word kind.AR = codes "AR"
-kind_word kind.IR = codes "IR"
-kind_word kind.GR = codes "GR"
-kind_word kind.UT = codes "UT"
-kind_word kind.MO = codes "MO"
-kind_word kind.TM = codes "TM"
-kind_word kind.WD = codes "WD"
+kind_word Kind.MI = codes "MI"
+kind_word Kind.IC = codes "IC"
+kind_word Kind.AR = codes "AR"
+kind_word Kind.IR = codes "IR"
+kind_word Kind.GR = codes "GR"
+kind_word Kind.UT = codes "UT"
+kind_word Kind.MO = codes "MO"
+kind_word Kind.TM = codes "TM"
+kind_word Kind.WD = codes "WD"
 
 abbrev pub dates_data : Dates → Data
 dates_data dates = object (
@@ -91,19 +80,10 @@ voucher_data None = object (member (codes "voucher") null no_members)
 
 -- ---- the other answers
 
-abbrev pub next_data : Option Candidate → Data
-next_data next = object (member (codes "next") (or_null candidate_data next) no_members)
-
-abbrev pub paid_data : ℤ → Data
-paid_data paid = object (member (codes "paid") (amount_data paid) no_members)
-
 abbrev pub due_day_data : DueDay → Data
 due_day_data due = object (
     member (codes "due") (day_data due.day) (
     member (codes "household") (number_data due.household) no_members))
-
-abbrev pub due_data : List DueDay → Data
-due_data due = object (member (codes "due") (array_data due_day_data due) no_members)
 
 abbrev pub targets_data : Admissions → Data
 targets_data targets = object (
@@ -116,13 +96,13 @@ targets_data targets = object (
 -- ---- answers
 
 abbrev pub answer_data : Answer → Data
-answer_data (answer.Household summary) = household_data summary
-answer_data (answer.Record r) = record_data r
-answer_data (answer.Next next) = next_data next
-answer_data (answer.Voucher voucher) = voucher_data voucher
-answer_data (answer.Paid paid) = paid_data paid
-answer_data (answer.Due due) = due_data due
-answer_data (answer.Targets targets) = targets_data targets
+answer_data (Answer.Household summary) = household_data summary
+answer_data (Answer.Record r) = record_data r
+answer_data (Answer.Next next) = object (member (codes "next") (or_null candidate_data next) no_members)
+answer_data (Answer.Voucher voucher) = voucher_data voucher
+answer_data (Answer.Paid paid) = object (member (codes "paid") (amount_data paid) no_members)
+answer_data (Answer.Due due) = object (member (codes "due") (array_data due_day_data due) no_members)
+answer_data (Answer.Targets targets) = targets_data targets
 
 -- the text of an answer
 abbrev pub answer_text : Answer → List ℕ
@@ -130,8 +110,8 @@ answer_text told = compact_text (answer_data told)
 
 -- why there is no answer: as any refusal
 abbrev pub asked_data : Asked → Data
-asked_data (asked.Refused why) = refusal_data why
-asked_data asked.NoMemory = failure_data (codes "NoMemory")
+asked_data (Asked.Refused why) = refusal_data why
+asked_data Asked.NoMemory = failure_data (codes "NoMemory")
 
 abbrev pub asked_text : Asked → List ℕ
 asked_text told = compact_text (asked_data told)

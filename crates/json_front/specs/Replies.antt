@@ -3,23 +3,20 @@ use Rattle.std.specs.Prelude.{ℕ, List, codes}
 use Rattle.serde_json.specs.Data.{Data, null, object, member, no_members}
 use Rattle.serde_json.specs.Written.{compact_text}
 use Rattle.json_form.specs.Written.{number_data, amount_data, day_data, month_data, bad_form_data}
-use Rattle.office_step.specs.declared.reply.Done.{Done}
-use Rattle.office_step.specs.declared.reply.Made.{Made}
-use Rattle.office_step.specs.declared.reply.Made.TheVariants as made
+use Rattle.office_step.specs.declared.reply.{Done.Done, Made.Made}
 use Rattle.office_answers.specs.declared.reply.Reply.{Reply}
-use Rattle.office_answers.specs.declared.reply.Reply.TheVariants as reply
 use Rattle.json_front.specs.Refusals.{refusal_data, failure_data}
 
 -- what an act made
 abbrev pub made_data : Made → Data
-made_data made.Nothing = null
-made_data (made.Unit unit) = object (member (codes "unit") (number_data unit) no_members)
-made_data (made.Applicant applicant) = object (member (codes "applicant") (number_data applicant) no_members)
-made_data (made.Closed amount lines month) = object (
+made_data Made.Nothing = null
+made_data (Made.Unit unit) = object (member (codes "unit") (number_data unit) no_members)
+made_data (Made.Applicant applicant) = object (member (codes "applicant") (number_data applicant) no_members)
+made_data (Made.Closed amount lines month) = object (
     member (codes "amount") (amount_data amount) (
     member (codes "lines") (number_data lines) (
     member (codes "month") (month_data month) no_members)))
-made_data (made.Certified assistance household target reimbursement tenant_rent ttp) = object (
+made_data (Made.Certified assistance household target reimbursement tenant_rent ttp) = object (
     member (codes "assistance") (number_data assistance) (
     member (codes "household") (number_data household) (
     member (codes "record") (number_data target) (
@@ -35,10 +32,10 @@ done_data done = object (
     member (codes "made") (made_data done.made) no_members)))
 
 abbrev pub reply_data : Reply → Data
-reply_data (reply.Accepted done) = done_data done
-reply_data (reply.Refused why) = refusal_data why
-reply_data reply.StoreFault = failure_data (codes "Store")
-reply_data reply.NoMemory = failure_data (codes "NoMemory")
+reply_data (Reply.Accepted done) = done_data done
+reply_data (Reply.Refused why) = refusal_data why
+reply_data Reply.StoreFault = failure_data (codes "Store")
+reply_data Reply.NoMemory = failure_data (codes "NoMemory")
 
 -- the text of a reply
 abbrev pub reply_text : Reply → List ℕ

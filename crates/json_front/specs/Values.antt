@@ -3,9 +3,8 @@ use Rattle.std.specs.Prelude.{codes}
 use Rattle.serde_json.specs.Data.{Data, object, member, no_members}
 use Rattle.json_form.specs.Written.{number_data}
 use Rattle.wait_list.specs.declared.ask.Candidate.{Candidate}
-use Rattle.wait_list.specs.declared.ask.Candidate.TheVariants as candidate
 
 -- an applicant or a household, by its number
 abbrev pub candidate_data : Candidate → Data
-candidate_data (candidate.Applicant applicant) = object (member (codes "applicant") (number_data applicant) no_members)
-candidate_data (candidate.Household household) = object (member (codes "household") (number_data household) no_members)
+candidate_data (Candidate.Applicant applicant) = object (member (codes "applicant") (number_data applicant) no_members)
+candidate_data (Candidate.Household household) = object (member (codes "household") (number_data household) no_members)

@@ -1,6 +1,6 @@
 ghost use Rattle.std.specs.Prelude.{◌≡◌, IfOk};
 ghost use Rattle.serde_json.specs.View.{view};
-ghost use Rattle.json_front.specs.Answers.{household_data, due_day_data, due_data, targets_data, answer_data, answer_text, asked_data, asked_text};
+ghost use Rattle.json_front.specs.Answers.{household_data, due_day_data, targets_data, answer_data, answer_text, asked_data, asked_text};
 
 use crate::record::record_value;
 use crate::refusal::{failure_value, refusal_value};

@@ -1,10 +1,8 @@
 -- What comes of a line that is held.
-use Rattle.std.proofs.Common.{◌≡◌, ℕ, List, [], ◌∷◌, ◌++◌, Some, None, ap, sym, ◌∙◌, append_assoc, IfSome, subst}
-use Rattle.std.specs.Prelude.{Option}
-use Rattle.std.specs.Io.KnownBytes.{Keeps, Consumes, prepend_known}
+use Rattle.std.proofs.Common.{◌≡◌, ℕ, List, [], ◌∷◌, ◌++◌, Some, None, ap, sym, ◌∙◌, append_assoc, IfSome}
+use Rattle.std.specs.{Prelude.Option, Io.KnownBytes.Keeps, Io.KnownBytes.Consumes, Io.KnownBytes.prepend_known}
 use Rattle.line_input.specs.Reading.{Reading, Comes, TakesHeld, BeginsLong}
 use Rattle.line_input.specs.declared.reader.Next.{Next}
-use Rattle.line_input.specs.declared.reader.Next.TheVariants as next
 
 -- the front of what is held is the front of what is left
 consumed : (start left : Option (List ℕ)) (old front rest : List ℕ) → Keeps start (prepend_known old left) → old ≡ front ++ rest
@@ -26,14 +24,11 @@ long-left most (Some y) held long = record {
 
 pub comes-held : (most : ℕ) (start left : Option (List ℕ)) (old new : Reading) (what : Next) → TakesHeld most old new what
     → Keeps start (prepend_known old.rest left) → Comes most start (prepend_known new.rest left) new what
-comes-held most start left old new next.Line held kept =
+comes-held most start left old new Next.Line held kept =
     (held.0, held.1, consumed start left old.rest (new.line ++ 10 ∷ []) new.rest kept (held.2 ∙ sym (append_assoc new.line (10 ∷ []) new.rest)))
-comes-held most start left old new next.TooLong held kept =
-    let same : new.rest ≡ old.rest = ap (λ (r : Reading). r.rest) held.0 in (
-      subst (λ rest. Keeps start (prepend_known rest left)) (sym same) kept,
-      subst (λ rest. IfSome (prepend_known rest left) (BeginsLong most)) (sym same) (long-left most left old.rest held.1),
-    )
-comes-held most start left old new next.Last held kept = absurd held
-comes-held most start left old new next.End held kept = absurd held
-comes-held most start left old new next.Failed held kept = absurd held
-comes-held most start left old new next.NoMemory held kept = absurd held
+comes-held most start left old new Next.TooLong held kept =
+    rw (held.0) (kept, long-left most left old.rest held.1)
+comes-held most start left old new Next.Last held kept = absurd held
+comes-held most start left old new Next.End held kept = absurd held
+comes-held most start left old new Next.Failed held kept = absurd held
+comes-held most start left old new Next.NoMemory held kept = absurd held

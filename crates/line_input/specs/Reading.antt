@@ -4,11 +4,7 @@
 use Rattle.std.specs.Prelude.{◌≡◌, ℕ, ◌<◌, ◌≤◌, false, Option, IfSome, List, [], ◌∷◌, ◌++◌, length, ⊤}
 use Rattle.std.specs.Io.KnownBytes.{Keeps, Consumes, IsAtEnd, prepend_known}
 use Rattle.office_io.specs.Outside.{Faulted}
-use Rattle.line_input.specs.declared.reader.Next.{Next}
-use Rattle.line_input.specs.declared.reader.Next.TheVariants as next
-use Rattle.line_input.specs.declared.more.More.{More}
-use Rattle.line_input.specs.declared.more.More.TheVariants as more
-use Rattle.line_input.specs.Lines.{has_end}
+use Rattle.line_input.specs.{declared.reader.Next.Next, declared.more.More.More, Lines.has_end}
 
 -- the line that it came to, and the bytes that it holds behind it
 pub record Reading : Type 0 where
@@ -26,46 +22,37 @@ pub record BeginsLong (most : ℕ) (bytes : List ℕ) : Type 0 where
 -- The next line and its end were at the front of what was left; or a last line without one; or nothing was left; or the
 -- next line is too long, or a read failed, and all is left as it was.
 abbrev pub Comes : ℕ → Option (List ℕ) → Option (List ℕ) → Reading → Next → Type 0
-Comes most old new reading next.Line =
+Comes most old new reading Next.Line =
     (has_end reading.line ≡ false) × (length reading.line ≤ most) × Consumes old new (reading.line ++ 10 ∷ [])
-Comes most old new reading next.Last =
+Comes most old new reading Next.Last =
     (has_end reading.line ≡ false) × (length reading.line ≤ most) × (0 < length reading.line) × Consumes old new reading.line × IsAtEnd new
-Comes most old new reading next.End = Keeps old new × IsAtEnd new
-Comes most old new reading next.TooLong = Keeps old new × IfSome new (BeginsLong most)
-Comes most old new reading next.Failed = Keeps old new × (has_end reading.rest ≡ false)
-Comes most old new reading next.NoMemory = ⊤
+Comes most old new reading Next.End = Keeps old new × IsAtEnd new
+Comes most old new reading Next.TooLong = Keeps old new × IfSome new (BeginsLong most)
+Comes most old new reading Next.Failed = Keeps old new × (has_end reading.rest ≡ false)
+Comes most old new reading Next.NoMemory = ⊤
 
 -- it fails only where the source counted a fault
 abbrev pub NextCause : ℕ → ℕ → Next → Type 0
-NextCause before now next.Line = now ≡ before
-NextCause before now next.Last = now ≡ before
-NextCause before now next.End = now ≡ before
-NextCause before now next.TooLong = now ≡ before
-NextCause before now next.Failed = Faulted before now
-NextCause before now next.NoMemory = now ≡ before
+NextCause before now Next.Failed = Faulted before now
+NextCause before now _ = now ≡ before
 
 -- ---- one read
 
 -- one read adds bytes to those that are held, or adds nothing
 abbrev pub Grows : Option (List ℕ) → Option (List ℕ) → List ℕ → List ℕ → More → Type 0
-Grows left left_now rest rest_now more.Bytes =
+Grows left left_now rest rest_now More.Bytes =
     (length rest < length rest_now) × Keeps (prepend_known rest left) (prepend_known rest_now left_now)
-Grows left left_now rest rest_now more.End = (rest_now ≡ rest) × Keeps left left_now × IsAtEnd left_now
-Grows left left_now rest rest_now more.Failed = (rest_now ≡ rest) × Keeps left left_now
-Grows left left_now rest rest_now more.NoMemory = ⊤
+Grows left left_now rest rest_now More.End = (rest_now ≡ rest) × Keeps left left_now × IsAtEnd left_now
+Grows left left_now rest rest_now More.Failed = (rest_now ≡ rest) × Keeps left left_now
+Grows left left_now rest rest_now More.NoMemory = ⊤
 
 abbrev pub MoreCause : ℕ → ℕ → More → Type 0
-MoreCause before now more.Bytes = now ≡ before
-MoreCause before now more.End = now ≡ before
-MoreCause before now more.Failed = Faulted before now
-MoreCause before now more.NoMemory = now ≡ before
+MoreCause before now More.Failed = Faulted before now
+MoreCause before now _ = now ≡ before
 
 -- the next line and its end are at the front of the bytes that are held, or the line is too long
 abbrev pub TakesHeld : ℕ → Reading → Reading → Next → Type 0
-TakesHeld most old new next.Line =
+TakesHeld most old new Next.Line =
     (has_end new.line ≡ false) × (length new.line ≤ most) × (old.rest ≡ new.line ++ 10 ∷ new.rest)
-TakesHeld most old new next.TooLong = (new ≡ old) × BeginsLong most old.rest
-TakesHeld most old new next.Last = ⊥
-TakesHeld most old new next.End = ⊥
-TakesHeld most old new next.Failed = ⊥
-TakesHeld most old new next.NoMemory = ⊥
+TakesHeld most old new Next.TooLong = (new ≡ old) × BeginsLong most old.rest
+TakesHeld most old new _ = ⊥

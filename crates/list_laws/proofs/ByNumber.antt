@@ -1,12 +1,8 @@
 -- The elements of one number, among those of earlier numbers and those of a later one.
 use Rattle.std.proofs.Common.{◌≡◌, ◌∙◌, ap, ap₂, ℕ, ◌<◌, ◌==◌, arith, Bool, true, false, List, ◌++◌, Option, All, filter, find, append-nil, eq-eqb}
 use Rattle.std.specs.Option.{option_or}
-use Rattle.std.proofs.lemmas.Bool.{ne_eqb}
-use Rattle.std.proofs.lemmas.List.Elements.{All-weaker, filter-append}
-use Rattle.std.proofs.lemmas.List.Folds.{find-append}
-use Rattle.list_laws.proofs.Filters.{filter_all, filter_none}
-use Rattle.list_laws.proofs.Finds.{find_fails}
-use Rattle.list_laws.proofs.Options.{option_or-none}
+use Rattle.std.proofs.lemmas.{Bool.ne_eqb, List.Elements.All-weaker, List.Elements.filter-append, List.Folds.find-append}
+use Rattle.list_laws.proofs.{Filters.filter_all, Filters.filter_none, Finds.find_fails, Options.option_or-none}
 
 module _ {X : Type 0} (n : X → ℕ) where
   abbrev of : ℕ → X → Bool

@@ -1,9 +1,8 @@
 -- What holds of the elements of a list, and where they stand.
 use Rattle.std.proofs.Common.{◌≡◌, ◌∙◌, sym, ap, refl, subst, subst₂, ℕ, zero, suc, ◌<◌, ◌≤◌, ◌-◌, ◌⊎◌, inl, inr, arith, List, [], ◌∷◌, ◌++◌, Some, length, length-append, append_assoc, map, slice_get, All, AllPairs, Contains, get_or, get_or-append-add, ◌+◌}
 use Rattle.std.specs.List.{flat_map}
-use Rattle.std.proofs.lemmas.Bool.{cases_lt}
+use Rattle.std.proofs.{lemmas.Bool.cases_lt, Math.ListN.get_or-map, Math.ListN.length-map}
 use Rattle.std.proofs.lemmas.List.{get_or_append_left, get_or-append_right, get_or_past, get_or_push}
-use Rattle.std.proofs.Math.ListN.{get_or-map, length-map}
 
 -- the element at a place is among all, or the one given for none
 pub All-place : {X : Type 0} (P : X → Type 0) (xs : List X) (place : ℕ) (d : X) → All P xs → P d → P (get_or xs place d)

@@ -1,11 +1,7 @@
 -- The first element that passes a test.
 use Rattle.std.proofs.Common.{◌≡◌, ◌∙◌, sym, ap, subst, ℕ, suc, ◌<◌, ◌≤◌, ◌&&◌, Bool, true, false, List, [], ◌∷◌, Some, None, length, get_or, refl, arith, find, slice_get, All, AllPairs, if◌then◌else◌, option_and_then}
-use Rattle.std.proofs.lemmas.Bool.{and_left, false_from_ne_true, false≢true}
-use Rattle.std.proofs.lemmas.List.Folds.{find_at}
-use Rattle.std.proofs.lemmas.List.Sums.{position_or_len_is}
-use Rattle.std.proofs.lemmas.Option.{slice_get-get_or}
+use Rattle.std.proofs.lemmas.{Bool.and_left, Bool.false_from_ne_true, Bool.false≢true, List.Folds.find_at, List.Sums.position_or_len_is, Option.slice_get-get_or, Grind.common_steps}
 use Rattle.std.proofs.lemmas.List.Elements.{All-nil, All-cons, All-head, All-tail}
-use Rattle.std.proofs.lemmas.Grind.{common_steps}
 
 -- where no element passes, none is found
 pub find_fails : {X : Type 0} (p : X → Bool) (xs : List X) → All (λ x. p x ≡ false) xs → find p xs ≡ None

@@ -1,8 +1,7 @@
 -- Options, and lists of what an option holds.
 use Rattle.std.proofs.Common.{◌≡◌, refl, arith, Option, Some, None, [], option_to_list, All, AllPairs, length, ◌≤◌, Bool, true, false, if◌then◌else◌, IfSome, not}
 use Rattle.std.specs.Option.{option_map, option_or}
-use Rattle.std.proofs.lemmas.List.Elements.{All-nil, All-cons}
-use Rattle.std.proofs.lemmas.Grind.{common_steps}
+use Rattle.std.proofs.lemmas.{List.Elements.All-nil, List.Elements.All-cons, Grind.common_steps}
 
 pub option_or-none : {X : Type 0} (o : Option X) → option_or o None ≡ o
 option_or-none o = grind (arith, common_steps)

@@ -1,7 +1,6 @@
 -- The numbers from one on, and one more.
 use Rattle.std.proofs.Common.{◌≡◌, ◌∙◌, ap, ℕ, zero, suc, ◌+◌, List, [], ◌∷◌, ◌++◌, append-nil, refl, add-one, arith}
-use Rattle.std.specs.Prelude.{sum_by}
-use Rattle.std.specs.List.{flat_map, range_with_len}
+use Rattle.std.specs.{Prelude.sum_by, List.flat_map, List.range_with_len}
 use Rattle.std.proofs.lemmas.List.Sums.{sum_by_push}
 use Rattle.list_laws.proofs.Elements.{flat_map-append}
 

@@ -1,37 +1,30 @@
 -- What holds of the rents of a unit, and of a record that is looked up.
-use Rattle.std.proofs.Common.{◌≡◌, ℕ, ◌≤◌, Bool, true, false, List, [], ◌∷◌, Option, Some, None, inl, inr, ◌-◌, ◌<◌, length, get_or, arith}
-use Rattle.std.specs.Prelude.{◌⊎◌, ◌==◌, All, IfSome, filter, find, option_and_then, if◌then◌else◌}
+use Rattle.std.proofs.Common.{◌≡◌, ℕ, Bool, true, false, List, [], ◌∷◌, Option, Some, None, arith}
+use Rattle.std.specs.Prelude.{All, IfSome, filter, find, option_and_then, if◌then◌else◌}
 use Rattle.std.specs.Option.{option_map}
-use Rattle.std.proofs.lemmas.Bool.{cases_lt}
-use Rattle.std.proofs.lemmas.Bool.Decides.{nat_tests}
+use Rattle.std.proofs.lemmas.{Bool.Decides.nat_tests}
 use Rattle.std.proofs.lemmas.List.Elements.{All-nil, All-filter, All-head, All-tail}
 use Rattle.row_choice.proofs.LatestLemmas.{latest-among}
-use Rattle.std.proofs.lemmas.List.{get_or_past}
-use Rattle.record_history.specs.declared.records.Record.{Record}
-use Rattle.record_history.specs.Held.{records_of}
+use Rattle.record_history.specs.{declared.records.Record.Record, Held.records_of}
+use Rattle.record_history.proofs.Latest.{records_are}
 use Rattle.office_register.specs.Registered.{HasDates}
-use Rattle.days_core.specs.declared.rents.Rents.{Rents}
-use Rattle.rent_table.specs.declared.rows.Unit.{Unit as UnitRow}
-use Rattle.rent_table.specs.declared.rows.RentRow.{RentRow}
+use Rattle.rent_table.specs.declared.rows.{Unit.Unit as UnitRow, RentRow.RentRow}
 use Rattle.rent_table.specs.Table.{unit_at, rents_before, rents_begin_by, rent_row_on, rents_on}
 use Rattle.due_dates.specs.Stale.{unit_rents_on}
 use Rattle.book_rows.specs.Fit.{are_rents}
 use Rattle.office_acts.specs.Judged.{AreWithin}
 
-are_within : (rents : Rents) → are_rents rents ≡ true → AreWithin rents
-are_within rents fit = record { contract_rent = grind (arith, nat_tests); utility = grind (arith, nat_tests) }
-
-of_row : (found : Option RentRow) → IfSome found (λ row. are_rents row.rents ≡ true) → IfSome (option_map (λ row. row.rents) found) AreWithin
-of_row None fit = tt
-of_row (Some row) fit = are_within row.rents fit
-
 of_unit : (rows : List RentRow) (day : ℕ) → All (λ row. are_rents row.rents ≡ true) rows → (unit : Option UnitRow) →
     IfSome (option_and_then (λ u. rents_on rows u.group day) unit) AreWithin
 of_unit rows day fit None = tt
 of_unit rows day fit (Some unit) =
-    of_row (rent_row_on rows unit.group day)
+    IfSome-map (rent_row_on rows unit.group day)
     (latest-among rents_before (λ (row : RentRow). are_rents row.rents ≡ true) None (filter (rents_begin_by unit.group day) rows) tt
     (All-filter (rents_begin_by unit.group day) (λ (row : RentRow). are_rents row.rents ≡ true) rows fit))
+  where
+    IfSome-map : (found : Option RentRow) → IfSome found (λ row. are_rents row.rents ≡ true) → IfSome (option_map (λ row. row.rents) found) AreWithin
+    IfSome-map None fit = tt
+    IfSome-map (Some row) fit = grind (arith, nat_tests)
 
 pub rents-within : (units : List UnitRow) (rows : List RentRow) (number day : ℕ) → All (λ row. are_rents row.rents ≡ true) rows →
     IfSome (unit_rents_on units rows number day) AreWithin
@@ -48,12 +41,4 @@ find-all P passes (item ∷ items) all =
 
 -- the records of each household have their dates in range
 pub dates-of : (households : List (List Record)) (household : ℕ) → All (All HasDates) households → All HasDates (records_of households household)
-dates-of households household dates =
-    elim (household == 0) as (λ b. All HasDates (if b then [] else get_or households (household - 1) [])) [
-      | true ↦ All-nil HasDates
-      | false ↦ by_place (cases_lt (household - 1) (length households))
-    ]
-  where
-    by_place : (household - 1 < length households) ⊎ (length households ≤ household - 1) → All HasDates (get_or households (household - 1) [])
-    by_place (inl within) = dates (household - 1) [] within
-    by_place (inr past) = rw (get_or_past households (household - 1) [] past) (All-nil HasDates)
+dates-of households household dates = records_are (All HasDates) households household dates (All-nil HasDates)

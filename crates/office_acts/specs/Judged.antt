@@ -1,17 +1,10 @@
 -- What an office answers to a command, and what holds of a record that an act makes.
 use Rattle.std.specs.Prelude.{ℕ, ◌≡◌, ◌≤◌, ◌+◌, ⊤, Option, Some, None, Result, Ok, Err, length, IfSome}
 use Rattle.days_core.specs.declared.rents.Rents.{Rents}
-use Rattle.record_history.specs.declared.records.Record.{Record}
-use Rattle.record_history.specs.Records.{newest_number}
-use Rattle.record_history.specs.Held.{IsWithin}
+use Rattle.record_history.specs.{declared.records.Record.Record, Records.newest_number, Held.IsWithin}
 use Rattle.book_rows.specs.declared.command.Command.{Command}
-use Rattle.book_rows.specs.declared.command.Command.TheVariants as command
-use Rattle.office_step.specs.declared.refusal.Refusal.{Refusal}
+use Rattle.office_step.specs.{declared.refusal.Refusal.Refusal, declared.heading.Heading.Heading, Households.AreBy, Made.Basis, Made.from_facts, Known.Known, Known.own_in}
 use Rattle.facts_core.specs.Rules.{broken_rule}
-use Rattle.office_step.specs.declared.heading.Heading.{Heading}
-use Rattle.office_step.specs.Households.{AreBy}
-use Rattle.office_step.specs.Made.{Basis, from_facts}
-use Rattle.office_step.specs.Known.{Known, own_in}
 use Rattle.office_register.specs.Registered.{HasDates}
 
 -- it is refused, or else makes that record or none
@@ -57,5 +50,5 @@ pub record IsReady (basis : Basis) (heading : Heading) : Type 0 where
 
 -- a closing is of that month or an earlier one
 abbrev pub ClosesBy : ℕ → Command → Type 0
-ClosesBy month (command.Close close) = close.month ≤ month
+ClosesBy month (Command.Close close) = close.month ≤ month
 ClosesBy month _ = ⊤

@@ -1,14 +1,10 @@
 -- A list that was sorted by its days, and that keeps the order of the items of one day, is that list day after day.
 use Rattle.std.proofs.Common.{◌≡◌, ◌∙◌, ◌⊎◌, inl, inr, sym, ap, ap₂, refl, ℕ, zero, suc, ◌+◌, ◌<◌, ◌≤◌, arith, Bool, true, false, List, [], ◌∷◌, ◌++◌, filter, All, cond, get_or, ltb}
 use Rattle.std.specs.Prelude.{◌==◌}
-use Rattle.std.specs.List.{range_with_len, flat_map}
+use Rattle.std.specs.{List.range_with_len, List.flat_map, Ordering.nat_cmp, Ordering.is_lt}
 use Rattle.std.specs.List.Sorted.{IsSortedByKey, IsStableByKey, IsNonDecreasingBy, ties}
-use Rattle.std.specs.Ordering.{nat_cmp, is_lt}
 use Rattle.std.proofs.lemmas.Bool.{cases_order, lt-ltb, le-ltb, eq-eqb, ne_eqb}
-use Rattle.std.proofs.lemmas.List.Concat.{flat_map-append}
-use Rattle.std.proofs.lemmas.List.{append-nil}
-use Rattle.std.proofs.lemmas.List.Elements.{All-head, All-tail, filter_agree}
-use Rattle.std.proofs.lemmas.List.Sorted.{IsNonDecreasingBy-from_sort}
+use Rattle.std.proofs.lemmas.List.{Concat.flat_map-append, append-nil, Elements.All-head, Elements.All-tail, Elements.filter_agree, Sorted.IsNonDecreasingBy-from_sort}
 use Rattle.voucher_core.proofs.Totals.{range-more}
 
 -- nothing is kept where nothing passes, and everything where everything does

@@ -1,12 +1,10 @@
 -- What is due of so many households, and of one more.
 use Rattle.std.proofs.Common.{◌≡◌, ◌∙◌, sym, ap, refl, ℕ, suc, ◌+◌, ◌≤◌, List, [], ◌∷◌, ◌++◌, Option, Some, None, arith, All, append-nil}
-use Rattle.std.specs.Prelude.{option_to_list}
-use Rattle.std.specs.List.{range_with_len, filter_map}
+use Rattle.std.specs.{Prelude.option_to_list, List.range_with_len, List.filter_map}
 use Rattle.std.proofs.lemmas.List.Elements.{filter_map-append, All-push}
 use Rattle.record_history.specs.declared.records.Record.{Record}
 use Rattle.voucher_core.proofs.Totals.{range-more}
-use Rattle.office_answers.specs.declared.answer.DueDay.{DueDay}
-use Rattle.office_answers.specs.DueList.{horizon, due_of}
+use Rattle.office_answers.specs.{declared.answer.DueDay.DueDay, DueList.horizon, DueList.due_of}
 
 one_of : {X : Type 0} (found : Option X) (f : ℕ → Option X) (place : ℕ) → f place ≡ found → filter_map f (place ∷ []) ≡ option_to_list found
 one_of None f place is = rw is refl

@@ -2,9 +2,7 @@
 use Rattle.std.specs.Prelude.{◌≡◌, ⊤, Option, Some, None, Result, Ok, Err}
 use Rattle.std.specs.Option.{option_map_or}
 use Rattle.office_step.specs.declared.refusal.Refusal.{Refusal}
-use Rattle.office_answers.specs.declared.answer.Answer.{Answer}
-use Rattle.office_answers.specs.declared.answer.Asked.{Asked}
-use Rattle.office_answers.specs.declared.answer.Asked.TheVariants as asked
+use Rattle.office_answers.specs.declared.answer.{Answer.Answer, Asked.Asked}
 
 -- the answer, unless it is refused
 abbrev pub unless : Option Refusal → Result Answer Refusal → Result Answer Refusal
@@ -18,5 +16,5 @@ answered make found refused = option_map_or (λ there. Ok (make there)) found (E
 -- the answer is the right one; want of memory says nothing
 abbrev pub Answers : Result Answer Refusal → Result Answer Asked → Type 0
 Answers right (Ok given) = right ≡ Ok given
-Answers right (Err (asked.Refused refused)) = right ≡ Err refused
-Answers right (Err asked.NoMemory) = ⊤
+Answers right (Err (Asked.Refused refused)) = right ≡ Err refused
+Answers right (Err Asked.NoMemory) = ⊤

@@ -1,19 +1,10 @@
 -- Which annual certifications are due, seen from a day (Handbook 4350.3, chapter 7, in outline; how far ahead: own rule).
 use Rattle.std.specs.Prelude.{ℕ, ◌+◌, ◌==◌, nat_le, not, if◌then◌else◌, Bool, false, Option, Some, None, option_and_then, Result, List, length, filter}
-use Rattle.std.specs.List.{range_with_len, filter_map, flat_map}
-use Rattle.std.specs.Option.{option_map_or}
-use Rattle.record_history.specs.declared.records.Record.{Record}
-use Rattle.record_history.specs.Records.{in_force}
-use Rattle.record_history.specs.Held.{records_of}
+use Rattle.std.specs.{List.range_with_len, List.filter_map, List.flat_map, Option.option_map_or}
+use Rattle.record_history.specs.{declared.records.Record.Record, Records.in_force, Held.records_of}
 use Rattle.due_dates.specs.Stale.{ends_assistance}
-use Rattle.office_step.specs.declared.refusal.Refusal.{Refusal}
-use Rattle.office_step.specs.declared.refusal.Refusal.TheVariants as refusal
-use Rattle.office_step.specs.Known.{Known}
-use Rattle.office_step.specs.Refusals.{annual_right}
-use Rattle.office_answers.specs.declared.answer.Answer.{Answer}
-use Rattle.office_answers.specs.declared.answer.Answer.TheVariants as answer
-use Rattle.office_answers.specs.declared.answer.DueDay.{DueDay}
-use Rattle.office_answers.specs.Answered.{answered}
+use Rattle.office_step.specs.{declared.refusal.Refusal.Refusal, Known.Known, Refusals.annual_right}
+use Rattle.office_answers.specs.{declared.answer.Answer.Answer, declared.answer.DueDay.DueDay, Answered.answered}
 
 -- the record in force on the day is there, and is neither a move-out nor a termination
 abbrev pub is_assisted_on : List Record → ℕ → Bool
@@ -50,4 +41,4 @@ abbrev pub due_list : List (List Record) → ℕ → List DueDay
 due_list households day = day_by_day (horizon day) (due_days households day)
 
 abbrev pub due_answer : Known → ℕ → Result Answer Refusal
-due_answer known day = answered (λ plan. answer.Due (due_list known.households day)) known.plan refusal.NoPlan
+due_answer known day = answered (λ plan. Answer.Due (due_list known.households day)) known.plan Refusal.NoPlan

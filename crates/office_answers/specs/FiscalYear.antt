@@ -2,16 +2,9 @@
 use Rattle.std.specs.Prelude.{ℕ, ◌+◌, ◌-◌, ◌*◌, ◌/◌, nat_le, if◌then◌else◌, Result}
 use Rattle.days_core.specs.Calendar.{month_of, first_of}
 use Rattle.rent_table.specs.declared.plan.Plan.{Plan}
-use Rattle.wait_list.specs.declared.targets.Targets.{Targets}
-use Rattle.wait_list.specs.Target.{is_target_open}
-use Rattle.office_step.specs.declared.refusal.Refusal.{Refusal}
-use Rattle.office_step.specs.declared.refusal.Refusal.TheVariants as refusal
-use Rattle.office_step.specs.Known.{Known}
-use Rattle.office_step.specs.Candidates.{targets_of}
-use Rattle.office_answers.specs.declared.answer.Answer.{Answer}
-use Rattle.office_answers.specs.declared.answer.Answer.TheVariants as answer
-use Rattle.office_answers.specs.declared.answer.Admissions.{Admissions}
-use Rattle.office_answers.specs.Answered.{answered}
+use Rattle.wait_list.specs.{declared.targets.Targets.Targets, Target.is_target_open}
+use Rattle.office_step.specs.{declared.refusal.Refusal.Refusal, Known.Known, Candidates.targets_of}
+use Rattle.office_answers.specs.{declared.answer.Answer.Answer, declared.answer.Admissions.Admissions, Answered.answered}
 
 -- the plan's fiscal month in the year of a month
 abbrev pub fiscal_month_in_year : Plan → ℕ → ℕ
@@ -39,4 +32,4 @@ admissions_by plan day targets = record {
 
 abbrev pub targets_answer : Known → ℕ → Result Answer Refusal
 targets_answer known day =
-    answered (λ plan. answer.Targets (admissions_by plan day (targets_of plan day known.households))) known.plan refusal.NoPlan
+    answered (λ plan. Answer.Targets (admissions_by plan day (targets_of plan day known.households))) known.plan Refusal.NoPlan

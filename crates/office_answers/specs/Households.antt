@@ -1,18 +1,8 @@
 -- What is asked of one household.
 use Rattle.std.specs.Prelude.{ℕ, Result, Ok, List, [], map, unwrap_or}
-use Rattle.record_history.specs.declared.records.Record.{Record}
-use Rattle.record_history.specs.Records.{live_records, newest_number}
-use Rattle.office_step.specs.declared.refusal.Named.TheVariants as named
-use Rattle.office_step.specs.declared.refusal.Refusal.{Refusal}
-use Rattle.office_step.specs.declared.refusal.Refusal.TheVariants as refusal
-use Rattle.office_step.specs.Acts.{at_number}
-use Rattle.office_step.specs.Known.{Known, own_in}
-use Rattle.office_step.specs.Households.{record_at}
-use Rattle.office_step.specs.Against.{no_household}
-use Rattle.office_answers.specs.declared.answer.Answer.{Answer}
-use Rattle.office_answers.specs.declared.answer.Answer.TheVariants as answer
-use Rattle.office_answers.specs.declared.answer.HouseholdSummary.{HouseholdSummary}
-use Rattle.office_answers.specs.Answered.{unless, answered}
+use Rattle.record_history.specs.{declared.records.Record.Record, Records.live_records, Records.newest_number}
+use Rattle.office_step.specs.{declared.refusal.Refusal.Refusal, Acts.at_number, Known.Known, Known.own_in, Households.record_at, Against.no_household, declared.refusal.Named.Named}
+use Rattle.office_answers.specs.{declared.answer.Answer.Answer, declared.answer.HouseholdSummary.HouseholdSummary, Answered.unless, Answered.answered}
 
 -- the household's name, and the empty one where there is no such household
 abbrev pub name_in : Known → ℕ → List ℕ
@@ -32,9 +22,9 @@ summary_of known household = record {
 
 -- the summary of a household that there is
 abbrev pub household_answer : Known → ℕ → Result Answer Refusal
-household_answer known household = unless (no_household known household) (Ok (answer.Household (summary_of known household)))
+household_answer known household = unless (no_household known household) (Ok (Answer.Household (summary_of known household)))
 
 -- a record of a household that there is, whether or not it counts
 abbrev pub record_answer : Known → ℕ → ℕ → Result Answer Refusal
 record_answer known household number =
-    unless (no_household known household) (answered answer.Record (record_at (own_in known household) number) (refusal.NoSuch named.Record number))
+    unless (no_household known household) (answered Answer.Record (record_at (own_in known household) number) (Refusal.NoSuch Named.Record number))

@@ -1,16 +1,9 @@
 -- What was requested for a month, and what was paid (form HUD-52670 in outline).
 use Rattle.std.specs.Prelude.{ℕ, ◌==◌, ◌&&◌, nat_le, not, if◌then◌else◌, Bool, false, Option, Some, None, Result, Ok, List, filter}
 use Rattle.rent_table.specs.declared.plan.Plan.{Plan}
-use Rattle.voucher_core.specs.declared.line.Line.{Line}
-use Rattle.voucher_core.specs.Lines.{total, paid}
-use Rattle.office_step.specs.declared.known.Closed.{Closed}
-use Rattle.office_step.specs.declared.refusal.Refusal.{Refusal}
-use Rattle.office_step.specs.Known.{Known}
-use Rattle.office_step.specs.Against.{no_household}
-use Rattle.office_answers.specs.declared.answer.Answer.{Answer}
-use Rattle.office_answers.specs.declared.answer.Answer.TheVariants as answer
-use Rattle.office_answers.specs.declared.answer.Voucher.{Voucher}
-use Rattle.office_answers.specs.Answered.{unless}
+use Rattle.voucher_core.specs.{declared.line.Line.Line, Lines.total, Lines.paid}
+use Rattle.office_step.specs.{declared.known.Closed.Closed, declared.refusal.Refusal.Refusal, Known.Known, Against.no_household}
+use Rattle.office_answers.specs.{declared.answer.Answer.Answer, declared.answer.Voucher.Voucher, Answered.unless}
 
 -- the month is closed: it lies between the plan's first and the last that was closed
 abbrev pub is_closed : Option Plan → Option Closed → ℕ → Bool
@@ -40,8 +33,8 @@ voucher_of month lines = record {
 -- the voucher of a month that is closed
 abbrev pub voucher_answer : Known → List Line → ℕ → Result Answer Refusal
 voucher_answer known lines month =
-    Ok (answer.Voucher (if is_closed known.plan known.closing month then Some (voucher_of month lines) else None))
+    Ok (Answer.Voucher (if is_closed known.plan known.closing month then Some (voucher_of month lines) else None))
 
 -- what all lines pay a household that there is for the month
 abbrev pub paid_answer : Known → List Line → ℕ → ℕ → Result Answer Refusal
-paid_answer known lines household month = unless (no_household known household) (Ok (answer.Paid (paid household month lines)))
+paid_answer known lines household month = unless (no_household known household) (Ok (Answer.Paid (paid household month lines)))

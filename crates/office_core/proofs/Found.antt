@@ -2,8 +2,7 @@
 use Rattle.std.proofs.Common.{◌≡◌, ◌≤◌, ◌+◌, ◌-◌, ℕ, zero, suc, List, [], ◌∷◌, length, Option, Some, None, ap, sym, arith, slice_get}
 use Rattle.std.specs.Prelude.{Bool, All, Contains, IfSome, find, filter}
 use Rattle.std.specs.Option.{option_map_or}
-use Rattle.std.proofs.lemmas.List.Elements.{Contains-get_or}
-use Rattle.std.proofs.lemmas.List.Sums.{length-filter, count_by-le-length}
+use Rattle.std.proofs.lemmas.List.{Elements.Contains-get_or, Sums.length-filter, Sums.count_by-le-length}
 use Rattle.book_rows.specs.declared.rows.ActRow.{ActRow}
 use Rattle.office_step.specs.Step.{last_act_day}
 use Rattle.office_laws.proofs.Tried.{find_holds}

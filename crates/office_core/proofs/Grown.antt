@@ -1,28 +1,13 @@
 -- An office once the rows of one more act are there.
-use Rattle.std.proofs.Common.{◌≡◌, ◌∙◌, ◌≤◌, ◌<◌, ℕ, List, [], ◌∷◌, ◌++◌, length, Option, Some, None, ap, sym, subst, refl, arith, append-nil}
+use Rattle.std.proofs.Common.{◌≡◌, ◌≤◌, ◌<◌, ℕ, List, [], ◌∷◌, ◌++◌, length, Option, Some, None, sym, subst, refl, arith, append-nil}
 use Rattle.std.specs.Prelude.{All, IfSome, option_to_list}
-use Rattle.std.proofs.lemmas.List.{get_or_push, length_push}
-use Rattle.std.proofs.lemmas.List.Elements.{All-push}
-use Rattle.std.proofs.lemmas.Bool.{and_parts}
-use Rattle.record_history.specs.declared.records.Record.{Record}
-use Rattle.record_history.specs.Held.{IsWithin}
-use Rattle.book_rows.specs.declared.rows.ActRow.{ActRow}
-use Rattle.book_rows.specs.declared.rows.Batch.{Batch}
-use Rattle.book_rows.specs.declared.command.Command.{Command}
-use Rattle.book_rows.specs.Fit.{is_fit}
-use Rattle.book_rows.specs.Book.{Book, appended}
-use Rattle.row_index.specs.declared.index.Entry.{Entry}
-use Rattle.row_index.specs.Index.{index_of, with_entry, request_key}
-use Rattle.row_index.specs.Laws.{IndexGrows}
+use Rattle.std.proofs.lemmas.{List.get_or_push, List.length_push, List.Elements.All-push, Bool.and_parts}
+use Rattle.record_history.specs.{declared.records.Record.Record, Held.IsWithin}
+use Rattle.book_rows.specs.{declared.rows.ActRow.ActRow, declared.rows.Batch.Batch, Fit.is_fit, Book.Book, Book.appended}
+use Rattle.row_index.specs.{declared.index.Entry.Entry, Index.index_of, Index.with_entry, Index.request_key, Laws.IndexGrows}
 use Rattle.book_search.specs.Requests.{act_key}
-use Rattle.office_step.specs.declared.call.Capacity.{Capacity}
-use Rattle.office_step.specs.Acts.{name_given}
-use Rattle.office_step.specs.Known.{Known, known_of}
-use Rattle.office_step.specs.After.{known_after}
-use Rattle.office_step.specs.Step.{IsAppended, IsReached, reached_more}
-use Rattle.office_laws.specs.Accepted.{Accepted, AppendedIsAccepted}
-use Rattle.office_laws.specs.Kept.{BooksAreKept, IsOfOffice}
-use Rattle.office_laws.specs.After.{KnownAfter}
+use Rattle.office_step.specs.{declared.call.Capacity.Capacity, Known.Known, Known.known_of, After.known_after, Step.IsAppended, Step.IsReached, Step.reached_more}
+use Rattle.office_laws.specs.{Accepted.Accepted, Accepted.AppendedIsAccepted, Kept.BooksAreKept, Kept.IsOfOffice, After.KnownAfter}
 use Rattle.office_register.specs.Accepted.{IsAccepted}
 use Rattle.office_core.specs.Planned.{Planned, IsPlannedFor}
 
@@ -40,8 +25,7 @@ lived capacity book rows kept reached appends =
 pub accepted_next : (capacity : Capacity) (book : Book) (step : Planned) (known : Known) → capacity.acts ≤ 100000 → IsReached capacity book → known ≡ known_of book →
     IsPlannedFor capacity book step → AppendedIsAccepted → BooksAreKept → IsAccepted known step.asked step.rows.made
 accepted_next capacity book step known few reached same planned law kept =
-    subst (λ (k : Known). IsAccepted k step.asked step.rows.made) (sym same)
-    (subst (λ (asked : Command). IsAccepted (known_of book) asked step.rows.made) planned.asked (record {
+    rw (same, ← planned.asked) (record {
       most = capacity.acts;
       today = step.rows.act.day;
       few = few;
@@ -49,24 +33,16 @@ accepted_next capacity book step known few reached same planned law kept =
       fit = (and_parts _ (is_fit planned.appends.call.command) (and_parts _ _ planned.appends.fit).1).1;
       free = accepted.is_allowed;
       is_made = accepted.made;
-    }))
+    })
   where
     accepted : Accepted capacity book planned.appends.call step.rows
     accepted = law capacity book step.rows planned.appends
-
-pub named_next : (book : Book) (name : Option (List ℕ)) (asked : Command) (known : Known) → known ≡ known_of book →
-    name ≡ name_given (known_of book).applications asked → name ≡ name_given known.applications asked
-named_next book name asked known same named = named ∙ ap (λ (k : Known). name_given k.applications asked) (sym same)
 
 -- what is known after the act is what the longer book gives
 pub known_next : (capacity : Capacity) (book longer : Book) (step : Planned) (known after : Known) → IsReached capacity book → known ≡ known_of book →
     IsPlannedFor capacity book step → KnownAfter → longer ≡ appended book step.rows → after ≡ known_after known step.asked step.rows.made → after ≡ known_of longer
 known_next capacity book longer step known after reached same planned law long is =
-    is
-    ∙ ap (λ (k : Known). known_after k step.asked step.rows.made) same
-    ∙ ap (λ (asked : Command). known_after (known_of book) asked step.rows.made) (sym planned.asked)
-    ∙ sym (law capacity book step.rows reached planned.appends)
-    ∙ ap known_of (sym long)
+    rw (is, same, long, law capacity book step.rows reached planned.appends, planned.asked) refl
 
 pub records_next : (records : List Record) (made : Option Record) → All IsWithin records → IfSome made IsWithin → All IsWithin (records ++ option_to_list made)
 records_next records None all within = subst (All IsWithin) (sym (append-nil records)) all
@@ -76,10 +52,4 @@ records_next records (Some r) all within = All-push IsWithin records r all withi
 pub indexed_next : (book longer : Book) (rows : Batch) (entries more : List Entry) (key place : ℕ) → entries ≡ index_of act_key book.acts → IndexGrows ActRow →
     longer ≡ appended book rows → key ≡ request_key rows.act.clerk rows.act.request → place ≡ length book.acts →
     more ≡ with_entry entries (record { key = key; place = place }) → more ≡ index_of act_key longer.acts
-indexed_next book longer rows entries more key place same law long is stands added =
-    added
-    ∙ ap (λ (es : List Entry). with_entry es (record { key = key; place = place })) same
-    ∙ ap (λ (k : ℕ). with_entry (index_of act_key book.acts) (record { key = k; place = place })) is
-    ∙ ap (λ (p : ℕ). with_entry (index_of act_key book.acts) (record { key = act_key rows.act; place = p })) stands
-    ∙ sym (law act_key book.acts rows.act)
-    ∙ ap (λ (b : Book). index_of act_key b.acts) (sym long)
+indexed_next book longer rows entries more key place same law long is stands added = rw (added, same, is, stands, long, law act_key book.acts rows.act) refl

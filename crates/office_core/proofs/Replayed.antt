@@ -1,14 +1,11 @@
 -- Acts of tables that are done again.
-use Rattle.std.proofs.Common.{◌≡◌, ◌<◌, ◌+◌, ℕ, zero, suc, List, [], ◌∷◌, get_or, ap, arith, length, Option, Some, None, sym, slice_get}
-use Rattle.book_rows.specs.declared.rows.ActRow.{ActRow}
-use Rattle.book_rows.specs.declared.rows.Batch.{Batch}
-use Rattle.book_rows.specs.Book.{Book}
+use Rattle.std.proofs.Common.{◌≡◌, ◌∙◌, ◌<◌, ◌+◌, ℕ, List, get_or, ap, length, Option, Some, None, sym, slice_get}
+use Rattle.std.proofs.lemmas.Option.{slice_get-get_or}
+use Rattle.book_rows.specs.{declared.rows.ActRow.ActRow, declared.rows.Batch.Batch, Book.Book}
 use Rattle.office_step.specs.declared.call.Capacity.{Capacity}
 use Rattle.office_step.specs.Valid.{replayed, difference, with_rows, first_fault}
 use Rattle.book_replay.specs.Replay.{IsReplayed, ReplayGoesOn, ReplayStops}
-use Rattle.office_core.specs.declared.opening.OpenFault.{OpenFault}
-use Rattle.office_core.specs.declared.opening.OpenFault.TheVariants as opening
-use Rattle.office_core.specs.Opening.{IsNamed}
+use Rattle.office_core.specs.{declared.opening.OpenFault.OpenFault, Opening.IsNamed}
 
 -- one act more
 pub goes_on : (capacity : Capacity) (tables book : Book) (count : ℕ) (row : ActRow) (found : Option Batch) → ReplayGoesOn → IsReplayed capacity tables count book →
@@ -21,11 +18,9 @@ goes_on capacity tables book count row (Some rows) law kept is again none = law 
 pub stops : (capacity : Capacity) (tables book : Book) (count : ℕ) (row : ActRow) (fault : OpenFault) → ReplayStops →
     IsReplayed capacity tables count book → slice_get tables.acts count ≡ Some row →
     IsNamed (difference tables row (replayed capacity book row)) fault → IsNamed (first_fault capacity tables) fault
-stops capacity tables book count row (opening.BadBook fault) law kept is named = law capacity tables count book row fault kept is named
-stops capacity tables book count row opening.NoMemory law kept is named = record {}
+stops capacity tables book count row (OpenFault.BadBook fault) law kept is named = law capacity tables count book row fault kept is named
+stops capacity tables book count row OpenFault.NoMemory law kept is named = record {}
 
 -- the row at a place
 pub there : {X : Type 0} (xs : List X) (place : ℕ) (x : X) → place < length xs → x ≡ get_or xs place x → slice_get xs place ≡ Some x
-there [] place x within is = absurd (omega arith)
-there (y ∷ ys) zero x within is = ap Some (sym is)
-there (y ∷ ys) (suc place) x within is = there ys place x (omega arith) is
+there xs place x within is = slice_get-get_or xs place x within ∙ ap Some (sym is)

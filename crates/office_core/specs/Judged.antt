@@ -3,20 +3,16 @@ use Rattle.std.specs.Prelude.{◌≡◌, ⊤, Result, Ok, Err}
 use Rattle.book_rows.specs.Book.{Book}
 use Rattle.office_step.specs.declared.call.Capacity.{Capacity}
 use Rattle.office_step.specs.Step.{Outcome, again, refused, appends}
-use Rattle.office_core.specs.declared.judged.Judged.{Judged}
-use Rattle.office_core.specs.declared.judged.Judged.TheVariants as judged
-use Rattle.office_core.specs.declared.judged.Judgment.{Judgment}
-use Rattle.office_core.specs.declared.judged.Judgment.TheVariants as judgment
-use Rattle.office_core.specs.Planned.{IsPlannedFor}
+use Rattle.office_core.specs.{declared.judged.Judged.Judged, declared.judged.Judgment.Judgment, Planned.IsPlannedFor}
 
 -- the answer is what the office does; want of memory says nothing
 abbrev pub Judges : Outcome → Result Judged Judgment → Type 0
-Judges outcome (Ok (judged.Repeat done)) = outcome ≡ again done
-Judges outcome (Ok (judged.New step)) = outcome ≡ appends step.rows
-Judges outcome (Err (judgment.Refused refusal)) = outcome ≡ refused refusal
-Judges outcome (Err judgment.NoMemory) = ⊤
+Judges outcome (Ok (Judged.Repeat done)) = outcome ≡ again done
+Judges outcome (Ok (Judged.New step)) = outcome ≡ appends step.rows
+Judges outcome (Err (Judgment.Refused refusal)) = outcome ≡ refused refusal
+Judges outcome (Err Judgment.NoMemory) = ⊤
 
 -- a new step is planned for the office
 abbrev pub PlansFor : Capacity → Book → Judged → Type 0
-PlansFor capacity book (judged.Repeat done) = ⊤
-PlansFor capacity book (judged.New step) = IsPlannedFor capacity book step
+PlansFor capacity book (Judged.Repeat done) = ⊤
+PlansFor capacity book (Judged.New step) = IsPlannedFor capacity book step

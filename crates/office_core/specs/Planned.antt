@@ -1,13 +1,8 @@
 -- What is planned for an act, and when it is planned for an office.
 use Rattle.std.specs.Prelude.{ℕ, ◌≡◌, Option, List, IfSome}
 use Rattle.record_history.specs.Held.{IsWithin}
-use Rattle.book_rows.specs.declared.rows.Batch.{Batch}
-use Rattle.book_rows.specs.declared.command.Command.{Command}
-use Rattle.book_rows.specs.Book.{Book}
-use Rattle.office_step.specs.declared.call.Capacity.{Capacity}
-use Rattle.office_step.specs.Acts.{name_given}
-use Rattle.office_step.specs.Known.{known_of}
-use Rattle.office_step.specs.Step.{IsAppended}
+use Rattle.book_rows.specs.{declared.rows.Batch.Batch, declared.command.Command.Command, Book.Book}
+use Rattle.office_step.specs.{declared.call.Capacity.Capacity, Acts.name_given, Known.known_of, Step.IsAppended}
 use Rattle.office_register.specs.Registered.{HasDates}
 
 -- the rows that an act appends, its command, and the name of the household that it makes, if it makes one

@@ -1,10 +1,8 @@
 -- What several reads and writes move, one after the other.
 use Rattle.std.proofs.Common.{◌≡◌, ℕ, ◌+◌, ◌-◌, ◌≤◌, List, ◌++◌, length, take, drop, sym, ap, subst, ◌∙◌, arith, length-drop}
 use borrow.Rule.Slice.PartMut.{put_mid, post_of, same_len_mid}
-use Rattle.std.specs.declared.option.Option.{Option}
-use Rattle.std.specs.Io.KnownBytes.{Appends, Consumes}
-use Rattle.std.proofs.KnownBytes.{Appends-trans, Consumes-trans}
-use Rattle.std.proofs.Math.Seq.{take-add, take-append-add, take-append_seam}
+use Rattle.std.specs.{declared.option.Option.Option, Io.KnownBytes.Appends, Io.KnownBytes.Consumes}
+use Rattle.std.proofs.{KnownBytes.Appends-trans, KnownBytes.Consumes-trans, Math.Seq.take-add, Math.Seq.take-append-add, Math.Seq.take-append_seam}
 use Rattle.std.proofs.lemmas.List.{take_rest, length-take-le, take-append-le, take-append-drop, drop-drop}
 
 -- a write of the rest of a piece appended its next bytes

@@ -1,11 +1,7 @@
 -- Sources and sinks in memory, as their users see them: the bytes, and a plan of which calls fail.
 use Rattle.std.specs.Prelude.{ℕ, ◌-◌, ◌||◌, ◌==◌, min, List, ◌++◌, length, take, drop, Bool, if◌then◌else◌}
 use Rattle.std.specs.List.{list_any}
-use Rattle.office_io.specs.Outside.{counted}
-use Rattle.office_io.specs.declared.source.Got.{Got}
-use Rattle.office_io.specs.declared.source.Got.TheVariants as got
-use Rattle.office_io.specs.declared.sink.Put.{Put}
-use Rattle.office_io.specs.declared.sink.Put.TheVariants as put
+use Rattle.office_io.specs.{Outside.counted, declared.source.Got.Got, declared.sink.Put.Put}
 
 -- which calls fail, numbered from 0, the most bytes that one call moves, and the counts so far
 pub record Planned : Type 0 where
@@ -38,9 +34,9 @@ given_into source room = min (min (length source.left) room) source.plan.most
 -- what a read into that much room answers
 abbrev pub read_answer : Given → ℕ → Got
 read_answer source room =
-    if is_failing source.plan then got.Failed
-    else if given_into source room == 0 then got.End
-    else got.Bytes (given_into source room)
+    if is_failing source.plan then Got.Failed
+    else if given_into source room == 0 then Got.End
+    else Got.Bytes (given_into source room)
 
 -- and the source after it
 abbrev pub after_read : Given → ℕ → Given
@@ -64,7 +60,7 @@ is_refused sink piece = is_failing sink.plan || taken_of sink piece == 0
 
 -- what a write of the piece answers
 abbrev pub write_answer : Taken → List ℕ → Put
-write_answer sink piece = if is_refused sink piece then put.Failed else put.Bytes (taken_of sink piece)
+write_answer sink piece = if is_refused sink piece then Put.Failed else Put.Bytes (taken_of sink piece)
 
 -- and the sink after it
 abbrev pub after_write : Taken → List ℕ → Taken

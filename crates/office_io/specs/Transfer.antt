@@ -1,10 +1,7 @@
 -- What is moved out of a source and into a sink by many reads and writes.
 use Rattle.std.specs.Prelude.{◌≡◌, ℕ, ◌+◌, ◌<◌, ◌≤◌, List, length, take, ⊤}
-use Rattle.std.specs.declared.option.Option.{Option}
-use Rattle.std.specs.Io.KnownBytes.{Appends, Consumes, IsAtEnd}
-use Rattle.office_io.specs.Outside.{Faulted}
-use Rattle.office_io.specs.declared.transfer.Input.{Input}
-use Rattle.office_io.specs.declared.transfer.Input.TheVariants as input
+use Rattle.std.specs.{declared.option.Option.Option, Io.KnownBytes.Appends, Io.KnownBytes.Consumes, Io.KnownBytes.IsAtEnd}
+use Rattle.office_io.specs.{Outside.Faulted, declared.transfer.Input.Input}
 
 -- These bytes were taken from a source: all to its end where they are at most so many, and else one byte more.
 pub record Takes (most : ℕ) (old new : Option (List ℕ)) (bytes : List ℕ) : Type 0 where
@@ -24,21 +21,18 @@ AppendsPart old new bytes = (n : ℕ) × (n < length bytes) × Appends old new (
 
 -- what was taken at each answer: at a fault the bytes before it, and for want of memory nothing
 abbrev pub InputTakes : ℕ → Option (List ℕ) → Option (List ℕ) → Input → Type 0
-InputTakes most old new (input.Whole bytes) = (length bytes.items ≤ most) × Takes most old new bytes.items
-InputTakes most old new input.TooLong = (bytes : List ℕ) × (most < length bytes) × Takes most old new bytes
-InputTakes most old new input.Failed = (bytes : List ℕ) × (length bytes ≤ most) × Consumes old new bytes
-InputTakes most old new input.NoMemory = new ≡ old
+InputTakes most old new (Input.Whole bytes) = (length bytes.items ≤ most) × Takes most old new bytes.items
+InputTakes most old new Input.TooLong = (bytes : List ℕ) × (most < length bytes) × Takes most old new bytes
+InputTakes most old new Input.Failed = (bytes : List ℕ) × (length bytes ≤ most) × Consumes old new bytes
+InputTakes most old new Input.NoMemory = new ≡ old
 
 -- the answer for a source that told these bytes at the start
 abbrev pub InputTold : ℕ → List ℕ → Input → Type 0
-InputTold most told (input.Whole bytes) = (length told ≤ most) × (bytes.items ≡ told)
-InputTold most told input.TooLong = most < length told
-InputTold most told input.Failed = ⊤
-InputTold most told input.NoMemory = ⊤
+InputTold most told (Input.Whole bytes) = (length told ≤ most) × (bytes.items ≡ told)
+InputTold most told Input.TooLong = most < length told
+InputTold most told _ = ⊤
 
 -- the input fails only where the source counted a fault
 abbrev pub InputCause : ℕ → ℕ → Input → Type 0
-InputCause before now (input.Whole bytes) = now ≡ before
-InputCause before now input.TooLong = now ≡ before
-InputCause before now input.Failed = Faulted before now
-InputCause before now input.NoMemory = now ≡ before
+InputCause before now Input.Failed = Faulted before now
+InputCause before now _ = now ≡ before

@@ -1,70 +1,72 @@
 -- The records of one household, once a record more is held.
-use Rattle.office_laws.proofs.Words.{◌≡◌, ◌≢◌, ◌∙◌, sym, ap, refl, subst, ℕ, ◌+◌, zero, suc, ◌-◌, ◌⊎◌, inl, inr, arith, Bool, List, [], ◌∷◌, ◌++◌, Some, None, length, map, ◌==◌, if◌then◌else◌, get_or, cases_eq, ne_eqb, get_or-set_same, get_or-set_other, length-append, length-map, Record, records_of, with_record, Command, Known, own_in, households_after, names_given, record_of, no_such, IsOneOf, records_at}
-use Rattle.office_laws.proofs.Heading.{made_within}
+use Rattle.office_laws.proofs.Words.{◌≡◌, ◌∙◌, sym, refl, subst, cond_both, eqb-true, get_or_default, ℕ, ◌+◌, ◌≤◌, ◌<◌, zero, suc, ◌-◌, arith, List, [], ◌∷◌, ◌++◌, Option, Some, None, length, map, All, ◌==◌, if◌then◌else◌, get_or, append-nil, get_or-set_same, get_or-set_other, length-append, length-map, Record, records_of, with_record, Command, Known, own_in, households_after, names_given, record_of, no_such, nat_tests, common_steps}
+use Rattle.office_laws.proofs.{Makes.made_within, Makes.record_names_act}
 
 abbrev nobody : List Record
 nobody = []
 
-none_there : {Y : Type 0} (ys : List Y) (place : ℕ) → get_or (map (λ y. nobody) ys) place nobody ≡ nobody
-none_there [] place = refl
-none_there (y ∷ ys) zero = refl
-none_there (y ∷ ys) (suc place) = none_there ys place
-
 none_more : {Y : Type 0} (households : List (List Record)) (ys : List Y) (place : ℕ) →
     get_or (households ++ map (λ y. nobody) ys) place nobody ≡ get_or households place nobody
-none_more [] ys place = none_there ys place
+none_more [] [] place = refl
+none_more [] (y ∷ ys) zero = refl
+none_more [] (y ∷ ys) (suc place) = none_more [] ys place
 none_more (own ∷ households) ys zero = refl
 none_more (own ∷ households) ys (suc place) = none_more households ys place
 
 -- a household that comes has no records yet
 pub own-longer : {Y : Type 0} (households : List (List Record)) (ys : List Y) (household : ℕ) →
     records_of (households ++ map (λ y. nobody) ys) household ≡ records_of households household
-own-longer households ys household =
-    ap (λ (own : List Record). if household == 0 then [] else own) (none_more households ys (household - 1))
+own-longer households ys household = rw (none_more households ys (household - 1)) refl
 
-own-held : (households : List (List Record)) (r : Record) → IsOneOf (length households) r.household →
-    records_of (with_record households r) r.household ≡ records_of households r.household ++ r ∷ []
-own-held households r there =
-    records_at (with_record households r) r.household there.least
-    ∙ get_or-set_same households (r.household - 1) (records_of households r.household ++ r ∷ []) nobody (omega (arith, there.least, there.most))
+-- what a household gets by the record
+abbrev pub more_of : Option Record → ℕ → List Record
+more_of None household = []
+more_of (Some r) household = if household == r.household then r ∷ [] else []
 
-own-other : (households : List (List Record)) (r : Record) (household : ℕ) → IsOneOf (length households) r.household → household ≢ r.household →
-    records_of (with_record households r) household ≡ records_of households household
-own-other households r household there other = by_zero (cases_eq household 0)
+own_with : (households : List (List Record)) (r : Record) (household : ℕ) → 1 ≤ r.household → r.household ≤ length households →
+    records_of (with_record households r) household ≡ records_of households household ++ more_of (Some r) household
+own_with households r household least most =
+    grind (arith, common_steps, nat_tests, get_or-set_same, get_or-set_other, append-nil)
+
+-- what a household has after the act: what it had, and what it gets by the record that the act makes
+pub own_after : (known : Known) (asked : Command) → no_such known asked ≡ None → (household : ℕ) →
+    records_of (households_after known asked (record_of known asked)) household ≡ own_in known household ++ more_of (record_of known asked) household
+own_after known asked named household = by_made (record_of known asked) refl
   where
-    by_zero : (household ≡ 0) ⊎ (household ≡ 0 → ⊥) → records_of (with_record households r) household ≡ records_of households household
-    by_zero (inl is_zero) =
-        ap (records_of (with_record households r)) is_zero ∙ sym (ap (records_of households) is_zero)
-    by_zero (inr not_zero) =
-        records_at (with_record households r) household (omega (arith, not_zero))
-        ∙ get_or-set_other households (r.household - 1) (household - 1) (records_of households r.household ++ r ∷ []) nobody
-        (λ same. other (omega (arith, same, there.least, not_zero)))
-        ∙ sym (records_at households household (omega (arith, not_zero)))
+    by_made : (made : Option Record) → record_of known asked ≡ made →
+        records_of (households_after known asked made) household ≡ own_in known household ++ more_of made household
+    by_made None is = own-longer known.households (names_given known asked) household ∙ sym (append-nil (own_in known household))
+    by_made (Some r) is =
+        let there = made_within known asked r named is in
+        own_with (known.households ++ map (λ name. nobody) (names_given known asked)) r household there.least
+        (rw (length-append, length-map) there.most)
+        ∙ rw (own-longer known.households (names_given known asked) household) refl
 
--- the household of the record that an act makes is one of those that are there after it
-pub made_held : (known : Known) (asked : Command) (r : Record) → no_such known asked ≡ None → record_of known asked ≡ Some r →
-    IsOneOf (length (known.households ++ map (λ name. nobody) (names_given known asked))) r.household
-made_held known asked r named is =
-    subst (λ (count : ℕ). IsOneOf count r.household)
-    (ap (λ (more : ℕ). length known.households + more) (sym (length-map (names_given known asked) (λ (name : List ℕ). nobody)))
-    ∙ sym (length-append known.households (map (λ name. nobody) (names_given known asked))))
-    (made_within known asked r named is)
+-- which is of a later act than those that are there
+pub later_than : (known : Known) (asked : Command) (act : ℕ) → act ≤ known.count → (household : ℕ) → All (λ r. act < r.act) (more_of (record_of known asked) household)
+later_than known asked act by household = by_made (record_of known asked) (λ r is. record_names_act known asked r is)
+  where
+    by_made : (made : Option Record) → ((r : Record) → made ≡ Some r → r.act ≡ known.count + 1) → All (λ r. act < r.act) (more_of made household)
+    by_made None last = λ k d within. absurd (omega arith)
+    by_made (Some r) last = λ k d within. grind (arith, common_steps, last r refl)
 
--- what a household has after an act that makes no record
-pub own_after_none : (known : Known) (asked : Command) (household : ℕ) → records_of (households_after known asked None) household ≡ own_in known household
-own_after_none known asked household = own-longer known.households (names_given known asked) household
+-- what holds of what a household had, and of that with the record that the act makes of it, holds of what it has after the act
+pub owned : (P : List Record → Type 0) (known : Known) (asked : Command) → no_such known asked ≡ None → (household : ℕ) → P (own_in known household) →
+    ((r : Record) → record_of known asked ≡ Some r → household ≡ r.household → P (own_in known r.household ++ r ∷ [])) →
+    P (records_of (households_after known asked (record_of known asked)) household)
+owned P known asked named household had gets =
+    subst P (sym (own_after known asked named household)) (by_made (record_of known asked) gets)
+  where
+    by_made : (made : Option Record) → ((r : Record) → made ≡ Some r → household ≡ r.household → P (own_in known r.household ++ r ∷ [])) →
+        P (own_in known household ++ more_of made household)
+    by_made None gets = rw (append-nil (own_in known household)) had
+    by_made (Some r) gets =
+        cond_both (household == r.household) (r ∷ []) [] (λ more. P (own_in known household ++ more))
+        (λ same. rw (eqb-true household r.household same) (gets r refl (eqb-true household r.household same)))
+        (λ other. rw (append-nil (own_in known household)) had)
 
--- and after one that makes a record of that household, or of another
-pub own_after_made : (known : Known) (asked : Command) (r : Record) →
-    IsOneOf (length (known.households ++ map (λ name. nobody) (names_given known asked))) r.household →
-    records_of (households_after known asked (Some r)) r.household ≡ own_in known r.household ++ r ∷ []
-own_after_made known asked r there =
-    own-held (known.households ++ map (λ name. nobody) (names_given known asked)) r there
-    ∙ ap (λ (own : List Record). own ++ r ∷ []) (own-longer known.households (names_given known asked) r.household)
-
-pub own_after_other : (known : Known) (asked : Command) (r : Record) (household : ℕ) →
-    IsOneOf (length (known.households ++ map (λ name. nobody) (names_given known asked))) r.household → household ≢ r.household →
-    records_of (households_after known asked (Some r)) household ≡ own_in known household
-own_after_other known asked r household there other =
-    own-other (known.households ++ map (λ name. nobody) (names_given known asked)) r household there other
-    ∙ own-longer known.households (names_given known asked) household
+-- what holds of the records of each household holds of all of the lists
+pub all_owned : (P : List Record → Type 0) (households : List (List Record)) → ((household : ℕ) → P (records_of households household)) → All P households
+all_owned P households each = λ k d within.
+    (let same : records_of households (k + 1) ≡ get_or households k d = grind (arith, common_steps, nat_tests, get_or_default households k [] d within) in
+    subst P same (each (k + 1)))

@@ -1,5 +1,5 @@
 -- A book is what its acts give when they are done again.
-use Rattle.office_laws.proofs.Words.{◌≡◌, ◌∙◌, sym, ap, refl, ℕ, Bool, true, false, List, [], ◌∷◌, Option, Some, None, option_and_then, if◌then◌else◌, bytes_eq, option_map, bytes_decides, option_and_then_some, same_Some, fold-append, Batch, Book, empty_book, appended, Command, body_of, only_own, command_from, command_in, Call, Capacity, Outcome, again, refused, appends, step, IsAppended, reached_empty, reached_more, Accepted, option_map_some, cond_some}
+use Rattle.office_laws.proofs.Words.{common_steps, arith, ◌≡◌, ◌∙◌, ap, refl, ℕ, List, [], ◌∷◌, Option, Some, bytes_eq, option_map, bytes_decides, option_and_then_some, fold-append, Batch, Book, empty_book, appended, Command, body_of, only_own, command_from, command_in, Call, Capacity, Outcome, appends, step, IsAppended, reached_empty, reached_more, Accepted, option_map_some, cond_some}
 use Rattle.office_laws.specs.Replay.{call_in, rows_in, redone, after_redoing, ActsGiveTheBook, RedoneIsAppended}
 use Rattle.office_laws.proofs.Inversion.{accepted, appended_again}
 
@@ -7,11 +7,8 @@ use Rattle.office_laws.proofs.Inversion.{accepted, appended_again}
 redone_same : (capacity : Capacity) (book : Book) (rows : Batch) → IsAppended capacity book rows → redone capacity book rows.act ≡ Some rows
 redone_same capacity book rows appended_now =
     let is : Accepted capacity book appended_now.call rows = accepted capacity book rows appended_now in
-    let call : call_in rows.act ≡ Some appended_now.call =
-    ap (option_map (λ (asked : Command). record { clerk = rows.act.clerk; request = rows.act.request; command = asked })) appended_now.read
-    ∙ (λ i. Some (record { clerk = is.clerk i; request = is.request i; command = appended_now.call.command })) in
-    ap (option_and_then (λ (call : Call). rows_in (step book capacity rows.act.session rows.act.day call))) call
-    ∙ ap rows_in appended_now.same
+    let call : call_in rows.act ≡ Some appended_now.call = rw (appended_now.read, is.clerk, is.request) refl in
+    rw call (ap rows_in appended_now.same)
 
 pub acts_give_the_book : ActsGiveTheBook
 acts_give_the_book capacity _ reached_empty = refl
@@ -25,21 +22,14 @@ own_body : (body : List ℕ) (asked : Command) → command_in body ≡ Some aske
 own_body body asked is =
     option_and_then_some (only_own body) (command_from body) asked is (λ found read own.
     (let both = cond_some (bytes_eq (body_of found) body) found asked own in
-    ap body_of (sym both.1) ∙ (bytes_decides (body_of found) body).0 both.0))
+    rw (← both.1) ((bytes_decides (body_of found) body).0 both.0)))
 
 pub rows_appended : (outcome : Outcome) (rows : Batch) → rows_in outcome ≡ Some rows → outcome ≡ appends rows
-rows_appended (again done) rows is = absurd (cc)
-rows_appended (refused refusal) rows is = absurd (cc)
-rows_appended (appends own) rows is = ap (λ (own : Batch). appends own) (same_Some own rows is)
+rows_appended outcome rows is = grind (arith, common_steps, is)
 
 pub redone_is_appended : RedoneIsAppended
 redone_is_appended capacity book row call rows is fit again_now =
     option_map_some _ (command_in row.body) call is (λ asked read same.
-    appended_again capacity book row.session row.day call rows fit
-    (reads asked read (ap (λ (call : Call). call.command) same))
-    (rows_appended (step book capacity row.session row.day call) rows
-    (sym (ap (option_and_then (λ (call : Call). rows_in (step book capacity row.session row.day call))) is) ∙ again_now)))
-  where
-    reads : (asked : Command) → command_in row.body ≡ Some asked → asked ≡ call.command → command_in (body_of call.command) ≡ Some call.command
-    reads asked read same =
-        ap command_in (ap body_of (sym same) ∙ own_body row.body asked read) ∙ read ∙ ap (λ (asked : Command). Some asked) same
+    (let own : asked ≡ call.command = ap (λ (call : Call). call.command) same in
+    appended_again capacity book row.session row.day call rows fit (rw (← own, own_body row.body asked read) read)
+    (rows_appended (step book capacity row.session row.day call) rows (rw is at again_now))))

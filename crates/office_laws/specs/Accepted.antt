@@ -1,16 +1,9 @@
 -- What it comes to that rows are appended to a book.
 use Rattle.std.specs.Prelude.{◌≡◌, ℕ, ◌+◌, true, None, length}
-use Rattle.book_rows.specs.declared.rows.Batch.{Batch}
-use Rattle.book_rows.specs.Book.{Book}
-use Rattle.command_forms.specs.Holdable.{IsHoldable}
-use Rattle.command_forms.specs.Commands.{body_of}
-use Rattle.office_step.specs.declared.call.Call.{Call}
-use Rattle.office_step.specs.declared.call.Capacity.{Capacity}
-use Rattle.office_step.specs.Known.{known_of}
-use Rattle.office_step.specs.Made.{record_of, lines_of}
-use Rattle.office_step.specs.Refusals.{repeated, request_reused, lines_full}
+use Rattle.book_rows.specs.{declared.rows.Batch.Batch, Book.Book}
+use Rattle.command_forms.specs.{Holdable.IsHoldable, Commands.body_of}
+use Rattle.office_step.specs.{declared.call.Call.Call, declared.call.Capacity.Capacity, Known.known_of, Made.record_of, Made.lines_of, Refusals.repeated, Refusals.request_reused, Refusals.lines_full, Against.refused_by}
 use Rattle.office_step.specs.Step.{act_day, step, appends, is_fit_call, IsAppended}
-use Rattle.office_step.specs.Against.{refused_by}
 
 -- the call is no repeat, nothing refuses it, and the rows are those of its act
 pub record Accepted (capacity : Capacity) (book : Book) (call : Call) (rows : Batch) : Type 0 where

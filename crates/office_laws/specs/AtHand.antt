@@ -2,25 +2,11 @@
 use Rattle.std.specs.Prelude.{◌≡◌, ◌≤◌, ◌<◌, ℕ, ◌+◌, nat_le, true, false, Some, None, List, length, filter, find, AllPairs, Contains, IfSome, bytes_eq}
 use Rattle.std.specs.Option.{option_map_or}
 use Rattle.rent_table.specs.Table.{unit_named}
-use Rattle.book_rows.specs.declared.property.UnitAct.{UnitAct}
-use Rattle.book_rows.specs.declared.rows.ActRow.{ActRow}
-use Rattle.book_rows.specs.declared.rows.Batch.{Batch}
-use Rattle.book_rows.specs.declared.command.Command.{Command}
-use Rattle.book_rows.specs.declared.command.Command.TheVariants as command
-use Rattle.book_rows.specs.Book.{Book, appended}
+use Rattle.book_rows.specs.{declared.property.UnitAct.UnitAct, declared.rows.ActRow.ActRow, declared.rows.Batch.Batch, declared.command.Command.Command, Book.Book, Book.appended}
 use Rattle.command_forms.specs.Commands.{command_in}
-use Rattle.office_step.specs.declared.call.Capacity.{Capacity}
-use Rattle.office_step.specs.declared.refusal.Refusal.TheVariants as refusal
-use Rattle.office_step.specs.declared.reply.Done.{Done}
-use Rattle.office_step.specs.declared.reply.Made.{Made}
-use Rattle.office_step.specs.declared.reply.Made.TheVariants as made
-use Rattle.office_step.specs.Acts.{units_of, applications_of}
-use Rattle.office_step.specs.Known.{Known, known_of}
-use Rattle.office_step.specs.Made.{record_of}
-use Rattle.office_step.specs.Refusals.{is_request_of, repeated, request_reused}
+use Rattle.office_step.specs.{declared.call.Capacity.Capacity, declared.reply.Done.Done, declared.reply.Made.Made, Acts.units_of, Acts.applications_of, Known.Known, Known.known_of, Made.record_of, Refusals.is_request_of, Refusals.repeated, Refusals.request_reused, Against.last_day, Against.refused_by, declared.refusal.Refusal.Refusal}
 use Rattle.office_step.specs.Reply.{acts_up_to, certified, closed, done_of}
 use Rattle.office_step.specs.Step.{last_act_day, act_day, IsAppended, IsReached}
-use Rattle.office_step.specs.Against.{last_day, refused_by}
 
 -- ---- requests
 
@@ -40,16 +26,16 @@ RepeatedRequests = (capacity : Capacity) (book : Book) → IsReached capacity bo
 abbrev pub ReusedRequests : Type 0
 ReusedRequests = (capacity : Capacity) (book : Book) → IsReached capacity book → (clerk request : ℕ) (body : List ℕ) (row : ActRow) →
     find (is_request_of clerk request) book.acts ≡ Some row → bytes_eq row.body body ≡ false →
-    (repeated book.acts clerk request body ≡ None) × (request_reused book.acts clerk request body ≡ Some (refusal.RequestReused row.n))
+    (repeated book.acts clerk request body ≡ None) × (request_reused book.acts clerk request body ≡ Some (Refusal.RequestReused row.n))
 
 -- ---- the reply to a new act
 
 -- what an act of that command made, by what was known before it and by its rows
 abbrev pub made_now : Known → Batch → Command → Made
-made_now known rows (command.Unit unit) = made.Unit (length known.units + 1)
-made_now known rows (command.Apply apply) = made.Applicant (length known.applications + 1)
-made_now known rows (command.Close close) = closed rows.lines close.month
-made_now known rows asked = option_map_or certified rows.made made.Nothing
+made_now known rows (Command.Unit unit) = Made.Unit (length known.units + 1)
+made_now known rows (Command.Apply apply) = Made.Applicant (length known.applications + 1)
+made_now known rows (Command.Close close) = closed rows.lines close.month
+made_now known rows asked = option_map_or certified rows.made Made.Nothing
 
 abbrev pub done_now : Known → Batch → Command → Done
 done_now known rows asked = record { act = rows.act.n; day = rows.act.day; made = made_now known rows asked }
@@ -64,7 +50,7 @@ NewReplies = (capacity : Capacity) (book : Book) (rows : Batch) → IsReached ca
 -- as many units as there were after the act is the number of the unit of its name
 abbrev pub UnitReplies : Type 0
 UnitReplies = (capacity : Capacity) (book : Book) → IsReached capacity book → (row : ActRow) → Contains book.acts row →
-    (unit : UnitAct) → command_in row.body ≡ Some (command.Unit unit) →
+    (unit : UnitAct) → command_in row.body ≡ Some (Command.Unit unit) →
     unit_named (known_of book).units unit.name ≡ Some (length (units_of (acts_up_to book row.n)))
 
 -- as many had applied after the act as the applications of acts up to it

@@ -5,15 +5,9 @@ use Rattle.record_history.specs.Records.{as_of, in_force}
 use Rattle.rent_table.specs.declared.plan.Plan.{Plan}
 use Rattle.due_dates.specs.Stale.{ends_assistance, unit_rents_on}
 use Rattle.voucher_core.specs.Naming.{NameTheirPairs}
-use Rattle.book_rows.specs.declared.rows.Batch.{Batch}
-use Rattle.book_rows.specs.declared.closings.CloseAct.{CloseAct}
-use Rattle.book_rows.specs.declared.command.Command.TheVariants as command
-use Rattle.book_rows.specs.Book.{Book, appended}
-use Rattle.office_step.specs.declared.call.Capacity.{Capacity}
-use Rattle.office_step.specs.Known.{Known, known_of, own_in}
-use Rattle.office_step.specs.Made.{last_close}
+use Rattle.book_rows.specs.{declared.rows.Batch.Batch, declared.closings.CloseAct.CloseAct, Book.Book, Book.appended, declared.command.Command.Command}
+use Rattle.office_step.specs.{declared.call.Capacity.Capacity, Known.Known, Known.known_of, Known.own_in, Made.last_close, Step.IsAppended, Step.IsReached}
 use Rattle.office_laws.specs.History.{IsLater}
-use Rattle.office_step.specs.Step.{IsAppended, IsReached}
 
 -- what was known of a household as of an act stays known
 abbrev pub KnownAsOfStays : Type 0
@@ -25,7 +19,7 @@ KnownAsOfStays = (capacity : Capacity) (book later : Book) → IsReached capacit
 -- this one, and one of the closed month that of this one alone.
 abbrev pub ClosingsNameTheirPairs : Type 0
 ClosingsNameTheirPairs = (capacity : Capacity) (book : Book) (rows : Batch) → IsReached capacity book → (appends : IsAppended capacity book rows) →
-    (close : CloseAct) → appends.call.command ≡ command.Close close → (later : Book) → IsLater capacity (appended book rows) later →
+    (close : CloseAct) → appends.call.command ≡ Command.Close close → (later : Book) → IsLater capacity (appended book rows) later →
     NameTheirPairs (own_in (known_of later)) close.month (last_close (known_of book)) rows.act.n rows.lines
 
 -- on each day from the plan's first through the month's last, a record in force that is neither a move-out nor a
@@ -39,4 +33,4 @@ HasItsRents known month plan =
 -- so at each closing
 abbrev pub RentsAreDoneAtClosings : Type 0
 RentsAreDoneAtClosings = (capacity : Capacity) (book : Book) (rows : Batch) → IsReached capacity book → (appends : IsAppended capacity book rows) →
-    (close : CloseAct) → appends.call.command ≡ command.Close close → IfSome (known_of book).plan (HasItsRents (known_of book) close.month)
+    (close : CloseAct) → appends.call.command ≡ Command.Close close → IfSome (known_of book).plan (HasItsRents (known_of book) close.month)

@@ -1,17 +1,10 @@
 -- After any acts the lines total what was certified at the last closing.
 use Rattle.std.specs.Prelude.{◌≡◌, ◌≤◌, ℕ, ◌+◌, ◌&&◌, nat_le, if◌then◌else◌, pos, Option, Some, None, List, []}
-use Rattle.record_history.specs.declared.records.Record.{Record}
-use Rattle.record_history.specs.Records.{as_of}
+use Rattle.record_history.specs.{declared.records.Record.Record, Records.as_of}
 use Rattle.rent_table.specs.declared.plan.Plan.{Plan}
-use Rattle.voucher_core.specs.declared.line.Line.{Line}
-use Rattle.voucher_core.specs.Certified.{certified_amount}
-use Rattle.voucher_core.specs.Lines.{paid}
-use Rattle.voucher_core.specs.Law.{IsSettled}
+use Rattle.voucher_core.specs.{declared.line.Line.Line, Certified.certified_amount, Lines.paid, Law.IsSettled}
 use Rattle.book_rows.specs.Book.{Book}
-use Rattle.office_step.specs.declared.call.Capacity.{Capacity}
-use Rattle.office_step.specs.declared.known.Closed.{Closed}
-use Rattle.office_step.specs.Known.{known_of, own_in}
-use Rattle.office_step.specs.Step.{IsReached}
+use Rattle.office_step.specs.{declared.call.Capacity.Capacity, declared.known.Closed.Closed, Known.known_of, Known.own_in, Step.IsReached}
 
 -- before the first closing there is no line; after a closing the lines pay each household for each month, from the plan's
 -- first through the closed one, what it was certified for as of the closing, and nothing for another month

@@ -2,11 +2,8 @@
 use Rattle.std.specs.Prelude.{◌≡◌, Some, Contains}
 use Rattle.record_history.specs.declared.records.Record.{Record}
 use Rattle.voucher_core.specs.declared.line.Line.{Line}
-use Rattle.book_rows.specs.declared.rows.ActRow.{ActRow}
-use Rattle.book_rows.specs.declared.rows.Batch.{Batch}
-use Rattle.book_rows.specs.Book.{Book, appended}
-use Rattle.office_step.specs.declared.call.Capacity.{Capacity}
-use Rattle.office_step.specs.Step.{IsAppended, IsReached}
+use Rattle.book_rows.specs.{declared.rows.ActRow.ActRow, declared.rows.Batch.Batch, Book.Book, Book.appended}
+use Rattle.office_step.specs.{declared.call.Capacity.Capacity, Step.IsAppended, Step.IsReached}
 
 -- a book that an office comes to from another, act by act
 pub data IsLater (capacity : Capacity) (book : Book) : Book → Type 0 where

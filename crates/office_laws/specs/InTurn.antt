@@ -1,11 +1,7 @@
 -- The refusals stand in the one order of their numbers.
 use Rattle.std.specs.Prelude.{ℕ, ◌≡◌, ◌+◌, ◌≤◌, Option, Some, None, List, slice_index_or, IfSome}
 use Rattle.book_rows.specs.Book.{Book}
-use Rattle.office_step.specs.declared.call.Call.{Call}
-use Rattle.office_step.specs.declared.call.Capacity.{Capacity}
-use Rattle.office_step.specs.declared.refusal.Refusal.{Refusal}
-use Rattle.office_step.specs.Numbers.{number_of}
-use Rattle.office_step.specs.Step.{all_tests, refusal_of}
+use Rattle.office_step.specs.{declared.call.Call.Call, declared.call.Capacity.Capacity, declared.refusal.Refusal.Refusal, Numbers.number_of, Step.all_tests, Step.refusal_of}
 
 -- each test refuses under the number of its place
 abbrev pub TestsAreNumbered : Type 0

@@ -2,16 +2,10 @@
 use Rattle.std.specs.Prelude.{◌≡◌, ◌≤◌, ◌<◌, ℕ, ◌+◌, true, false, None, List, [], length, slice_index_or, All, AllPairs, IfSome, IsSomeAnd}
 use Rattle.record_history.specs.declared.records.Record.{Record}
 use Rattle.voucher_core.specs.declared.line.Line.{Line}
-use Rattle.book_rows.specs.declared.rows.ActRow.{ActRow}
-use Rattle.book_rows.specs.declared.rows.Batch.{Batch}
-use Rattle.book_rows.specs.Book.{Book, IsBatch, IsBefore}
-use Rattle.book_rows.specs.Fit.{is_fit}
+use Rattle.book_rows.specs.{declared.rows.ActRow.ActRow, declared.rows.Batch.Batch, Book.Book, Book.IsBatch, Book.IsBefore, Fit.is_fit}
 use Rattle.command_forms.specs.Commands.{command_in}
-use Rattle.office_step.specs.declared.call.Capacity.{Capacity}
+use Rattle.office_step.specs.{declared.call.Capacity.Capacity, Refusals.is_request_of, Step.IsAppended, Step.IsReached, Against.first_day, Against.last_day}
 use Rattle.office_step.specs.Acts.{Act, acts_of, plan_of, applications_of, takes_off_list, household_count, ask_in}
-use Rattle.office_step.specs.Refusals.{is_request_of}
-use Rattle.office_step.specs.Step.{IsAppended, IsReached}
-use Rattle.office_step.specs.Against.{first_day, last_day}
 
 -- the number of one of so many
 pub record IsOneOf (count number : ℕ) : Type 0 where

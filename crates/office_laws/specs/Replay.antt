@@ -1,12 +1,9 @@
 -- A book is what its acts give when they are done again.
 use Rattle.std.specs.Prelude.{◌≡◌, true, Option, Some, None, option_and_then, fold}
 use Rattle.std.specs.Option.{option_map}
-use Rattle.book_rows.specs.declared.rows.ActRow.{ActRow}
-use Rattle.book_rows.specs.declared.rows.Batch.{Batch}
-use Rattle.book_rows.specs.Book.{Book, empty_book, appended}
+use Rattle.book_rows.specs.{declared.rows.ActRow.ActRow, declared.rows.Batch.Batch, Book.Book, Book.empty_book, Book.appended}
 use Rattle.command_forms.specs.Commands.{command_in}
-use Rattle.office_step.specs.declared.call.Call.{Call}
-use Rattle.office_step.specs.declared.call.Capacity.{Capacity}
+use Rattle.office_step.specs.declared.call.{Call.Call, Capacity.Capacity}
 use Rattle.office_step.specs.Step.{Outcome, appends, step, is_fit_call, IsAppended, IsReached}
 
 -- the call of an act, where its body is that of a command

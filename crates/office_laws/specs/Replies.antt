@@ -1,12 +1,8 @@
 -- A repeat gets the reply that its act got.
 use Rattle.std.specs.Prelude.{◌≡◌, ℕ, Contains}
-use Rattle.book_rows.specs.declared.rows.ActRow.{ActRow}
-use Rattle.book_rows.specs.declared.rows.Batch.{Batch}
-use Rattle.book_rows.specs.Book.{Book, appended}
+use Rattle.book_rows.specs.{declared.rows.ActRow.ActRow, declared.rows.Batch.Batch, Book.Book, Book.appended}
 use Rattle.command_forms.specs.Commands.{body_of}
-use Rattle.office_step.specs.declared.call.Call.{Call}
-use Rattle.office_step.specs.declared.call.Capacity.{Capacity}
-use Rattle.office_step.specs.Reply.{done_of}
+use Rattle.office_step.specs.{declared.call.Call.Call, declared.call.Capacity.Capacity, Reply.done_of}
 use Rattle.office_laws.specs.History.{IsLater}
 use Rattle.office_step.specs.Step.{IsAppended, IsReached, step, again}
 

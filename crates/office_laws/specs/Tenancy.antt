@@ -1,14 +1,9 @@
 -- The records of households and the units that they have, in every book that an office can come to.
 use Rattle.std.specs.Prelude.{◌≡◌, ◌≢◌, ◌≤◌, ◌<◌, ℕ, List, Some, None, All}
-use Rattle.record_history.specs.declared.records.Record.{Record}
-use Rattle.record_history.specs.Records.{live_records}
-use Rattle.record_history.specs.Held.{AreNumbered}
-use Rattle.tenancy_rules.specs.Order.{first_out_of_order}
-use Rattle.tenancy_rules.specs.Occupancy.{occupied_unit_on}
+use Rattle.record_history.specs.{declared.records.Record.Record, Records.live_records, Held.AreNumbered}
+use Rattle.tenancy_rules.specs.{Order.first_out_of_order, Occupancy.occupied_unit_on}
 use Rattle.book_rows.specs.Book.{Book}
-use Rattle.office_step.specs.declared.call.Capacity.{Capacity}
-use Rattle.office_step.specs.Known.{known_of, own_in}
-use Rattle.office_step.specs.Step.{IsReached}
+use Rattle.office_step.specs.{declared.call.Capacity.Capacity, Known.known_of, Known.own_in, Step.IsReached}
 
 -- the records of one household have the numbers 1, 2 and so on, each corrects or withdraws only one with a smaller number,
 -- and those that live are in order

@@ -3,9 +3,7 @@ use Rattle.std.proofs.Common.{ℕ, ◌≤◌, ◌==◌, not, List, None}
 use Rattle.std.specs.Prelude.{All, filter, IfSome}
 use Rattle.std.proofs.lemmas.List.Elements.{All-filter, All-weaker}
 use Rattle.row_choice.proofs.LatestLemmas.{latest-among}
-use Rattle.record_history.specs.declared.records.Record.{Record}
-use Rattle.record_history.specs.Held.{IsWithin}
-use Rattle.record_history.specs.Records.{is_live, live_records, comes_before}
+use Rattle.record_history.specs.{declared.records.Record.Record, Held.IsWithin, Records.is_live, Records.live_records, Records.comes_before}
 use Rattle.tenancy_rules.specs.Order.{comes_after, earliest}
 use Rattle.office_step.specs.Refusals.{others_of, is_base_before, base_before}
 

@@ -1,11 +1,8 @@
 -- The first refusal that stands, when one more is tried.
 use Rattle.std.proofs.Common.{◌≡◌, ◌∙◌, ap, refl, ℕ, ◌+◌, List, [], ◌∷◌, ◌++◌, Option, Some, None, arith}
-use Rattle.std.specs.Prelude.{map}
-use Rattle.std.specs.Option.{option_or}
-use Rattle.std.specs.List.{range_with_len}
+use Rattle.std.specs.{Prelude.map, Option.option_or, List.range_with_len}
 use Rattle.std.proofs.lemmas.List.FromFn.{map-range_with_len_more}
-use Rattle.office_step.specs.declared.refusal.Refusal.{Refusal}
-use Rattle.office_step.specs.Refusals.{first_of, first_household}
+use Rattle.office_step.specs.{declared.refusal.Refusal.Refusal, Refusals.first_of, Refusals.first_household}
 
 first_of-append : (refused : List (Option Refusal)) (more : Option Refusal) → first_of (refused ++ more ∷ []) ≡ option_or (first_of refused) more
 first_of-append [] None = refl

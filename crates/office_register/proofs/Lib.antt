@@ -2,5 +2,4 @@ pub mod Words
 pub mod Lists
 pub mod Sound
 pub mod Standing
-pub mod After
 pub mod Next

@@ -1,12 +1,16 @@
 -- Lists of which nothing is left out, and of which nothing passes a test.
-use Rattle.office_register.proofs.Words.{◌≡◌, ◌≤◌, length, refl, ap, ℕ, ◌+◌, ◌-◌, List, [], ◌∷◌, ◌++◌, Option, None, Bool, true, false, arith, filter, ◌==◌, slice_get, if◌then◌else◌, nat_lt, nat_tests, room_of, with_place, common_steps}
+use Rattle.office_register.proofs.Words.{◌≡◌, append-nil, ◌≤◌, length, refl, ap, ℕ, ◌+◌, ◌-◌, List, [], ◌∷◌, ◌++◌, Option, None, Bool, true, false, arith, filter, ◌==◌, slice_get, if◌then◌else◌, nat_lt, nat_tests, room_of, with_place, common_steps}
 use Rattle.std.specs.List.{filter_map}
 use Rattle.wait_list.specs.Rank.{rank_of}
 use Rattle.record_history.proofs.Kept.{is_household}
+use Rattle.list_laws.proofs.Options.{option_or-none}
 
 pub filter_whole : {A : Type 0} (xs : List A) → filter (λ x. true) xs ≡ xs
 filter_whole [] = refl
 filter_whole (x ∷ xs) = ap (λ rest. x ∷ rest) (filter_whole xs)
+
+-- a list to which nothing is added, a list of which nothing is left out, and a value that is not set again
+pub ruleset unchanged = (append-nil, filter_whole, option_or-none)
 
 -- no preference is ranked where there are no ranks
 unranked_at : (code : ℕ) → rank_of [] code ≡ None

@@ -1,8 +1,7 @@
 -- What an accepted act comes to, since nothing stands against it.
-use Rattle.office_register.proofs.Words.{◌≡◌, refl, sym, ℕ, ◌≤◌, ◌<◌, List, Option, Some, None, Bool, true, false, arith, All, length, nat_le, ◌==◌, is_some, none-some, All-weaker, false≢true, ne_eqb, nat_tests, Record, UnitRow, unit_at, Applicant, is_listed, UnitAct, RentsAct, Command, is_fit, are_rents, Known, plan_given, book_full, Passed, passed, IsAccepted, common_steps}
+use Rattle.office_register.proofs.Words.{◌≡◌, refl, sym, ℕ, ◌≤◌, ◌<◌, List, Option, Some, None, true, false, arith, All, length, ◌==◌, is_some, none-some, nat_tests, Record, UnitRow, unit_at, Applicant, is_listed, UnitAct, RentsAct, Command, is_fit, are_rents, Known, plan_given, book_full, Passed, passed, IsAccepted, common_steps}
 use Rattle.std.proofs.lemmas.List.Folds.{list_any_none}
-use Rattle.book_rows.specs.declared.command.Command.TheVariants as command
-use Rattle.office_step.specs.declared.refusal.Refusal.TheVariants as refusal
+use Rattle.office_step.specs.declared.refusal.Refusal.{Refusal}
 use Rattle.list_laws.proofs.Finds.{find_fails}
 
 pub passes : {known : Known} {asked : Command} {made : Option Record} → (a : IsAccepted known asked made) → Passed known a.most a.today asked
@@ -18,25 +17,23 @@ few {known} {asked} {made} a = omega (arith, has_room known.count a.most (passes
 
 pub none_given : (act : Option ℕ) → plan_given act true ≡ None → act ≡ None
 none_given None free = refl
-none_given (Some act) free = absurd (none-some (refusal.PlanGiven act) (sym free))
+none_given (Some act) free = absurd (none-some (Refusal.PlanGiven act) (sym free))
 
 pub none_there : {A B : Type 0} (given : Option A) (there : Option B) → given ≡ None → is_some given ≡ is_some there → there ≡ None
 none_there given there none same = grind (arith, common_steps, none, same)
 
-pub rents_fit : (rents : RentsAct) → is_fit (command.Rents rents) ≡ true → are_rents rents.rents ≡ true
+pub rents_fit : (rents : RentsAct) → is_fit (Command.Rents rents) ≡ true → are_rents rents.rents ≡ true
 rents_fit rents fit = grind (arith, common_steps)
 
-pub bedrooms_fit : (unit : UnitAct) → is_fit (command.Unit unit) ≡ true → unit.bedrooms ≤ 5
+pub bedrooms_fit : (unit : UnitAct) → is_fit (Command.Unit unit) ≡ true → unit.bedrooms ≤ 5
 bedrooms_fit unit fit = grind (arith, common_steps)
 
 -- ---- what isn't there yet
 
 pub no_unit_at : (units : List UnitRow) (number : ℕ) → length units < number → All (λ unit. unit.number ≤ length units) units → unit_at units number ≡ None
 no_unit_at units number more by =
-    find_fails (λ (unit : UnitRow). unit.number == number) units
-    (All-weaker (λ unit. unit.number ≤ length units) (λ unit. (unit.number == number) ≡ false) (λ unit is. ne_eqb unit.number number (λ e. omega arith)) units by)
+    find_fails (λ (unit : UnitRow). unit.number == number) units (λ k d within. (let small = by k d within in grind (arith, nat_tests)))
 
 pub unlisted : (waiting : List Applicant) (number count : ℕ) → count < number → All (λ applicant. applicant.number ≤ count) waiting → is_listed waiting number ≡ false
 unlisted waiting number count more by =
-    list_any_none (λ (applicant : Applicant). applicant.number == number) waiting
-    (All-weaker (λ applicant. applicant.number ≤ count) (λ applicant. (applicant.number == number) ≡ false) (λ applicant is. ne_eqb applicant.number number (λ e. omega arith)) waiting by)
+    list_any_none (λ (applicant : Applicant). applicant.number == number) waiting (λ k d within. (let small = by k d within in grind (arith, nat_tests)))

@@ -1,33 +1,19 @@
 -- The names that most proofs here cite, passed on from one place. Declares nothing.
 pub use Rattle.std.proofs.Common.{◌≡◌, refl, ap, ◌+◌, ◌-◌, [], ◌∷◌, ◌++◌, length, append-nil, Some, None, ◌≤◌, ℕ, List, Option, Bool, true, false, arith, ◌∙◌, sym, ◌<◌, set, get_or, inl, inr, subst}
 pub use Rattle.std.proofs.lemmas.Bool.{false≢true, cases_lt, cond_both, ne_eqb}
-pub use Rattle.std.proofs.lemmas.Bool.Decides.{nat_tests}
-pub use Rattle.std.proofs.lemmas.Grind.{common_steps}
-pub use Rattle.std.proofs.lemmas.List.{length_push, length-set, set_past}
+pub use Rattle.std.proofs.lemmas.{Bool.Decides.nat_tests, Grind.common_steps, List.length_push, List.length-set, List.set_past, Option.none-some, Option.IfSome_then}
 pub use Rattle.std.proofs.lemmas.List.Elements.{filter_agree, All-weaker, All-push, All-filter, All-set, All-nil, All-tail}
-pub use Rattle.std.proofs.lemmas.Option.{none-some, IfSome_then}
 pub use Rattle.std.specs.Option.{option_map}
 pub use Rattle.std.specs.Prelude.{slice_set, not, ◌==◌, filter, slice_get, if◌then◌else◌, nat_lt, is_some, option_and_then, All, IfSome, ◌⊎◌, max, fold, sum_by, nat_le}
-pub use Rattle.book_rows.specs.Fit.{is_plan, are_rents, is_fit}
-pub use Rattle.book_rows.specs.declared.certifications.AdmitAct.{AdmitAct}
-pub use Rattle.book_rows.specs.declared.certifications.StartAct.{StartAct}
-pub use Rattle.book_rows.specs.declared.command.Command.{Command}
-pub use Rattle.book_rows.specs.declared.household.HouseholdAct.{HouseholdAct}
-pub use Rattle.book_rows.specs.declared.property.RentsAct.{RentsAct}
-pub use Rattle.book_rows.specs.declared.property.UnitAct.{UnitAct}
+pub use Rattle.book_rows.specs.{Fit.is_plan, Fit.are_rents, Fit.is_fit, declared.certifications.AdmitAct.AdmitAct, declared.certifications.StartAct.StartAct, declared.command.Command.Command, declared.household.HouseholdAct.HouseholdAct, declared.property.RentsAct.RentsAct, declared.property.UnitAct.UnitAct}
 pub use Rattle.office_step.proofs.Passed.{or_none, test_passed, household_there, Passed, passed}
 pub use Rattle.office_step.specs.Acts.{unit_row, rent_row, limit_row, application_by, request_by}
-pub use Rattle.office_step.specs.After.{applying, known_after}
-pub use Rattle.office_step.specs.Known.{Known}
+pub use Rattle.office_step.specs.{After.applying, After.known_after, Known.Known}
 pub use Rattle.office_step.specs.Refusals.{no_applicant, no_unit, no_rent, no_plan, plan_given, book_full}
 pub use Rattle.record_history.specs.Held.{room_of, with_place, records_of, with_record}
 pub use Rattle.record_history.specs.declared.records.Record.{Record}
-pub use Rattle.rent_table.specs.Table.{unit_at, rents_on}
-pub use Rattle.rent_table.specs.declared.plan.Plan.{Plan}
-pub use Rattle.rent_table.specs.declared.rows.RentRow.{RentRow}
-pub use Rattle.rent_table.specs.declared.rows.Unit.{Unit as UnitRow}
-pub use Rattle.wait_list.specs.Waiting.{without, is_listed}
-pub use Rattle.wait_list.specs.declared.applicant.Applicant.{Applicant}
+pub use Rattle.rent_table.specs.{Table.unit_at, Table.rents_on, declared.plan.Plan.Plan, declared.rows.RentRow.RentRow, declared.rows.Unit.Unit as UnitRow}
+pub use Rattle.wait_list.specs.{Waiting.without, Waiting.is_listed, declared.applicant.Applicant.Applicant}
 pub use Rattle.office_register.specs.Accepted.{applicant_name, with_household, with_further, IsAccepted, IsNext}
 pub use Rattle.office_register.specs.Registered.{HasDates, AreUnits, AreRents, AreLimits, AreApplicants, AreHouseholds, IsClosing, IsSound, Registered}
 pub use Rattle.office_register.specs.View.{known_in}

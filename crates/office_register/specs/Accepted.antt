@@ -1,18 +1,9 @@
 -- Which acts may come next.
 use Rattle.std.specs.Prelude.{ℕ, ◌≡◌, ◌≤◌, ◌+◌, Bool, true, false, Option, None, List, [], ◌∷◌, ◌++◌, unwrap_or}
 use Rattle.std.specs.Option.{option_map}
-use Rattle.record_history.specs.declared.records.Record.{Record}
-use Rattle.record_history.specs.Records.{newest_number}
-use Rattle.record_history.specs.Held.{with_record}
-use Rattle.book_rows.specs.declared.command.Command.{Command}
-use Rattle.book_rows.specs.declared.command.Command.TheVariants as command
-use Rattle.book_rows.specs.Fit.{is_fit}
-use Rattle.office_step.specs.declared.known.Application.{Application}
-use Rattle.office_step.specs.Acts.{at_number}
-use Rattle.office_step.specs.Known.{Known, own_in}
-use Rattle.office_step.specs.After.{next_act}
-use Rattle.office_step.specs.Made.{record_of}
-use Rattle.office_step.specs.Against.{refused_by}
+use Rattle.record_history.specs.{declared.records.Record.Record, Records.newest_number, Held.with_record}
+use Rattle.book_rows.specs.{declared.command.Command.Command, Fit.is_fit}
+use Rattle.office_step.specs.{declared.known.Application.Application, Acts.at_number, Known.Known, Known.own_in, After.next_act, Made.record_of, Against.refused_by}
 
 -- The command is fit, nothing stands against it in an office of at most 100,000 acts on a day up to 2099-12-31, and this
 -- is the record that it makes, if it makes one.

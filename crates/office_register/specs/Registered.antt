@@ -1,16 +1,10 @@
 -- What a register holds, the room that it has for more, and what holds of every register.
 use Rattle.std.specs.Prelude.{ℕ, ◌≡◌, ◌≤◌, true, Option, List, All, IfSome, length, sum_by, is_some}
 use Rattle.record_history.specs.declared.records.Record.{Record}
-use Rattle.rent_table.specs.declared.rows.Unit.{Unit as UnitRow}
-use Rattle.rent_table.specs.declared.rows.RentRow.{RentRow}
-use Rattle.rent_table.specs.declared.rows.LimitRow.{LimitRow}
+use Rattle.rent_table.specs.declared.rows.{Unit.Unit as UnitRow, RentRow.RentRow, LimitRow.LimitRow}
 use Rattle.wait_list.specs.declared.applicant.Applicant.{Applicant}
 use Rattle.book_rows.specs.Fit.{is_plan, are_rents}
-use Rattle.office_step.specs.declared.known.Application.{Application}
-use Rattle.office_step.specs.declared.known.Request.{Request}
-use Rattle.office_step.specs.declared.known.Closed.{Closed}
-use Rattle.office_step.specs.Known.{Known}
-use Rattle.office_step.specs.Households.{AreBy}
+use Rattle.office_step.specs.{declared.known.Application.Application, declared.known.Request.Request, declared.known.Closed.Closed, Known.Known, Households.AreBy}
 
 -- what is known, for how many more rows of every sort there is room, and for how many more records of each household and,
 -- last, of the one to come

@@ -2,19 +2,12 @@
 use Rattle.std.proofs.Common.{◌≡◌, ◌∙◌, sym, ap, refl, subst, ℕ, ◌+◌, Bool, true, false, Option, Some, None}
 use Rattle.std.specs.Option.{option_map}
 use Rattle.std.proofs.lemmas.Option.{option_and_then_some, same_Some}
-use Rattle.record_history.specs.declared.records.Record.{Record}
-use Rattle.record_history.specs.Records.{newest_number}
+use Rattle.record_history.specs.{declared.records.Record.Record, Records.newest_number}
 use Rattle.facts_core.specs.declared.facts.Facts.{Facts}
 use Rattle.rent_table.specs.Table.{limits_on}
-use Rattle.certified_figures.specs.Figures.{figures_of, carried_figures, no_figures}
-use Rattle.certified_figures.specs.declared.figures.Figures.{Figures}
-use Rattle.book_rows.specs.declared.command.Command.{Command}
-use Rattle.book_rows.specs.declared.command.Command.TheVariants as command
-use Rattle.book_rows.specs.declared.household.HouseholdChange.{HouseholdChange}
-use Rattle.book_rows.specs.declared.household.HouseholdChange.TheVariants as change
-use Rattle.office_step.specs.declared.heading.Heading.{Heading}
-use Rattle.office_step.specs.Known.{Known, own_in}
-use Rattle.office_step.specs.Households.{record_at, continued}
+use Rattle.certified_figures.specs.{Figures.figures_of, Figures.carried_figures, Figures.no_figures, declared.figures.Figures.Figures}
+use Rattle.book_rows.specs.declared.{command.Command.Command, household.HouseholdChange.HouseholdChange}
+use Rattle.office_step.specs.{declared.heading.Heading.Heading, Known.Known, Known.own_in, Households.record_at, Households.continued}
 use Rattle.office_step.specs.Made.{rents_in_unit, made_with, told_extremely_low, Basis, from_facts, carried, nothing, made_on, basis_of, heading_for, heading_of, correction_heading, withdrawal_heading, record_of}
 
 pub option_map_some : {A B : Type 0} (make : A → B) (given : Option A) (b : B) {R : Type 0} → option_map make given ≡ Some b →
@@ -76,10 +69,10 @@ next_under known heading r under =
 -- a change of a household makes a record of that household
 pub of_household : (known : Known) (household : ℕ) (done : HouseholdChange) (heading : Heading) → heading_for known household done ≡ Some heading →
     heading.household ≡ household
-of_household known household (change.Correct correct) heading is =
+of_household known household (HouseholdChange.Correct correct) heading is =
     option_map_some (λ target. correction_heading household target correct.from) (record_at (own_in known household) correct.target) heading is
     (λ target found same. sym (ap (λ (h : Heading). h.household) same))
-of_household known household (change.Withdraw withdraw) heading is =
+of_household known household (HouseholdChange.Withdraw withdraw) heading is =
     option_map_some (λ target. withdrawal_heading household target) (record_at (own_in known household) withdraw.target) heading is
     (λ target found same. sym (ap (λ (h : Heading). h.household) same))
 of_household known household _ heading is = cc

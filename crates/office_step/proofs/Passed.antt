@@ -3,14 +3,9 @@ use Rattle.std.proofs.Common.{◌≡◌, ◌∙◌, sym, refl, ℕ, zero, suc, �
 use Rattle.std.specs.Option.{option_or}
 use Rattle.std.proofs.lemmas.Bool.{and_parts, leb-true}
 use Rattle.book_rows.specs.declared.command.Command.{Command}
-use Rattle.office_step.specs.declared.refusal.Refusal.{Refusal}
-use Rattle.office_step.specs.declared.refusal.Refusal.TheVariants as refusal
-use Rattle.office_step.specs.declared.refusal.Named.TheVariants as named
-use Rattle.office_step.specs.Known.{Known}
-use Rattle.office_step.specs.Refusals.{first_of}
+use Rattle.office_step.specs.{declared.refusal.Refusal.Refusal, Known.Known, Refusals.first_of, Against.tests_of, Against.refused_by, declared.refusal.Named.Named}
 use Rattle.office_step.specs.Refusals as test
 use Rattle.office_step.specs.Against as against
-use Rattle.office_step.specs.Against.{tests_of, refused_by}
 
 -- where none of the tests stands, the one at that place doesn't
 pub none_at : (tests : List (Option Refusal)) (place : ℕ) → first_of tests ≡ None → slice_index_or tests place None ≡ None
@@ -95,5 +90,5 @@ test_passed false refused none = absurd (cc)
 -- the household of that number is there
 pub household_there : (count household : ℕ) → test.no_household count household ≡ None → (1 ≤ household) × (household ≤ count)
 household_there count household none =
-    let both = and_parts (nat_le 1 household) (nat_le household count) (test_passed (nat_le 1 household && nat_le household count) (refusal.NoSuch named.Household household) none) in
+    let both = and_parts (nat_le 1 household) (nat_le household count) (test_passed (nat_le 1 household && nat_le household count) (Refusal.NoSuch Named.Household household) none) in
     (leb-true 1 household both.0, leb-true household count both.1)

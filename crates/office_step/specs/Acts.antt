@@ -1,25 +1,11 @@
 -- What the acts of a book say, read by their commands.
 use Rattle.std.specs.Prelude.{ℕ, ◌+◌, ◌-◌, ◌==◌, not, if◌then◌else◌, Bool, false, Option, Some, None, List, [], ◌∷◌, length, map, filter, find, fold, slice_get, unwrap_or, is_some}
-use Rattle.std.specs.List.{range_with_len, filter_map, list_any}
-use Rattle.std.specs.Option.{option_map, option_map_or}
-use Rattle.rent_table.specs.declared.plan.Plan.{Plan}
-use Rattle.rent_table.specs.declared.rows.Unit.{Unit as UnitRow}
-use Rattle.rent_table.specs.declared.rows.RentRow.{RentRow}
-use Rattle.rent_table.specs.declared.rows.LimitRow.{LimitRow}
-use Rattle.wait_list.specs.declared.applicant.Applicant.{Applicant}
-use Rattle.wait_list.specs.Rank.{best_rank}
-use Rattle.book_rows.specs.declared.property.UnitAct.{UnitAct}
-use Rattle.book_rows.specs.declared.property.RentsAct.{RentsAct}
-use Rattle.book_rows.specs.declared.property.LimitsAct.{LimitsAct}
-use Rattle.book_rows.specs.declared.applicants.ApplyAct.{ApplyAct}
-use Rattle.book_rows.specs.declared.moves.AskTransferAct.{AskTransferAct}
-use Rattle.book_rows.specs.declared.rows.ActRow.{ActRow}
-use Rattle.book_rows.specs.declared.command.Command.{Command}
-use Rattle.book_rows.specs.declared.command.Command.TheVariants as command
+use Rattle.std.specs.{List.range_with_len, List.filter_map, List.list_any, Option.option_map, Option.option_map_or}
+use Rattle.rent_table.specs.declared.{plan.Plan.Plan, rows.Unit.Unit as UnitRow, rows.RentRow.RentRow, rows.LimitRow.LimitRow}
+use Rattle.wait_list.specs.{declared.applicant.Applicant.Applicant, Rank.best_rank}
+use Rattle.book_rows.specs.declared.{property.UnitAct.UnitAct, property.RentsAct.RentsAct, property.LimitsAct.LimitsAct, applicants.ApplyAct.ApplyAct, moves.AskTransferAct.AskTransferAct, rows.ActRow.ActRow, command.Command.Command}
 use Rattle.command_forms.specs.Commands.{command_in}
-use Rattle.office_step.specs.declared.known.Application.{Application}
-use Rattle.office_step.specs.declared.known.Request.{Request}
-use Rattle.office_step.specs.declared.known.Closed.{Closed}
+use Rattle.office_step.specs.declared.known.{Application.Application, Request.Request, Closed.Closed}
 
 -- an act that was accepted: its number and its command
 pub record Act : Type 0 where
@@ -56,7 +42,7 @@ at_number items number = if number == 0 then None else slice_get items (number -
 -- ---- the plan
 
 abbrev pub plan_in : Command → Option Plan
-plan_in (command.Plan plan) = Some plan
+plan_in (Command.Plan plan) = Some plan
 plan_in _ = None
 
 -- the office's plan
@@ -70,7 +56,7 @@ plan_act acts = option_map (λ act. act.n) (find (λ act. is_some (plan_in act.c
 -- ---- units, rents and limits
 
 abbrev pub unit_in : Command → Option UnitAct
-unit_in (command.Unit unit) = Some unit
+unit_in (Command.Unit unit) = Some unit
 unit_in _ = None
 
 abbrev pub unit_row : ℕ → UnitAct → UnitRow
@@ -81,7 +67,7 @@ abbrev pub units_of : List Act → List UnitRow
 units_of acts = numbered unit_row 1 (filter_map (λ act. unit_in act.command) acts)
 
 abbrev pub rents_in : Command → Option RentsAct
-rents_in (command.Rents rents) = Some rents
+rents_in (Command.Rents rents) = Some rents
 rents_in _ = None
 
 abbrev pub rent_row : ℕ → RentsAct → RentRow
@@ -92,7 +78,7 @@ abbrev pub rents_of : List Act → List RentRow
 rents_of acts = filter_map (λ act. option_map (rent_row act.n) (rents_in act.command)) acts
 
 abbrev pub limits_in : Command → Option LimitsAct
-limits_in (command.Limits limits) = Some limits
+limits_in (Command.Limits limits) = Some limits
 limits_in _ = None
 
 abbrev pub limit_row : ℕ → LimitsAct → LimitRow
@@ -108,7 +94,7 @@ abbrev pub application_by : ℕ → ApplyAct → Application
 application_by act apply = record { act = act; apply = apply }
 
 abbrev pub apply_in : Command → Option ApplyAct
-apply_in (command.Apply apply) = Some apply
+apply_in (Command.Apply apply) = Some apply
 apply_in _ = None
 
 -- the applications, in the order of their acts
@@ -137,8 +123,8 @@ applicants_of ranks acts = numbered (applicant_of ranks) 1 (applications_of acts
 
 -- the command removes or admits the applicant of that number
 abbrev pub takes_off_list : ℕ → Command → Bool
-takes_off_list number (command.Remove remove) = remove.applicant == number
-takes_off_list number (command.Admit admit) = admit.applicant == number
+takes_off_list number (Command.Remove remove) = remove.applicant == number
+takes_off_list number (Command.Admit admit) = admit.applicant == number
 takes_off_list number _ = false
 
 -- the applicants who were neither removed nor admitted
@@ -150,8 +136,8 @@ waiting_of ranks acts =
 
 -- the name of the household that the command makes, if it makes one: its own, or that of the applicant
 abbrev pub name_given : List Application → Command → Option (List ℕ)
-name_given applications (command.Start start) = Some start.name
-name_given applications (command.Admit admit) =
+name_given applications (Command.Start start) = Some start.name
+name_given applications (Command.Admit admit) =
     Some (unwrap_or (option_map (λ application. application.apply.name) (at_number applications admit.applicant)) [])
 name_given applications _ = None
 
@@ -164,7 +150,7 @@ abbrev pub household_count : List Act → ℕ
 household_count acts = length (names_of acts)
 
 abbrev pub ask_in : Command → Option AskTransferAct
-ask_in (command.AskTransfer ask) = Some ask
+ask_in (Command.AskTransfer ask) = Some ask
 ask_in _ = None
 
 abbrev pub request_by : ℕ → AskTransferAct → Request
@@ -190,7 +176,7 @@ requests_of acts = map (last_request acts) (range_with_len 1 (household_count ac
 -- ---- closings
 
 abbrev pub month_in : Command → Option ℕ
-month_in (command.Close close) = Some close.month
+month_in (Command.Close close) = Some close.month
 month_in _ = None
 
 abbrev pub closing_of : Act → Option Closed

@@ -1,15 +1,11 @@
 -- What an office knows once one more act is there.
 use Rattle.std.specs.Prelude.{ℕ, ◌+◌, ◌-◌, not, Option, Some, None, List, [], ◌++◌, length, map, filter, option_to_list, slice_set}
 use Rattle.std.specs.Option.{option_map, option_or}
-use Rattle.record_history.specs.declared.records.Record.{Record}
-use Rattle.record_history.specs.Held.{with_record}
+use Rattle.record_history.specs.{declared.records.Record.Record, Held.with_record}
 use Rattle.wait_list.specs.declared.applicant.Applicant.{Applicant}
-use Rattle.book_rows.specs.declared.applicants.ApplyAct.{ApplyAct}
-use Rattle.book_rows.specs.declared.command.Command.{Command}
-use Rattle.book_rows.specs.declared.command.Command.TheVariants as command
-use Rattle.office_step.specs.declared.known.Request.{Request}
+use Rattle.book_rows.specs.declared.{applicants.ApplyAct.ApplyAct, command.Command.Command}
+use Rattle.office_step.specs.{declared.known.Request.Request, Known.Known}
 use Rattle.office_step.specs.Acts.{plan_in, unit_in, unit_row, rents_in, rent_row, limits_in, limit_row, apply_in, application_by, applicant_of, ranks_of, takes_off_list, name_given, request_by, closing_of}
-use Rattle.office_step.specs.Known.{Known}
 
 -- the number of the next act
 abbrev pub next_act : Known → ℕ
@@ -40,7 +36,7 @@ households_after known asked made = held (known.households ++ map (λ name. []) 
 
 -- what each household said of another unit
 abbrev pub requests_after : Known → Command → List (Option Request)
-requests_after known (command.AskTransfer ask) =
+requests_after known (Command.AskTransfer ask) =
     slice_set known.requests (ask.household - 1) (Some (request_by (next_act known) ask))
 requests_after known asked = known.requests ++ map (λ name. None) (names_given known asked)
 

@@ -4,28 +4,13 @@ use Rattle.std.specs.Prelude.{ℕ, Bool, true, false, if◌then◌else◌, Optio
 use Rattle.std.specs.Option.{option_map, option_map_or, option_or}
 use Rattle.days_core.specs.Calendar.{first_of as first_day_of, last_of as last_day_of}
 use Rattle.payment_rules.specs.Payment.{gross_rent_of}
-use Rattle.record_history.specs.declared.records.Record.{Record}
-use Rattle.record_history.specs.Records.{newest_number}
-use Rattle.rent_table.specs.declared.plan.Plan.{Plan}
-use Rattle.rent_table.specs.declared.rows.Unit.{Unit as UnitRow}
-use Rattle.rent_table.specs.Table.{unit_at, limits_on}
+use Rattle.record_history.specs.{declared.records.Record.Record, Records.newest_number}
+use Rattle.rent_table.specs.{declared.plan.Plan.Plan, declared.rows.Unit.Unit as UnitRow, Table.unit_at, Table.limits_on}
 use Rattle.due_dates.specs.Stale.{gross_day_of}
 use Rattle.tenancy_rules.specs.Order.{is_move_in}
-use Rattle.wait_list.specs.declared.ask.Candidate.{Candidate}
-use Rattle.wait_list.specs.declared.ask.Candidate.TheVariants as candidate
-use Rattle.wait_list.specs.Next.{next_candidate}
-use Rattle.book_rows.specs.declared.command.Command.{Command}
-use Rattle.book_rows.specs.declared.command.Command.TheVariants as command
-use Rattle.book_rows.specs.declared.certifications.CorrectAct.{CorrectAct}
-use Rattle.book_rows.specs.declared.certifications.InterimAct.{InterimAct}
-use Rattle.book_rows.specs.declared.household.HouseholdChange.{HouseholdChange}
-use Rattle.book_rows.specs.declared.household.HouseholdChange.TheVariants as change
-use Rattle.office_step.specs.declared.heading.Heading.{Heading}
-use Rattle.office_step.specs.declared.moving.MoveIn.{MoveIn}
-use Rattle.office_step.specs.declared.refusal.Refusal.{Refusal}
-use Rattle.office_step.specs.Known.{Known, own_in}
-use Rattle.office_step.specs.Households.{record_at, change_by}
-use Rattle.office_step.specs.Candidates.{asked_of}
+use Rattle.wait_list.specs.{declared.ask.Candidate.Candidate, Next.next_candidate}
+use Rattle.book_rows.specs.declared.{command.Command.Command, certifications.CorrectAct.CorrectAct, certifications.InterimAct.InterimAct, household.HouseholdChange.HouseholdChange}
+use Rattle.office_step.specs.{declared.heading.Heading.Heading, declared.moving.MoveIn.MoveIn, declared.refusal.Refusal.Refusal, Known.Known, Known.own_in, Households.record_at, Households.change_by, Candidates.asked_of}
 use Rattle.office_step.specs.Made.{Basis, certifies, basis_of, heading_of, record_of}
 use Rattle.office_step.specs.Refusals as test
 use Rattle.office_step.specs.Refusals.{first_of, others_of, annual_right, interim_right, resume_right, corrected_right}
@@ -49,7 +34,7 @@ plan_day known = option_map_or (λ plan. first_day_of plan.first) known.plan 0
 -- ---- 2 to 4: the plan and the room of the book
 
 abbrev pub is_plan : Command → Bool
-is_plan (command.Plan plan) = true
+is_plan (Command.Plan plan) = true
 is_plan _ = false
 
 abbrev pub no_plan : Known → Command → Option Refusal
@@ -67,42 +52,42 @@ abbrev pub no_household : Known → ℕ → Option Refusal
 no_household known household = test.no_household (length known.households) household
 
 abbrev pub no_such_in : Known → ℕ → HouseholdChange → Option Refusal
-no_such_in known household (change.Correct correct) = test.no_target (own_in known household) correct.target
-no_such_in known household (change.Withdraw withdraw) = test.no_record (own_in known household) withdraw.target
-no_such_in known household (change.Transfer transfer) = test.no_unit known.units transfer.unit
+no_such_in known household (HouseholdChange.Correct correct) = test.no_target (own_in known household) correct.target
+no_such_in known household (HouseholdChange.Withdraw withdraw) = test.no_record (own_in known household) withdraw.target
+no_such_in known household (HouseholdChange.Transfer transfer) = test.no_unit known.units transfer.unit
 no_such_in known household _ = None
 
 abbrev pub no_such : Known → Command → Option Refusal
-no_such known (command.Remove remove) = test.no_applicant known.waiting remove.applicant
-no_such known (command.Start start) = test.no_unit known.units start.unit
-no_such known (command.Admit admit) = option_or (test.no_applicant known.waiting admit.applicant) (test.no_unit known.units admit.unit)
-no_such known (command.AskTransfer ask) = no_household known ask.household
-no_such known (command.Household act) = option_or (no_household known act.household) (no_such_in known act.household act.change)
+no_such known (Command.Remove remove) = test.no_applicant known.waiting remove.applicant
+no_such known (Command.Start start) = test.no_unit known.units start.unit
+no_such known (Command.Admit admit) = option_or (test.no_applicant known.waiting admit.applicant) (test.no_unit known.units admit.unit)
+no_such known (Command.AskTransfer ask) = no_household known ask.household
+no_such known (Command.Household act) = option_or (no_household known act.household) (no_such_in known act.household act.change)
 no_such known _ = None
 
 -- ---- 6 and 7: what the clerk saw of the household
 
 abbrev pub stale : Known → Command → Option Refusal
-stale known (command.Household act) = test.stale (newest_number (own_in known act.household)) act.seen
+stale known (Command.Household act) = test.stale (newest_number (own_in known act.household)) act.seen
 stale known _ = None
 
 abbrev pub unseen : Known → Command → Option Refusal
-unseen known (command.Household act) = test.unseen (newest_number (own_in known act.household)) act.seen
+unseen known (Command.Household act) = test.unseen (newest_number (own_in known act.household)) act.seen
 unseen known _ = None
 
 -- ---- 8: the facts, on the first day of the record
 
 abbrev pub facts_rule_in : HouseholdChange → Option Refusal
-facts_rule_in (change.Annual annual) = test.facts_rule annual.facts annual.from
-facts_rule_in (change.Interim interim) = test.facts_rule interim.facts interim.from
-facts_rule_in (change.Resume resume) = test.facts_rule resume.facts resume.from
-facts_rule_in (change.Correct correct) = test.facts_rule correct.facts correct.from
+facts_rule_in (HouseholdChange.Annual annual) = test.facts_rule annual.facts annual.from
+facts_rule_in (HouseholdChange.Interim interim) = test.facts_rule interim.facts interim.from
+facts_rule_in (HouseholdChange.Resume resume) = test.facts_rule resume.facts resume.from
+facts_rule_in (HouseholdChange.Correct correct) = test.facts_rule correct.facts correct.from
 facts_rule_in _ = None
 
 abbrev pub facts_rule : Command → Option Refusal
-facts_rule (command.Start start) = test.facts_rule start.facts start.from
-facts_rule (command.Admit admit) = test.facts_rule admit.facts admit.from
-facts_rule (command.Household act) = facts_rule_in act.change
+facts_rule (Command.Start start) = test.facts_rule start.facts start.from
+facts_rule (Command.Admit admit) = test.facts_rule admit.facts admit.from
+facts_rule (Command.Household act) = facts_rule_in act.change
 facts_rule _ = None
 
 -- ---- 9: the days, in the order of their fields
@@ -117,22 +102,22 @@ told_range today interim = option_or (test.day_range first_day today interim.dat
     (option_or (test.day_range interim.dates.event today interim.dates.notice) (test.day_range interim.dates.notice today interim.dates.done))
 
 abbrev pub day_range_in : Known → ℕ → HouseholdChange → Option Refusal
-day_range_in known today (change.Annual annual) = from_range known annual.from
-day_range_in known today (change.Interim interim) = option_or (told_range today interim) (from_range known interim.from)
-day_range_in known today (change.Resume resume) = option_or (test.day_range first_day today resume.done) (from_range known resume.from)
-day_range_in known today (change.Gross gross) = from_range known gross.from
-day_range_in known today (change.Correct correct) = from_range known correct.from
-day_range_in known today (change.Transfer transfer) = from_range known transfer.from
-day_range_in known today (change.MoveOut move_out) = test.day_range (plan_day known) last_day_lived move_out.last
-day_range_in known today (change.Terminate terminate) = from_range known terminate.from
+day_range_in known today (HouseholdChange.Annual annual) = from_range known annual.from
+day_range_in known today (HouseholdChange.Interim interim) = option_or (told_range today interim) (from_range known interim.from)
+day_range_in known today (HouseholdChange.Resume resume) = option_or (test.day_range first_day today resume.done) (from_range known resume.from)
+day_range_in known today (HouseholdChange.Gross gross) = from_range known gross.from
+day_range_in known today (HouseholdChange.Correct correct) = from_range known correct.from
+day_range_in known today (HouseholdChange.Transfer transfer) = from_range known transfer.from
+day_range_in known today (HouseholdChange.MoveOut move_out) = test.day_range (plan_day known) last_day_lived move_out.last
+day_range_in known today (HouseholdChange.Terminate terminate) = from_range known terminate.from
 day_range_in known today _ = None
 
 abbrev pub day_range : Known → ℕ → Command → Option Refusal
-day_range known today (command.Rents rents) = test.day_range first_day last_day rents.from
-day_range known today (command.Limits limits) = test.day_range first_day last_day limits.from
-day_range known today (command.Start start) = from_range known start.from
-day_range known today (command.Admit admit) = from_range known admit.from
-day_range known today (command.Household act) = day_range_in known today act.change
+day_range known today (Command.Rents rents) = test.day_range first_day last_day rents.from
+day_range known today (Command.Limits limits) = test.day_range first_day last_day limits.from
+day_range known today (Command.Start start) = from_range known start.from
+day_range known today (Command.Admit admit) = from_range known admit.from
+day_range known today (Command.Household act) = day_range_in known today act.change
 day_range known today _ = None
 
 -- ---- 10 and 11: rents, and for a move-in limits, on the first day of the record
@@ -152,12 +137,12 @@ no_limits known asked = option_and_then (no_limits_on known) (heading_of known a
 -- ---- 12: the record that is corrected or withdrawn
 
 abbrev pub not_live_in : Known → ℕ → HouseholdChange → Option Refusal
-not_live_in known household (change.Correct correct) = test.not_live known.count (own_in known household) correct.target
-not_live_in known household (change.Withdraw withdraw) = test.not_live known.count (own_in known household) withdraw.target
+not_live_in known household (HouseholdChange.Correct correct) = test.not_live known.count (own_in known household) correct.target
+not_live_in known household (HouseholdChange.Withdraw withdraw) = test.not_live known.count (own_in known household) withdraw.target
 not_live_in known household _ = None
 
 abbrev pub not_live : Known → Command → Option Refusal
-not_live known (command.Household act) = not_live_in known act.household act.change
+not_live known (Command.Household act) = not_live_in known act.household act.change
 not_live known _ = None
 
 -- ---- 13: the rightful day
@@ -178,38 +163,38 @@ wrong_correction known household correct made = option_and_then (λ plan. option
     (record_at (own_in known household) correct.target)) known.plan
 
 abbrev pub wrong_day_in : Known → ℕ → HouseholdChange → Option Record → Option Refusal
-wrong_day_in known household (change.Annual annual) made = test.wrong_day (annual_right (own_in known household)) annual.from
-wrong_day_in known household (change.Interim interim) made = option_and_then (wrong_interim known household interim) made
-wrong_day_in known household (change.Resume resume) made = test.wrong_day (Some (resume_right resume.done)) resume.from
-wrong_day_in known household (change.Gross gross) made =
+wrong_day_in known household (HouseholdChange.Annual annual) made = test.wrong_day (annual_right (own_in known household)) annual.from
+wrong_day_in known household (HouseholdChange.Interim interim) made = option_and_then (wrong_interim known household interim) made
+wrong_day_in known household (HouseholdChange.Resume resume) made = test.wrong_day (Some (resume_right resume.done)) resume.from
+wrong_day_in known household (HouseholdChange.Gross gross) made =
     test.wrong_day (gross_day_of (own_in known household) known.units known.rents) gross.from
-wrong_day_in known household (change.Correct correct) made = option_and_then (wrong_correction known household correct) made
+wrong_day_in known household (HouseholdChange.Correct correct) made = option_and_then (wrong_correction known household correct) made
 wrong_day_in known household _ made = None
 
 abbrev pub wrong_day : Known → Command → Option Refusal
-wrong_day known (command.Household act) = wrong_day_in known act.household act.change (record_of known (command.Household act))
+wrong_day known (Command.Household act) = wrong_day_in known act.household act.change (record_of known (Command.Household act))
 wrong_day known _ = None
 
 -- ---- 14 to 17: order, names and places
 
 abbrev pub disorder : Known → Command → Option Refusal
-disorder known (command.Household act) =
-    of_made known (command.Household act) (λ made. test.disorder (own_in known made.household) (change_by made))
+disorder known (Command.Household act) =
+    of_made known (Command.Household act) (λ made. test.disorder (own_in known made.household) (change_by made))
 disorder known _ = None
 
 abbrev pub name_taken : Known → Command → Option Refusal
-name_taken known (command.Unit unit) = test.name_taken known.units unit.name
+name_taken known (Command.Unit unit) = test.name_taken known.units unit.name
 name_taken known _ = None
 
 abbrev pub move_in_for : ℕ → HouseholdChange → Option MoveIn
-move_in_for household (change.Transfer transfer) =
-    Some (record { candidate = candidate.Household household; unit = transfer.unit; from = transfer.from })
+move_in_for household (HouseholdChange.Transfer transfer) =
+    Some (record { candidate = Candidate.Household household; unit = transfer.unit; from = transfer.from })
 move_in_for household _ = None
 
 -- who moves into which unit by the act, and from which day on
 abbrev pub move_in_of : Command → Option MoveIn
-move_in_of (command.Admit admit) = Some (record { candidate = candidate.Applicant admit.applicant; unit = admit.unit; from = admit.from })
-move_in_of (command.Household act) = move_in_for act.household act.change
+move_in_of (Command.Admit admit) = Some (record { candidate = Candidate.Applicant admit.applicant; unit = admit.unit; from = admit.from })
+move_in_of (Command.Household act) = move_in_for act.household act.change
 move_in_of _ = None
 
 -- what stands against moving in, by the plan and the unit
@@ -225,16 +210,16 @@ size_misfit known asked = of_move_in known (move_in_of asked) (too_many (record_
 
 -- a record by which its household may come to have a unit that another has
 abbrev pub may_collide_in : HouseholdChange → Bool
-may_collide_in (change.Resume resume) = true
-may_collide_in (change.Correct correct) = true
-may_collide_in (change.Transfer transfer) = true
-may_collide_in (change.Withdraw withdraw) = true
+may_collide_in (HouseholdChange.Resume resume) = true
+may_collide_in (HouseholdChange.Correct correct) = true
+may_collide_in (HouseholdChange.Transfer transfer) = true
+may_collide_in (HouseholdChange.Withdraw withdraw) = true
 may_collide_in _ = false
 
 abbrev pub may_collide : Command → Bool
-may_collide (command.Start start) = true
-may_collide (command.Admit admit) = true
-may_collide (command.Household act) = may_collide_in act.change
+may_collide (Command.Start start) = true
+may_collide (Command.Admit admit) = true
+may_collide (Command.Household act) = may_collide_in act.change
 may_collide _ = false
 
 abbrev pub unit_taken : Known → Command → Option Refusal
@@ -260,16 +245,16 @@ ineligible_by known made = option_and_then (λ plan. option_and_then (λ row. te
     (limits_on known.limits made.from)) known.plan
 
 abbrev pub ineligible : Known → Command → Option Refusal
-ineligible known (command.Admit admit) = of_made known (command.Admit admit) (ineligible_by known)
+ineligible known (Command.Admit admit) = of_made known (Command.Admit admit) (ineligible_by known)
 ineligible known _ = None
 
 -- an admission or a resumed certification begins assistance
 abbrev pub begins_assistance : Command → Bool
-begins_assistance (command.Admit admit) = true
-begins_assistance (command.Household act) = resumes act.change
+begins_assistance (Command.Admit admit) = true
+begins_assistance (Command.Household act) = resumes act.change
   where
     resumes : HouseholdChange → Bool
-    resumes (change.Resume resume) = true
+    resumes (HouseholdChange.Resume resume) = true
     resumes _ = false
 begins_assistance _ = false
 
@@ -284,17 +269,17 @@ abbrev pub next_month : Known → Option ℕ
 next_month known = option_and_then (λ plan. test.next_to_close plan.first (option_map (λ closing. closing.month) known.closing)) known.plan
 
 abbrev pub wrong_month : Known → Command → Option Refusal
-wrong_month known (command.Close close) = test.wrong_month (next_month known) close.month
+wrong_month known (Command.Close close) = test.wrong_month (next_month known) close.month
 wrong_month known _ = None
 
 -- of all households through the month, from the plan's first day
 abbrev pub rent_due : Known → Command → Option Refusal
-rent_due known (command.Close close) =
+rent_due known (Command.Close close) =
     test.rent_due known.households known.units known.rents (plan_day known) (last_day_of close.month)
 rent_due known _ = None
 
 abbrev pub overdue : Known → Command → Option Refusal
-overdue known (command.Close close) = test.overdue known.households close.month
+overdue known (Command.Close close) = test.overdue known.households close.month
 overdue known _ = None
 
 -- ---- all of these

@@ -1,23 +1,14 @@
 -- Who is next for a unit on a day, by the tables.
 use Rattle.std.specs.Prelude.{ℕ, ◌+◌, ◌-◌, ◌/◌, ◌==◌, ◌&&◌, not, nat_lt, if◌then◌else◌, Bool, true, false, Option, Some, None, option_and_then, List, length, filter, count_by, slice_index_or}
-use Rattle.std.specs.List.{range_with_len, filter_map, flat_map}
-use Rattle.std.specs.Option.{option_map, option_map_or}
+use Rattle.std.specs.{List.range_with_len, List.filter_map, List.flat_map, Option.option_map, Option.option_map_or}
 use Rattle.row_choice.specs.Latest.{latest as latest_by}
 use Rattle.days_core.specs.Calendar.{month_of}
-use Rattle.record_history.specs.declared.records.Record.{Record}
-use Rattle.record_history.specs.Records.{live_records, in_force}
-use Rattle.record_history.specs.Held.{records_of}
+use Rattle.record_history.specs.{declared.records.Record.Record, Records.live_records, Records.in_force, Held.records_of}
 use Rattle.due_dates.specs.Stale.{ends_assistance}
 use Rattle.tenancy_rules.specs.Order.{is_move_in, is_transfer}
-use Rattle.rent_table.specs.declared.plan.Plan.{Plan}
-use Rattle.rent_table.specs.declared.rows.Unit.{Unit as UnitRow}
-use Rattle.rent_table.specs.declared.rows.LimitRow.{LimitRow}
-use Rattle.rent_table.specs.Admission.{suits}
-use Rattle.wait_list.specs.declared.targets.Targets.{Targets}
-use Rattle.wait_list.specs.Target.{wants_extremely_low}
-use Rattle.wait_list.specs.Next.{Asked}
-use Rattle.office_step.specs.declared.known.Request.{Request}
-use Rattle.office_step.specs.declared.known.Mover.{Mover}
+use Rattle.rent_table.specs.{declared.plan.Plan.Plan, declared.rows.Unit.Unit as UnitRow, declared.rows.LimitRow.LimitRow, Admission.suits}
+use Rattle.wait_list.specs.{declared.targets.Targets.Targets, Target.wants_extremely_low, Next.Asked}
+use Rattle.office_step.specs.declared.known.{Request.Request, Mover.Mover}
 
 -- ---- movers
 

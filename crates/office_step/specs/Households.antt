@@ -1,12 +1,7 @@
 -- What the records of households say, on a day or after a change.
 use Rattle.std.specs.Prelude.{ℕ, ◌≤◌, ◌==◌, nat_le, if◌then◌else◌, Bool, true, false, Option, Some, None, List, map, filter, find}
-use Rattle.std.specs.List.{range_with_len}
-use Rattle.std.specs.Option.{option_map_or, option_or}
-use Rattle.record_history.specs.declared.records.Kind.{Kind}
-use Rattle.record_history.specs.declared.records.Kind.TheVariants as kind
-use Rattle.record_history.specs.declared.records.Record.{Record}
-use Rattle.record_history.specs.declared.records.Dates.{Dates}
-use Rattle.record_history.specs.Records.{in_force, latest, is_withdrawal}
+use Rattle.std.specs.{List.range_with_len, Option.option_map_or, Option.option_or}
+use Rattle.record_history.specs.{declared.records.Kind.Kind, declared.records.Record.Record, declared.records.Dates.Dates, Records.in_force, Records.latest, Records.is_withdrawal}
 use Rattle.tenancy_rules.specs.declared.change.Change.{Change}
 
 -- the records of one household
@@ -35,17 +30,17 @@ standing_on live day = latest (filter (λ r. nat_le r.from day) live)
 
 -- it begins a household's year: a move-in, an initial certification or an annual recertification
 abbrev pub begins_year : Kind → Bool
-begins_year kind.MI = true
-begins_year kind.IC = true
-begins_year kind.AR = true
+begins_year Kind.MI = true
+begins_year Kind.IC = true
+begins_year Kind.AR = true
 begins_year _ = false
 
 -- a correction may name it: it was computed from facts
 abbrev pub rests_on_facts : Kind → Bool
-rests_on_facts kind.MI = true
-rests_on_facts kind.IC = true
-rests_on_facts kind.AR = true
-rests_on_facts kind.IR = true
+rests_on_facts Kind.MI = true
+rests_on_facts Kind.IC = true
+rests_on_facts Kind.AR = true
+rests_on_facts Kind.IR = true
 rests_on_facts _ = false
 
 -- the days of a change that was told come no later than the day

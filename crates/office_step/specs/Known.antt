@@ -1,18 +1,11 @@
 -- What an office knows by the acts and records of its book.
 use Rattle.std.specs.Prelude.{ℕ, Option, List, length}
-use Rattle.record_history.specs.declared.records.Record.{Record}
-use Rattle.record_history.specs.Held.{records_of}
-use Rattle.rent_table.specs.declared.plan.Plan.{Plan}
-use Rattle.rent_table.specs.declared.rows.Unit.{Unit as UnitRow}
-use Rattle.rent_table.specs.declared.rows.RentRow.{RentRow}
-use Rattle.rent_table.specs.declared.rows.LimitRow.{LimitRow}
+use Rattle.record_history.specs.{declared.records.Record.Record, Held.records_of}
+use Rattle.rent_table.specs.declared.{plan.Plan.Plan, rows.Unit.Unit as UnitRow, rows.RentRow.RentRow, rows.LimitRow.LimitRow}
 use Rattle.wait_list.specs.declared.applicant.Applicant.{Applicant}
 use Rattle.book_rows.specs.Book.{Book}
-use Rattle.office_step.specs.declared.known.Application.{Application}
-use Rattle.office_step.specs.declared.known.Request.{Request}
-use Rattle.office_step.specs.declared.known.Closed.{Closed}
+use Rattle.office_step.specs.{declared.known.Application.Application, declared.known.Request.Request, declared.known.Closed.Closed, Households.households_of}
 use Rattle.office_step.specs.Acts.{Act, acts_of, plan_of, plan_act, units_of, rents_of, limits_of, applications_of, ranks_of, waiting_of, names_of, household_count, requests_of, last_closing}
-use Rattle.office_step.specs.Households.{households_of}
 
 -- how many acts there are, the plan and the act that gave it, the rows that acts set, all who applied and those who still
 -- wait, and of each household its name, its records and the last that it said of another unit; and the last closing

@@ -2,29 +2,15 @@
 use Rattle.std.specs.Prelude.{ℕ, ◌+◌, if◌then◌else◌, Bool, true, false, Option, Some, None, option_and_then, List, [], length}
 use Rattle.std.specs.Option.{option_map, option_map_or}
 use Rattle.days_core.specs.declared.rents.Rents.{Rents}
-use Rattle.record_history.specs.declared.records.Dates.{Dates}
-use Rattle.record_history.specs.declared.records.Kind.{Kind}
-use Rattle.record_history.specs.declared.records.Kind.TheVariants as kind
-use Rattle.record_history.specs.declared.records.Record.{Record}
-use Rattle.record_history.specs.Records.{newest_number}
+use Rattle.record_history.specs.{declared.records.Dates.Dates, declared.records.Kind.Kind, declared.records.Record.Record, Records.newest_number}
 use Rattle.facts_core.specs.declared.facts.Facts.{Facts}
-use Rattle.rent_table.specs.declared.rows.LimitRow.{LimitRow}
-use Rattle.rent_table.specs.Table.{limits_on}
-use Rattle.rent_table.specs.Admission.{has_extremely_low_income}
+use Rattle.rent_table.specs.{declared.rows.LimitRow.LimitRow, Table.limits_on, Admission.has_extremely_low_income}
 use Rattle.tenancy_rules.specs.Order.{is_move_in}
 use Rattle.due_dates.specs.Stale.{unit_rents_on}
-use Rattle.voucher_core.specs.declared.line.Line.{Line}
-use Rattle.voucher_core.specs.Lines.{closing_lines, placed}
-use Rattle.certified_figures.specs.declared.figures.Figures.{Figures}
-use Rattle.certified_figures.specs.Figures.{figures_of, carried_figures, no_figures}
-use Rattle.book_rows.specs.declared.command.Command.{Command}
-use Rattle.book_rows.specs.declared.command.Command.TheVariants as command
-use Rattle.book_rows.specs.declared.household.HouseholdChange.{HouseholdChange}
-use Rattle.book_rows.specs.declared.household.HouseholdChange.TheVariants as change
-use Rattle.book_rows.specs.declared.closings.CloseAct.{CloseAct}
-use Rattle.office_step.specs.declared.heading.Heading.{Heading}
-use Rattle.office_step.specs.Known.{Known, own_in}
-use Rattle.office_step.specs.Households.{record_at, continued, unit_continued}
+use Rattle.voucher_core.specs.{declared.line.Line.Line, Lines.closing_lines, Lines.placed}
+use Rattle.certified_figures.specs.{declared.figures.Figures.Figures, Figures.figures_of, Figures.carried_figures, Figures.no_figures}
+use Rattle.book_rows.specs.declared.{command.Command.Command, household.HouseholdChange.HouseholdChange, closings.CloseAct.CloseAct}
+use Rattle.office_step.specs.{declared.heading.Heading.Heading, Known.Known, Known.own_in, Households.record_at, Households.continued, Households.unit_continued}
 
 -- ---- what an act reads
 
@@ -111,12 +97,12 @@ correction_heading household target from =
 -- a transfer is for the new unit
 abbrev pub transfer_heading : ℕ → ℕ → ℕ → Heading
 transfer_heading household unit from =
-    record { household = household; kind = kind.UT; from = from; corrects = 0; unit = unit; dates = None }
+    record { household = household; kind = Kind.UT; from = from; corrects = 0; unit = unit; dates = None }
 
 -- a withdrawal has the first day of its target, and no unit
 abbrev pub withdrawal_heading : ℕ → Record → Heading
 withdrawal_heading household target =
-    record { household = household; kind = kind.WD; from = target.from; corrects = target.number; unit = 0; dates = None }
+    record { household = household; kind = Kind.WD; from = target.from; corrects = target.number; unit = 0; dates = None }
 
 -- all three days are the one on which the work was done
 abbrev pub resumed_dates : ℕ → Option Dates
@@ -124,23 +110,23 @@ resumed_dates done = Some (record { event = done; notice = done; done = done })
 
 -- the heading of the record of a change, if it makes one
 abbrev pub heading_for : Known → ℕ → HouseholdChange → Option Heading
-heading_for known household (change.Annual annual) = Some (further_heading known household kind.AR annual.from None)
-heading_for known household (change.Interim interim) = Some (further_heading known household kind.IR interim.from (Some interim.dates))
-heading_for known household (change.Resume resume) = Some (further_heading known household kind.IC resume.from (resumed_dates resume.done))
-heading_for known household (change.Gross gross) = Some (further_heading known household kind.GR gross.from None)
-heading_for known household (change.Correct correct) =
+heading_for known household (HouseholdChange.Annual annual) = Some (further_heading known household Kind.AR annual.from None)
+heading_for known household (HouseholdChange.Interim interim) = Some (further_heading known household Kind.IR interim.from (Some interim.dates))
+heading_for known household (HouseholdChange.Resume resume) = Some (further_heading known household Kind.IC resume.from (resumed_dates resume.done))
+heading_for known household (HouseholdChange.Gross gross) = Some (further_heading known household Kind.GR gross.from None)
+heading_for known household (HouseholdChange.Correct correct) =
     option_map (λ target. correction_heading household target correct.from) (record_at (own_in known household) correct.target)
-heading_for known household (change.Transfer transfer) = Some (transfer_heading household transfer.unit transfer.from)
-heading_for known household (change.MoveOut move_out) = Some (further_heading known household kind.MO (move_out.last + 1) None)
-heading_for known household (change.Terminate terminate) = Some (further_heading known household kind.TM terminate.from None)
-heading_for known household (change.Withdraw withdraw) =
+heading_for known household (HouseholdChange.Transfer transfer) = Some (transfer_heading household transfer.unit transfer.from)
+heading_for known household (HouseholdChange.MoveOut move_out) = Some (further_heading known household Kind.MO (move_out.last + 1) None)
+heading_for known household (HouseholdChange.Terminate terminate) = Some (further_heading known household Kind.TM terminate.from None)
+heading_for known household (HouseholdChange.Withdraw withdraw) =
     option_map (λ target. withdrawal_heading household target) (record_at (own_in known household) withdraw.target)
 
 -- the heading of the record that the next act makes, if it makes one
 abbrev pub heading_of : Known → Command → Option Heading
-heading_of known (command.Start start) = Some (new_heading known kind.IC start.unit start.from)
-heading_of known (command.Admit admit) = Some (new_heading known kind.MI admit.unit admit.from)
-heading_of known (command.Household act) = heading_for known act.household act.change
+heading_of known (Command.Start start) = Some (new_heading known Kind.IC start.unit start.from)
+heading_of known (Command.Admit admit) = Some (new_heading known Kind.MI admit.unit admit.from)
+heading_of known (Command.Household act) = heading_for known act.household act.change
 heading_of known _ = None
 
 -- what a record certifies comes of facts, or of what was certified before, or it certifies nothing
@@ -154,18 +140,18 @@ certifies nothing = false
 certifies _ = true
 
 abbrev pub basis_for : HouseholdChange → Basis
-basis_for (change.Annual annual) = from_facts annual.facts
-basis_for (change.Interim interim) = from_facts interim.facts
-basis_for (change.Resume resume) = from_facts resume.facts
-basis_for (change.Correct correct) = from_facts correct.facts
-basis_for (change.Gross gross) = carried
-basis_for (change.Transfer transfer) = carried
+basis_for (HouseholdChange.Annual annual) = from_facts annual.facts
+basis_for (HouseholdChange.Interim interim) = from_facts interim.facts
+basis_for (HouseholdChange.Resume resume) = from_facts resume.facts
+basis_for (HouseholdChange.Correct correct) = from_facts correct.facts
+basis_for (HouseholdChange.Gross gross) = carried
+basis_for (HouseholdChange.Transfer transfer) = carried
 basis_for _ = nothing
 
 abbrev pub basis_of : Command → Basis
-basis_of (command.Start start) = from_facts start.facts
-basis_of (command.Admit admit) = from_facts admit.facts
-basis_of (command.Household act) = basis_for act.change
+basis_of (Command.Start start) = from_facts start.facts
+basis_of (Command.Admit admit) = from_facts admit.facts
+basis_of (Command.Household act) = basis_for act.change
 basis_of _ = nothing
 
 abbrev pub made_on : Known → Basis → Heading → Option Record
@@ -191,5 +177,5 @@ lines_of_close known close =
 
 -- the lines that the next act makes
 abbrev pub lines_of : Known → Command → List Line
-lines_of known (command.Close close) = lines_of_close known close
+lines_of known (Command.Close close) = lines_of_close known close
 lines_of known _ = []

@@ -1,19 +1,9 @@
 -- What the office of one clerk does with a call: a repeat, the first refusal that stands, or the rows that it appends.
 use Rattle.std.specs.Prelude.{ℕ, ◌+◌, ◌++◌, ◌≡◌, ◌&&◌, nat_le, max, min, Bool, true, Option, Some, None, List, [], ◌∷◌, length}
-use Rattle.book_rows.specs.declared.rows.ActRow.{ActRow}
-use Rattle.book_rows.specs.declared.rows.Batch.{Batch}
-use Rattle.book_rows.specs.Fit.{is_within, is_fit}
-use Rattle.book_rows.specs.Book.{Book, empty_book, appended}
+use Rattle.book_rows.specs.{declared.rows.ActRow.ActRow, declared.rows.Batch.Batch, Fit.is_within, Fit.is_fit, Book.Book, Book.empty_book, Book.appended}
 use Rattle.command_forms.specs.Commands.{command_in, body_of}
-use Rattle.office_step.specs.declared.call.Call.{Call}
-use Rattle.office_step.specs.declared.call.Capacity.{Capacity}
-use Rattle.office_step.specs.declared.refusal.Refusal.{Refusal}
-use Rattle.office_step.specs.declared.reply.Done.{Done}
-use Rattle.office_step.specs.Known.{known_of}
-use Rattle.office_step.specs.Made.{record_of, lines_of}
+use Rattle.office_step.specs.{declared.call.Call.Call, declared.call.Capacity.Capacity, declared.refusal.Refusal.Refusal, declared.reply.Done.Done, Known.known_of, Made.record_of, Made.lines_of, Against.first_day, Against.last_day, Against.tests_of, Reply.done_of}
 use Rattle.office_step.specs.Refusals.{first_of, repeated, request_reused, lines_full}
-use Rattle.office_step.specs.Against.{first_day, last_day, tests_of}
-use Rattle.office_step.specs.Reply.{done_of}
 
 -- ---- days
 

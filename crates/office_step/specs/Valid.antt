@@ -1,19 +1,11 @@
 -- Which tables are those of an office: act by act, the rows that it appends. And where other tables first go wrong.
 use Rattle.std.specs.Prelude.{ℕ, ◌≡◌, ◌==◌, ◌&&◌, not, nat_le, if◌then◌else◌, Option, Some, None, option_and_then, option_to_list, List, [], ◌∷◌, length, map, filter}
-use Rattle.std.specs.Option.{option_map, option_map_or, option_or}
-use Rattle.std.specs.Cmp.Lexicographic.{pointwise}
+use Rattle.std.specs.{Option.option_map, Option.option_map_or, Option.option_or, Cmp.Lexicographic.pointwise}
 use Rattle.record_history.specs.declared.records.Record.{Record}
 use Rattle.voucher_core.specs.declared.line.Line.{Line}
-use Rattle.book_rows.specs.declared.rows.ActRow.{ActRow}
-use Rattle.book_rows.specs.declared.rows.Batch.{Batch}
-use Rattle.book_rows.specs.declared.rows.Table.TheVariants as table
-use Rattle.book_rows.specs.declared.rows.Table.{Table}
-use Rattle.book_rows.specs.Book.{Book, empty_book, appended}
-use Rattle.book_rows.specs.Same.{same_act, same_record, same_line}
+use Rattle.book_rows.specs.{declared.rows.ActRow.ActRow, declared.rows.Batch.Batch, declared.rows.Table.Table, Book.Book, Book.empty_book, Book.appended, Same.same_act, Same.same_record, Same.same_line}
 use Rattle.command_forms.specs.Commands.{command_in}
-use Rattle.office_step.specs.declared.call.Call.{Call}
-use Rattle.office_step.specs.declared.call.Capacity.{Capacity}
-use Rattle.office_step.specs.declared.fault.Fault.{Fault}
+use Rattle.office_step.specs.declared.{call.Call.Call, call.Capacity.Capacity, fault.Fault.Fault}
 use Rattle.office_step.specs.Step.{Outcome, again, refused, appends, step, is_fit_call}
 
 abbrev pub fault_in : Table → ℕ → Fault
@@ -50,11 +42,11 @@ lines_by act lines = filter (λ line. line.act == act) lines
 
 -- where the rows of tables differ from those appended: in the act's own, else in its records, else in its lines
 abbrev pub difference : Book → ActRow → Option Batch → Option Fault
-difference tables row None = Some (fault_in table.Acts row.n)
+difference tables row None = Some (fault_in Table.Acts row.n)
 difference tables row (Some rows) =
-    if not (same_act rows.act row) then Some (fault_in table.Acts row.n)
-    else if not (pointwise same_record (option_to_list rows.made) (records_by row.n tables.records)) then Some (fault_in table.Records row.n)
-    else if not (pointwise same_line rows.lines (lines_by row.n tables.lines)) then Some (fault_in table.Lines row.n)
+    if not (same_act rows.act row) then Some (fault_in Table.Acts row.n)
+    else if not (pointwise same_record (option_to_list rows.made) (records_by row.n tables.records)) then Some (fault_in Table.Records row.n)
+    else if not (pointwise same_line rows.lines (lines_by row.n tables.lines)) then Some (fault_in Table.Lines row.n)
     else None
 
 -- ---- rows that no act made
@@ -67,8 +59,8 @@ stray count last (act ∷ acts) = if nat_le 1 act && (nat_le last act && nat_le 
 -- the first stray record, else the first stray line
 abbrev pub stray_row : Book → Option Fault
 stray_row tables = option_or
-    (option_map (fault_in table.Records) (stray (length tables.acts) 0 (map (λ r. r.act) tables.records)))
-    (option_map (fault_in table.Lines) (stray (length tables.acts) 0 (map (λ line. line.act) tables.lines)))
+    (option_map (fault_in Table.Records) (stray (length tables.acts) 0 (map (λ r. r.act) tables.records)))
+    (option_map (fault_in Table.Lines) (stray (length tables.acts) 0 (map (λ line. line.act) tables.lines)))
 
 -- ---- tables
 

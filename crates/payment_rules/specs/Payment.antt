@@ -1,7 +1,6 @@
 -- What a family pays for its unit and what the office claims for it, in whole dollars a month.
 use Rattle.std.specs.Prelude.{ℕ, ◌+◌, ◌-◌, max, min, Bool, true, false}
-use Rattle.days_core.specs.declared.rents.Rents.{Rents}
-use Rattle.days_core.specs.Rounding.{round_half_up}
+use Rattle.days_core.specs.{declared.rents.Rents.Rents, Rounding.round_half_up}
 use Rattle.payment_rules.specs.declared.figures.Payment.{Payment}
 
 -- 30 percent of the monthly adjusted income (24 CFR 5.628(a)(1)), of an income for the year

@@ -1,7 +1,7 @@
 pub mod Words
 pub mod Places
-pub mod Latest
 pub mod Kept
+pub mod Latest
 pub mod Days
 pub mod EachDay
 pub mod Longest

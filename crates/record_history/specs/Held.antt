@@ -1,8 +1,7 @@
 -- What a history holds: the records of each household, and the room for more.
 use Rattle.std.specs.Prelude.{ℕ, ◌+◌, ◌-◌, ◌==◌, ◌≤◌, ◌<◌, ◌≡◌, All, nat_le, nat_lt, if◌then◌else◌, List, [], ◌∷◌, ◌++◌, length, map, slice_index_or, slice_set, vec_items, vec_len, vec_capacity}
 use Rattle.std.specs.Global.{Vec}
-use Rattle.record_history.specs.declared.records.Record.{Record}
-use Rattle.record_history.specs.Records.{newest_number}
+use Rattle.record_history.specs.{declared.records.Record.Record, Records.newest_number}
 
 -- the records of household 1, 2 and so on in the order in which they came, and how many more fit for each and, last, for
 -- the household to come

@@ -1,8 +1,7 @@
 -- What it comes to that a record is in force.
 use Rattle.std.specs.Prelude.{ℕ, ◌&&◌, nat_le, Bool, List}
 use Rattle.row_choice.specs.Latest.{IsLatest}
-use Rattle.record_history.specs.declared.records.Record.{Record}
-use Rattle.record_history.specs.Records.{is_live, comes_before, in_force}
+use Rattle.record_history.specs.{declared.records.Record.Record, Records.is_live, Records.comes_before, Records.in_force}
 
 -- it counts, and has begun by the day
 abbrev pub is_candidate : List Record → ℕ → Record → Bool

@@ -3,9 +3,7 @@
 -- Each definition but the last takes the records that are known, all of one household.
 use Rattle.std.specs.Prelude.{ℕ, ◌&&◌, ◌==◌, not, nat_le, max, Bool, true, false, List, filter, fold, Option}
 use Rattle.std.specs.List.{list_any}
-use Rattle.record_history.specs.declared.records.Kind.{Kind}
-use Rattle.record_history.specs.declared.records.Kind.TheVariants as kind
-use Rattle.record_history.specs.declared.records.Record.{Record}
+use Rattle.record_history.specs.declared.records.{Kind.Kind, Record.Record}
 use Rattle.row_choice.specs.Latest.{comes_before as pair_comes_before, later as later_by, latest as latest_by}
 
 -- the records that the acts up to this one made
@@ -14,15 +12,8 @@ as_of act records = filter (λ r. nat_le r.act act) records
 
 -- it withdraws another record, and certifies nothing
 abbrev pub is_withdrawal : Kind → Bool
-is_withdrawal kind.MI = false
-is_withdrawal kind.IC = false
-is_withdrawal kind.AR = false
-is_withdrawal kind.IR = false
-is_withdrawal kind.GR = false
-is_withdrawal kind.UT = false
-is_withdrawal kind.MO = false
-is_withdrawal kind.TM = false
-is_withdrawal kind.WD = true
+is_withdrawal Kind.WD = true
+is_withdrawal _ = false
 
 -- it withdraws nothing, and none of the records corrects or withdraws it, whether or not that one counts itself
 abbrev pub is_live : List Record → Record → Bool

@@ -1,10 +1,7 @@
 -- Runs of days on which one record is in force.
 use Rattle.std.specs.Prelude.{ℕ, ◌+◌, ◌≤◌, ◌≡◌, ◌≢◌, List, [], ◌∷◌}
 use Rattle.std.specs.Option.{option_map_or}
-use Rattle.record_history.specs.declared.records.Record.{Record}
-use Rattle.record_history.specs.declared.stretch.Stretch.{Stretch}
-use Rattle.record_history.specs.declared.runs.Run.{Run}
-use Rattle.record_history.specs.Records.{in_force}
+use Rattle.record_history.specs.{declared.records.Record.Record, declared.stretch.Stretch.Stretch, declared.runs.Run.Run, Records.in_force}
 
 -- the number of the record in force, and 0 where none is
 abbrev pub number_on : List Record → ℕ → ℕ

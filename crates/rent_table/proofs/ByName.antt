@@ -1,8 +1,6 @@
 -- A unit by its name, found among the places in the order of names.
 use Rattle.rent_table.proofs.Words.{◌≡◌, ◌∙◌, sym, ap, ℕ, ◌+◌, ◌≤◌, ◌<◌, nat_eq, Bool, true, false, List, [], ◌∷◌, ◌++◌, length, suc, get_or, subst, inl, inr, arith, length-append, Option, Some, None, find, slice_get, pointwise, slice_cmp, same_text, insert, range_with_len, option_map_or, nat_list_cmp_total, ranks_by, UnitRow, name_at, is_before, AreByName, has_name, HaveOwnNames, find_key, IsSortedBy-insert, find_own, none_at_places, places_within, all_places-insert}
-use Rattle.std.specs.Cmp.{IsStrictWeakOrder}
-use Rattle.std.specs.List.Sorted.{IsPartitionPoint, IsPermutation}
-use Rattle.std.specs.Ordering.{nat_cmp, is_lt}
+use Rattle.std.specs.{Cmp.IsStrictWeakOrder, List.Sorted.IsPartitionPoint, List.Sorted.IsPermutation, Ordering.nat_cmp, Ordering.is_lt}
 use Rattle.std.proofs.lemmas.Map.Text.{is_eq-slice_cmp}
 use Rattle.std.proofs.lemmas.Option.{none-some, slice_get_cases, slice_get_within, get_or_from_slice_get}
 use Rattle.row_index.proofs.Points.{if_passes, found_not_there, nothing_there}

@@ -1,9 +1,7 @@
 -- A unit whose number and name are new leaves each unit its own number and name.
 use Rattle.rent_table.proofs.Words.{◌≡◌, ◌≢◌, sym, nat_eq, List, [], ◌∷◌, ◌++◌, None, find, other_text, UnitRow, unit_at, has_name, unit_named, HaveOwnNumbers, HaveOwnNames}
-use Rattle.std.proofs.lemmas.Bool.{eqb-false}
-use Rattle.std.proofs.lemmas.List.Quantifiers.{all_pairs_push}
-use Rattle.list_laws.proofs.Finds.{find_none}
-use Rattle.list_laws.proofs.Options.{option_map_none}
+use Rattle.std.proofs.lemmas.{Bool.eqb-false, List.Quantifiers.all_pairs_push}
+use Rattle.list_laws.proofs.{Finds.find_none, Options.option_map_none}
 
 -- a unit with a new number leaves each its own number
 pub HaveOwnNumbers-push : (units : List UnitRow) (unit : UnitRow) → HaveOwnNumbers units → unit_at units unit.number ≡ None →

@@ -1,9 +1,6 @@
 -- Who may be admitted to a unit: how many persons it is for, and how much income a family may have.
 use Rattle.std.specs.Prelude.{ℕ, ◌-◌, ◌&&◌, nat_le, if◌then◌else◌, Bool, List, slice_index_or}
-use Rattle.rent_table.specs.declared.plan.Bound.{Bound}
-use Rattle.rent_table.specs.declared.plan.Plan.{Plan}
-use Rattle.rent_table.specs.declared.rows.Unit.{Unit as UnitRow}
-use Rattle.rent_table.specs.declared.rows.LimitRow.{LimitRow}
+use Rattle.rent_table.specs.declared.{plan.Bound.Bound, plan.Plan.Plan, rows.Unit.Unit as UnitRow, rows.LimitRow.LimitRow}
 
 -- so many persons lie within the bounds that the plan sets for units of so many bedrooms
 abbrev pub suits : Plan → UnitRow → ℕ → Bool

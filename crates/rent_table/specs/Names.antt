@@ -1,10 +1,6 @@
 -- The places of units in the order of their names, by which a unit is found by its name.
 use Rattle.std.specs.Prelude.{ℕ, Bool, List, [], length, slice_get}
-use Rattle.std.specs.Cmp.Lexicographic.{slice_cmp}
-use Rattle.std.specs.List.{range_with_len}
-use Rattle.std.specs.List.Sorted.{IsPermutation, IsSortedByKey}
-use Rattle.std.specs.Option.{option_map_or}
-use Rattle.std.specs.Ordering.{nat_cmp, is_lt}
+use Rattle.std.specs.{Cmp.Lexicographic.slice_cmp, List.range_with_len, List.Sorted.IsPermutation, List.Sorted.IsSortedByKey, Option.option_map_or, Ordering.nat_cmp, Ordering.is_lt}
 use Rattle.rent_table.specs.declared.rows.Unit.{Unit as UnitRow}
 
 -- the name of the unit at that place, from 0

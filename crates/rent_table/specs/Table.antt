@@ -1,12 +1,8 @@
 -- An office's units, and which rents and income limits stand on a day.
 use Rattle.std.specs.Prelude.{◌≢◌, ◌<◌, ℕ, ◌&&◌, ◌==◌, nat_eq, nat_le, Bool, Option, List, AllPairs, filter, find}
-use Rattle.std.specs.Option.{option_map}
-use Rattle.std.specs.Cmp.Lexicographic.{pointwise}
+use Rattle.std.specs.{Option.option_map, Cmp.Lexicographic.pointwise}
 use Rattle.days_core.specs.declared.rents.Rents.{Rents}
-use Rattle.rent_table.specs.declared.rows.Unit.{Unit as UnitRow}
-use Rattle.rent_table.specs.declared.rows.RentRow.{RentRow}
-use Rattle.rent_table.specs.declared.rows.LimitRow.{LimitRow}
-use Rattle.rent_table.specs.Names.{AreByName}
+use Rattle.rent_table.specs.{declared.rows.Unit.Unit as UnitRow, declared.rows.RentRow.RentRow, declared.rows.LimitRow.LimitRow, Names.AreByName}
 use Rattle.row_choice.specs.Latest.{comes_before, latest}
 
 -- what an office has on record, in the order in which it came, and for how many more rows of each sort it has room

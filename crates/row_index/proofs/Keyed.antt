@@ -1,10 +1,5 @@
 -- Lists in the order of keys of any type, and where a binary search among them ends.
-use Rattle.row_index.proofs.Words.{◌≡◌, ℕ, ◌+◌, ◌-◌, ◌<◌, ◌≤◌, Bool, true, false, List, length, get_or, refl, sym, ◌∙◌, ap, subst, arith, find, slice_get, insert, IsPartitionPoint, IsPartitionedBy, IsSortedBy, IsSortedByKey, false≢true, ranks_by, sorted_far, common_steps}
-use Rattle.std.specs.Cmp.{IsTotalOrder, IsStrictWeakOrder}
-use Rattle.std.specs.Ordering.{is_lt, is_eq, ordering_reverse}
-use Rattle.std.specs.declared.cmp.Ordering.{Ordering}
-use Rattle.std.specs.declared.cmp.Ordering.TheVariants.{Equal}
-use Rattle.std.proofs.lemmas.List.Edits.{length-insert, get_or-insert_below, get_or-insert_at, get_or-insert_above}
+use Rattle.row_index.proofs.Words.{◌≡◌, ℕ, ◌+◌, ◌-◌, ◌<◌, ◌≤◌, Bool, true, false, List, length, get_or, subst, arith, find, slice_get, insert, IsPartitionPoint, IsPartitionedBy, IsSortedBy, IsSortedByKey, true_from_ne_false, ranks_by, sorted_far, common_steps, IsTotalOrder, IsStrictWeakOrder, is_lt, is_eq, Ordering, length-insert, get_or-insert_below, get_or-insert_at, get_or-insert_above}
 use Rattle.row_index.proofs.Points.{if_passes, find_at_point}
 
 -- an element between what is not above it and what is not below it keeps a list sorted
@@ -25,18 +20,12 @@ module _ {K : Type 0} {R : K → K → Ordering} (order : IsTotalOrder R) {X : T
   on_elements : IsStrictWeakOrder (λ x y. is_lt (R (key x) (key y)))
   on_elements = ranks_by order key
 
-  on_keys : IsStrictWeakOrder (λ (k l : K). is_lt (R k l))
-  on_keys = ranks_by order (λ (k : K). k)
-
-  not_above : (b : Bool) (k l : K) → is_lt (R k a) ≡ b → is_lt (R l k) ≡ false → is_lt (R l a) ≡ true → b ≡ true
-  not_above true k l is far lower = refl
-  not_above false k l is far lower = absurd (false≢true (sym (on_keys.chain l k a far is) ∙ lower))
-
   -- those with smaller keys come first
   pub parted : IsPartitionedBy (λ x. is_lt (R (key x) a)) xs
   parted i j d le within lower =
-      not_above (is_lt (R (key (get_or xs i d)) a)) _ _ refl
-      (sorted_far (λ x y. is_lt (R (key x) (key y))) on_elements xs sorted i j d le within) lower
+      let keys = ranks_by order (λ (k : K). k) in
+      let far = sorted_far (λ x y. is_lt (R (key x) (key y))) on_elements xs sorted i j d le within in
+      true_from_ne_false _ (λ above. (let other = keys.chain (key (get_or xs j d)) (key (get_or xs i d)) a far above in cc))
 
   -- the first of the key is where those with smaller keys end
   pub find_key : (same : K → Bool) → ((k : K) → is_eq (R k a) ≡ same k) → (i : ℕ) → i ≤ length xs →
@@ -48,22 +37,8 @@ module _ {K : Type 0} {R : K → K → Ordering} (order : IsTotalOrder R) {X : T
       (λ j d low high is. alike (key (get_or xs i d)) (key (get_or xs j d)) (point.1 i d (omega arith) (omega arith))
       (sorted_far (λ x y. is_lt (R (key x) (key y))) on_elements xs sorted i j d low high) is)
     where
-      not_equal : (o : Ordering) → is_lt o ≡ true → is_eq o ≡ false
-      not_equal o lower = grind (arith, common_steps, lower)
-
-      equal : (o : Ordering) → is_eq o ≡ true → o ≡ Equal
-      equal o is = grind (arith, common_steps, is)
-
-      neither : (o : Ordering) → is_lt o ≡ false → is_lt (ordering_reverse o) ≡ false → is_eq (ordering_reverse o) ≡ true
-      neither o lower higher = grind (arith, common_steps, lower, higher)
-
       another : (k : K) → is_lt (R k a) ≡ true → same k ≡ false
-      another k lower = sym (agrees k) ∙ not_equal (R k a) lower
+      another k lower = rw (← agrees k) (grind (arith, common_steps))
 
       alike : (k l : K) → is_lt (R k a) ≡ false → is_lt (R l k) ≡ false → same l ≡ true → same k ≡ true
-      alike k l from far is =
-          let tied : R l a ≡ Equal = equal (R l a) (agrees l ∙ is) in
-          let back : R k a ≡ ordering_reverse (R a k) = order.antisymm k a in
-          sym (agrees k)
-          ∙ ap is_eq back
-          ∙ neither (R a k) (ap is_lt (sym (order.congr l a k tied)) ∙ far) (ap is_lt (sym back) ∙ from)
+      alike k l from far is = grind (arith, common_steps, agrees k, agrees l, order.antisymm k a, order.congr l a k)

@@ -1,17 +1,12 @@
 -- Entries in the order of their keys.
-use Rattle.row_index.proofs.Words.{◌≡◌, ℕ, zero, suc, ◌<◌, ◌≤◌, Bool, true, false, List, [], ◌∷◌, ◌++◌, length, Some, None, eqb, refl, sym, ◌∙◌, ap, arith, append_assoc, find, fold, All, if◌then◌else◌, nat_lt, nat_le, insert, option_or, IsPartitionPoint, nat_tests, All-nil, All-cons, All-head, All-tail, Entry, KeysNeverFall, with_entry, in_order, has_key, find_fails, cond_both, lt-ltb, le-ltb, leb-true, leb-false, ltb-true, ltb-false}
-use Rattle.std.proofs.lemmas.List.Folds.{find-append}
-use Rattle.std.proofs.lemmas.List.{append-nil}
-use Rattle.list_laws.proofs.Options.{option_or-none}
+use Rattle.row_index.proofs.Words.{◌≡◌, ℕ, zero, suc, ◌<◌, ◌≤◌, true, false, List, [], ◌∷◌, ◌++◌, length, Some, None, refl, sym, ◌∙◌, ap, arith, append_assoc, find, fold, All, if◌then◌else◌, nat_lt, nat_le, insert, IsPartitionPoint, nat_tests, All-nil, All-cons, All-head, All-tail, Entry, KeysNeverFall, with_entry, in_order, has_key, find_fails, cond_both, le-ltb, leb-true, ltb-true, ltb-false, elements, common_steps, ◌-◌, find-append, append-nil}
 
 -- an entry goes where those of greater keys begin
 pub with_entry-insert : (entry : Entry) (entries : List Entry) (i : ℕ) → i ≤ length entries →
     IsPartitionPoint (λ e. nat_le e.key entry.key ≡ true) (λ e. nat_le e.key entry.key ≡ false) entries i →
     insert entries i entry ≡ with_entry entries entry
-with_entry-insert entry [] zero le point = refl
-with_entry-insert entry [] (suc i) le point = refl
-with_entry-insert entry (other ∷ rest) zero le point =
-    rw (lt-ltb entry.key other.key (leb-false other.key entry.key (point.1 0 other (omega arith) (omega arith)))) refl
+with_entry-insert entry [] i le point = grind arith
+with_entry-insert entry (other ∷ rest) zero le point = grind (arith, nat_tests, point.1 0 other (omega arith) (omega arith))
 with_entry-insert entry (other ∷ rest) (suc i) le point =
     rw (le-ltb entry.key other.key (leb-true other.key entry.key (point.0 0 other (omega arith) (omega arith))))
     (ap (λ es. other ∷ es) (with_entry-insert entry rest i (omega arith) (
@@ -27,10 +22,7 @@ order-head : (first : Entry) (rest : List Entry) → KeysNeverFall (first ∷ re
 order-head first rest order = λ k d within. order 0 (suc k) d (omega arith) (omega arith)
 
 order-cons : (first : Entry) (rest : List Entry) → All (λ e. first.key ≤ e.key) rest → KeysNeverFall rest → KeysNeverFall (first ∷ rest)
-order-cons first rest all order zero zero d le within = omega arith
-order-cons first rest all order zero (suc j) d le within = all j d (omega arith)
-order-cons first rest all order (suc i) zero d le within = absurd (omega arith)
-order-cons first rest all order (suc i) (suc j) d le within = order i j d (omega arith) (omega arith)
+order-cons first rest all order i j d le within = grind (arith, elements, all (j - 1) d, order (i - 1) (j - 1) d)
 
 -- what is true of all and of one more is true of all with it
 All-with_entry : (P : Entry → Type 0) (entries : List Entry) (entry : Entry) → P entry → All P entries → All P (with_entry entries entry)
@@ -41,8 +33,7 @@ All-with_entry P (other ∷ rest) entry is all =
 
 -- a key below the first is below all
 all_above : (key : ℕ) (first : Entry) (rest : List Entry) → key < first.key → KeysNeverFall (first ∷ rest) → All (λ e. key < e.key) (first ∷ rest)
-all_above key first rest lt order =
-    All-cons (λ e. key < e.key) first rest lt (λ k d within. let le = order 0 (suc k) d (omega arith) (omega (arith, within)) in omega (arith, le, lt))
+all_above key first rest lt order k d within = omega (arith, order 0 k d (omega arith) within, lt)
 
 -- an entry more leaves the keys in order
 pub order-with_entry : (entries : List Entry) (entry : Entry) → KeysNeverFall entries → KeysNeverFall (with_entry entries entry)
@@ -58,15 +49,10 @@ order-with_entry (other ∷ rest) entry order =
 -- a new entry is found alike before all greater keys and after them
 find-new_first : (key : ℕ) (entry : Entry) (entries : List Entry) → All (λ e. entry.key < e.key) entries →
     find (has_key key) (entry ∷ entries) ≡ find (has_key key) (entries ++ entry ∷ [])
-find-new_first key entry entries above = by (has_key key entry) refl ∙ sym (find-append (has_key key) entries (entry ∷ []))
+find-new_first key entry entries above = grind (arith, common_steps, none_else, find-append (has_key key) entries (entry ∷ []))
   where
-    another : (k m n : ℕ) → eqb k n ≡ true → k < m → eqb m n ≡ false
-    another k m n same lt = grind (arith, nat_tests)
-
-    by : (b : Bool) → has_key key entry ≡ b →
-        (if b then Some entry else find (has_key key) entries) ≡ option_or (find (has_key key) entries) (if b then Some entry else None)
-    by true is = rw (find_fails (has_key key) entries (λ k d within. another entry.key _ key is (above k d within))) refl
-    by false is = sym (option_or-none (find (has_key key) entries))
+    none_else : has_key key entry ≡ true → find (has_key key) entries ≡ None
+    none_else is = find_fails (has_key key) entries (λ k d within. grind (arith, nat_tests, above k d within))
 
 -- the first entry of a key is the one that was first, where one was, else the new one
 pub find-with_entry : (key : ℕ) (entries : List Entry) (entry : Entry) → KeysNeverFall entries →
@@ -88,10 +74,7 @@ find-fold : (key : ℕ) (entries begun : List Entry) → KeysNeverFall begun →
 find-fold key [] begun order = ap (find (has_key key)) (sym (append-nil begun))
 find-fold key (entry ∷ entries) begun order =
     find-fold key entries (with_entry begun entry) (order-with_entry begun entry order)
-    ∙ find-append (has_key key) (with_entry begun entry) entries
-    ∙ ap (λ found. option_or found (find (has_key key) entries)) (find-with_entry key begun entry order)
-    ∙ sym (find-append (has_key key) (begun ++ entry ∷ []) entries)
-    ∙ ap (find (has_key key)) (append_assoc begun (entry ∷ []) entries)
+    ∙ rw (find-append (has_key key) (with_entry begun entry) entries, find-with_entry key begun entry order, ← find-append (has_key key) (begun ++ entry ∷ []) entries, append_assoc)
 
 no_entries : KeysNeverFall []
 no_entries = λ i j d le within. absurd (omega (arith, within))

@@ -1,8 +1,5 @@
 -- Rows by a list of their places.
-use Rattle.row_index.proofs.Words.{◌≡◌, ◌≢◌, ℕ, zero, suc, ◌<◌, Bool, true, false, List, [], ◌∷◌, ◌++◌, length, get_or, Some, None, sym, ◌∙◌, ap, subst, arith, find, slice_get, All, AllPairs, Contains, insert, range_with_len, IsPermutation, IsPermutation-insert, IsPermutation-to_front, IsPermutation-cons, IsPermutation-trans, All-permutation, Contains-permutation, All-contains, find_fails, find_none, common_steps}
-use Rattle.std.proofs.lemmas.List.FromFn.{length-range_with_len, get_or-range_with_len}
-use Rattle.std.proofs.lemmas.Option.{none-some, slice_get_within, slice_get-get_or, get_or_from_slice_get}
-use Rattle.list_laws.proofs.Ranges.{range_more}
+use Rattle.row_index.proofs.Words.{◌≡◌, ◌≢◌, ℕ, zero, suc, ◌<◌, Bool, true, false, List, [], ◌∷◌, ◌++◌, length, get_or, Some, None, sym, ◌∙◌, ap, subst, arith, find, slice_get, All, AllPairs, Contains, insert, range_with_len, IsPermutation, IsPermutation-insert, IsPermutation-to_front, IsPermutation-cons, IsPermutation-trans, All-permutation, Contains-permutation, All-contains, find_fails, find_none, common_steps, length-range_with_len, get_or-range_with_len, none-some, slice_get_within, slice_get-get_or, get_or_from_slice_get, range_more}
 
 -- all places, and one more that is put in anywhere
 pub all_places-insert : (n i : ℕ) (places : List ℕ) → IsPermutation (range_with_len 0 n) places →
@@ -14,12 +11,9 @@ all_places-insert n i places all =
 
 -- every place is below their number
 pub places_within : (n : ℕ) (places : List ℕ) → IsPermutation (range_with_len 0 n) places → All (λ place. place < n) places
-places_within n places all = All-permutation (λ place. place < n) (range_with_len 0 n) places all below
-  where
-    below : All (λ place. place < n) (range_with_len 0 n)
-    below k d within =
-        let lt : k < n = subst (λ m. k < m) (length-range_with_len 0 n) within in
-        rw (get_or-range_with_len 0 n k d lt) (omega (arith, lt))
+places_within n places all =
+    All-permutation (λ place. place < n) (range_with_len 0 n) places all
+    (λ k d within. (let lt = rw length-range_with_len at within in rw (get_or-range_with_len 0 n k d lt) (omega (arith, lt))))
 
 -- and each is there
 pub place_there : (n : ℕ) (places : List ℕ) → IsPermutation (range_with_len 0 n) places → (place : ℕ) → place < n → Contains places place
@@ -46,9 +40,7 @@ find_own key a passes means (first ∷ rows) own zero row is passed =
     let same : first ≡ row = get_or_from_slice_get (first ∷ rows) 0 row row is in
     rw (ap passes same ∙ passed) is
 find_own key a passes means (first ∷ rows) own (suc place) row is passed =
-    grind (arith, common_steps, other, find_own key a passes means rows (λ i j d before within. own (suc i) (suc j) d (omega arith) (omega (arith, within))) place row is passed)
-  where
-    other : passes first ≡ true → ⊥
-    other same =
-        own 0 (suc place) row (omega arith) (omega (arith, slice_get_within rows place row is))
-        (means first same ∙ sym (means row passed) ∙ ap key (sym (get_or_from_slice_get rows place row row is)))
+    let there = get_or_from_slice_get rows place row row is in
+    let apart = own 0 (suc place) row (omega arith) (omega (arith, slice_get_within rows place row is)) in
+    let others = find_own key a passes means rows (λ i j d before within. own (suc i) (suc j) d (omega arith) (omega (arith, within))) place row is passed in
+    grind (arith, common_steps, others, apart, there, means first, means row passed)

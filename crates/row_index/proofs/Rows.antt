@@ -1,7 +1,5 @@
 -- The entries of rows, and the rows that they name.
-use Rattle.row_index.proofs.Words.{◌≡◌, ℕ, suc, ◌+◌, List, [], ◌∷◌, ◌++◌, length, Some, eqb, refl, ◌∙◌, ap, subst, arith, find, fold, slice_get, option_and_then, option_map, Entry, with_entry, entries_from, place_of, common_steps}
-use Rattle.std.proofs.lemmas.List.Sums.{fold-append}
-use Rattle.row_index.specs.Laws.{IndexFinds, IndexGrows}
+use Rattle.row_index.proofs.Words.{◌≡◌, ℕ, suc, ◌+◌, List, [], ◌∷◌, ◌++◌, length, eqb, refl, ◌∙◌, ap, arith, find, fold, slice_get, option_and_then, option_map, Entry, with_entry, entries_from, place_of, common_steps, fold-append, IndexFinds, IndexGrows}
 use Rattle.row_index.proofs.Ordered.{find-in_order}
 
 module _ {Row : Type 0} (key : Row → ℕ) where
@@ -10,21 +8,15 @@ module _ {Row : Type 0} (key : Row → ℕ) where
       option_and_then (slice_get all) (place_of (entries_from key place rows) wanted) ≡ find (λ row. eqb (key row) wanted) rows
   finds_from all [] place wanted there = refl
   finds_from all (row ∷ rows) place wanted there =
+      let at : place + 0 ≡ place = omega arith in
+      let first = rw at at (there 0) in
+      let next = λ (i : ℕ). (let after : place + suc i ≡ place + 1 + i = omega arith in rw after at (there (suc i))) in
       grind (arith, common_steps, first, finds_from all rows (place + 1) wanted next)
-    where
-      next : (i : ℕ) → slice_get all (place + 1 + i) ≡ slice_get rows i
-      next i = subst (λ k. slice_get all k ≡ slice_get rows i) {x = place + suc i} (omega arith) (there (suc i))
-
-      first : slice_get all place ≡ Some row
-      first = subst (λ k. slice_get all k ≡ Some row) {x = place + 0} (omega arith) (there 0)
 
   -- one row more has one entry more
   entries_from-push : (rows : List Row) (row : Row) (place last : ℕ) → last ≡ place + length rows →
       entries_from key place (rows ++ row ∷ []) ≡ entries_from key place rows ++ record { key = key row; place = last } ∷ []
-  entries_from-push [] row place last is = rw (the_place) refl
-    where
-      the_place : last ≡ place
-      the_place = omega (arith, is)
+  entries_from-push [] row place last is = (let same : last ≡ place = omega (arith, is) in rw same)
   entries_from-push (other ∷ rows) row place last is =
       ap (λ (es : List Entry). record { key = key other; place = place } ∷ es) (entries_from-push rows row (place + 1) last (omega (arith, is)))
 

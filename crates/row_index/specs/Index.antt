@@ -1,7 +1,6 @@
 -- An index of rows by a number of each.
 use Rattle.std.specs.Prelude.{ℕ, ◌+◌, ◌*◌, ◌==◌, nat_lt, if◌then◌else◌, Bool, Option, List, [], ◌∷◌, find, fold}
-use Rattle.std.specs.Option.{option_map}
-use Rattle.std.specs.List.Sorted.{IsNonDecreasingBy}
+use Rattle.std.specs.{Option.option_map, List.Sorted.IsNonDecreasingBy}
 use Rattle.row_index.specs.declared.index.Entry.{Entry}
 
 -- the entries in the order of their keys, and for how many more there is room

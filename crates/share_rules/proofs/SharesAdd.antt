@@ -1,9 +1,7 @@
 -- The shares of days one after another add up.
 use Rattle.std.proofs.Common.{◌≡◌, ℕ, zero, suc, ◌+◌, ◌-◌, ◌*◌, ◌/◌, ◌<◌, ◌≤◌, ap, sym, subst, ◌∙◌, arith, mul-le-mul_left, mul-le-mul_right, mul_left_comm}
-use Rattle.std.specs.Prelude.{sum_by}
-use Rattle.std.specs.List.{range_with_len}
-use Rattle.std.proofs.lemmas.Nat.{div-mul-add}
-use Rattle.std.proofs.lemmas.List.Sums.{sum_by-cons}
+use Rattle.std.specs.{Prelude.sum_by, List.range_with_len}
+use Rattle.std.proofs.lemmas.{Nat.div-mul-add, List.Sums.sum_by-cons}
 use lib.Ieee.Nearest.{div_mono}
 use Rattle.share_rules.specs.Shares.{share_to, day_share, run_share}
 

@@ -1,5 +1,5 @@
 -- The first day that passes is found among the days on which records begin.
-use Rattle.tenancy_rules.proofs.Words.{◌≡◌, ◌∙◌, sym, ap, refl, ℕ, ◌<◌, Bool, true, false, List, [], ◌∷◌, Option, Some, None, arith, ◌&&◌, nat_lt, map, filter, fold, Contains, IfSome, IsSomeAnd, if◌then◌else◌, and_parts, nat_tests, All-contains, later, is_within, ChangesAtBeginnings, latest-is, first_day-is, earliest_order, Record, first_day_before, sooner_beginning, common_steps, cond_both}
+use Rattle.tenancy_rules.proofs.Words.{◌≡◌, ◌∙◌, sym, refl, ℕ, ◌<◌, Bool, true, false, List, [], ◌∷◌, Option, Some, None, arith, ◌&&◌, nat_lt, map, filter, fold, Contains, IfSome, IsSomeAnd, if◌then◌else◌, and_parts, nat_tests, All-contains, later, is_within, ChangesAtBeginnings, latest-is, first_day-is, earliest_order, Record, first_day_before, sooner_beginning, common_steps, cond_both}
 use Rattle.row_choice.specs.FirstDay.{earliest}
 
 -- the earlier of a day so far and another
@@ -9,10 +9,7 @@ sooner_day = later (λ day other. nat_lt other day)
 -- nothing comes before the first day of all
 fold_zero : (days : List ℕ) → fold sooner_day (Some 0) days ≡ Some 0
 fold_zero [] = refl
-fold_zero (day ∷ days) = rw never (fold_zero days)
-  where
-    never : nat_lt day 0 ≡ false
-    never = grind (arith, nat_tests)
+fold_zero (day ∷ days) = grind (arith, nat_tests, common_steps, fold_zero days)
 
 -- where the first day of all is among the days it is the earliest
 zero_first : (passes : ℕ → Bool) (days : List ℕ) → passes 0 ≡ true → Contains days 0 → earliest (filter passes days) ≡ Some 0
@@ -20,12 +17,8 @@ zero_first passes days passed among =
     let law = latest-is (λ day other. nat_lt other day) passes days earliest_order in
     by_answer (earliest (filter passes days)) (All-contains (λ day. passes day ≡ true → IsSomeAnd (earliest (filter passes days)) (λ best. nat_lt day best ≡ false)) days 0 law.last among passed)
   where
-    no_later : (best : ℕ) → nat_lt 0 best ≡ false → best ≡ 0
-    no_later best is = grind (arith, nat_tests)
-
     by_answer : (answer : Option ℕ) → IsSomeAnd answer (λ best. nat_lt 0 best ≡ false) → answer ≡ Some 0
-    by_answer None is = absurd is
-    by_answer (Some best) is = ap (λ (day : ℕ). Some day) (no_later best is)
+    by_answer answer is = grind (arith, nat_tests, common_steps)
 
 -- the first day of all is no candidate of its own
 without_zero : (passes : ℕ → Bool) (days : List ℕ) → (passes 0 ≡ true → Contains days 0) → earliest (filter passes (0 ∷ days)) ≡ earliest (filter passes days)
@@ -37,37 +30,20 @@ module _ (passes : ℕ → Bool) (end : ℕ) where
   abbrev counts : ℕ → Bool
   counts day = is_within 0 end day && passes day
 
-  -- the step of the search takes the earlier of two days that count
+  -- the step of the search takes the earlier of two days that count, and so comes before the end
   sooner_is : (first : Option ℕ) (r : Record) → IfSome first (λ day. day < end) →
       sooner_beginning passes end first r ≡ (if counts r.from then sooner_day first r.from else first)
-  sooner_is None r before = grind (arith, nat_tests, common_steps)
-  sooner_is (Some first) r before = grind (arith, nat_tests, common_steps, before)
+  sooner_is first r before = grind (arith, nat_tests, common_steps)
 
-  within : (day : ℕ) → is_within 0 end day ≡ true → day < end
-  within day is = grind (arith, nat_tests)
-
-  -- and so comes before the end
-  before_end : (first : Option ℕ) (day : ℕ) → IfSome first (λ day. day < end) → (b : Bool) → counts day ≡ b →
-      IfSome (if b then sooner_day first day else first) (λ day. day < end)
-  before_end first day before false is = before
-  before_end None day before true is = within day (and_parts (is_within 0 end day) (passes day) is).0
-  before_end (Some first) day before true is =
-      grind (arith, common_steps, before, within day (and_parts (is_within 0 end day) (passes day) is).0)
+  before_end : (first : Option ℕ) (r : Record) → IfSome first (λ day. day < end) → IfSome (sooner_beginning passes end first r) (λ day. day < end)
+  before_end first r before = grind (arith, nat_tests, common_steps)
 
   -- each step of the search takes the earlier of two days that count
   fold_sooner : (first : Option ℕ) (records : List Record) → IfSome first (λ day. day < end) →
       fold (sooner_beginning passes end) first records ≡ fold sooner_day first (filter counts (map (λ r. r.from) records))
   fold_sooner first [] before = refl
   fold_sooner first (r ∷ records) before =
-      ap (λ (next : Option ℕ). fold (sooner_beginning passes end) next records) (sooner_is first r before)
-      ∙ fold_sooner (if counts r.from then sooner_day first r.from else first) records (before_end first r.from before (counts r.from) refl)
-      ∙ kept (counts r.from)
-    where
-      kept : (b : Bool) →
-          fold sooner_day (if b then sooner_day first r.from else first) (filter counts (map (λ (q : Record). q.from) records)) ≡
-          fold sooner_day first (if b then r.from ∷ filter counts (map (λ (q : Record). q.from) records) else filter counts (map (λ (q : Record). q.from) records))
-      kept true = refl
-      kept false = refl
+      grind (arith, common_steps, sooner_is first r before, fold_sooner (sooner_beginning passes end first r) records (before_end first r before))
 
   -- where the test changes only as records begin, and passes on the first day of all only as one begins
   pub first_beginning-is : (records : List Record) → ChangesAtBeginnings passes (map (λ r. r.from) records) →

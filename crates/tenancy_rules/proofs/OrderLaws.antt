@@ -1,53 +1,33 @@
 -- What it comes to that no record is out of order.
-use Rattle.tenancy_rules.proofs.Words.{◌≡◌, ◌≢◌, ◌∙◌, sym, ap, subst, refl, ℕ, ◌<◌, Bool, true, false, List, get_or, Option, Some, None, arith, eq-eqb, ◌⊎◌, inl, inr, ◌↔◌, ◌==◌, not, filter, All, Contains, IfSome, IsSomeAnd, if◌then◌else◌, false≢true, and_parts, eqb-true, not-true, not-false, false_from_ne_true, cases_order, nat_tests, All-contains, latest-is, pairs_order, pairs_order-turned, pair_comes_before, Record, comes_before, NumbersRise, is_transfer, is_move_out, may_follow, has_its_unit, record_before, is_in_order, comes_after, earliest, is_out_of_order, first_out_of_order, UnitsChangeByTransfer, NothingFollowsMoveOut}
-use Rattle.std.proofs.lemmas.List.{get_or_default}
-use Rattle.record_history.specs.declared.records.Kind.{Kind}
-use Rattle.record_history.specs.declared.records.Kind.TheVariants as kind
+use Rattle.tenancy_rules.proofs.Words.{◌≡◌, ◌≢◌, refl, ℕ, true, false, List, get_or, Option, Some, None, arith, ◌↔◌, filter, All, Contains, IfSome, IsSomeAnd, false≢true, and_parts, not-false, false_from_ne_true, nat_tests, common_steps, All-contains, latest-is, pairs_order, pairs_order-turned, pair_comes_before, Record, comes_before, NumbersRise, is_transfer, is_move_out, may_follow, has_its_unit, record_before, is_in_order, comes_after, earliest, is_out_of_order, first_out_of_order, UnitsChangeByTransfer, NothingFollowsMoveOut, get_or_default, Kind}
 
 -- each record stands where it may
 pub in_order : (records : List Record) → first_out_of_order records ≡ None → All (λ r. is_in_order (record_before records r) r ≡ true) records
 unfolding is_out_of_order
 in_order records none k d within =
     let law = latest-is comes_after (is_out_of_order records) records (pairs_order-turned (λ r. r.from) (λ r. r.number)) in
-    stands (get_or records k d) (false_from_ne_true (is_out_of_order records (get_or records k d)) (λ out. nobody (first_out_of_order records) none (law.last k d within out)))
-  where
-    nobody : (answer : Option Record) → answer ≡ None → IsSomeAnd answer (λ best. comes_after best (get_or records k d) ≡ false) → ⊥
-    nobody None is some = some
-    nobody (Some best) is some = absurd (cc)
-
-    stands : (r : Record) → not (is_in_order (record_before records r) r) ≡ false → is_in_order (record_before records r) r ≡ true
-    stands r is = not-false (is_in_order (record_before records r) r) is
+    not-false _ (false_from_ne_true (is_out_of_order records (get_or records k d)) (λ out. rw none at (law.last k d within out)))
 
 pub units_change_by_transfer : UnitsChangeByTransfer
 units_change_by_transfer records none k d within = by_earlier (get_or records k d) (record_before records (get_or records k d)) (in_order records none k d within)
   where
-    by_kind : (r earlier : Record) (transfer : Bool) → (if transfer then not (r.unit == earlier.unit) else r.unit == earlier.unit) ≡ true →
-        (r.unit ≢ earlier.unit) ↔ (transfer ≡ true)
-    by_kind r earlier true has =
-        (λ _. refl, λ _ same. false≢true (sym (not-true (r.unit == earlier.unit) has) ∙ eq-eqb r.unit earlier.unit same))
-    by_kind r earlier false has = (λ other. absurd (other (eqb-true r.unit earlier.unit has)), λ is. absurd (false≢true is))
-
     by_earlier : (r : Record) (before : Option Record) → is_in_order before r ≡ true →
         IfSome before (λ earlier. (r.unit ≢ earlier.unit) ↔ (is_transfer r.kind ≡ true))
     by_earlier r None is = tt
-    by_earlier r (Some earlier) is = by_kind r earlier (is_transfer r.kind) (and_parts (may_follow earlier.kind r.kind) (has_its_unit earlier r) is).1
+    by_earlier r (Some earlier) is =
+        let has = (and_parts (may_follow earlier.kind r.kind) (has_its_unit earlier r) is).1 in
+        (λ other. grind (arith, nat_tests, common_steps, has), λ transfers same. grind (arith, nat_tests, common_steps, has))
 
 -- a kind that something may follow is no move-out
 pub followed : (earlier next : Kind) → may_follow earlier next ≡ true → is_move_out earlier ≡ false
-followed kind.MO next is = absurd (false≢true is)
+followed Kind.MO next is = absurd (false≢true is)
 followed _ next is = refl
 
 -- of two records with one number both are the same
 pub same_record : (records : List Record) (first second : Record) → NumbersRise records → Contains records first → Contains records second →
     first.number ≡ second.number → first ≡ second
-same_record records first second rise (k, within, is) (k', within', is') same = by_order (cases_order k k')
-  where
-    by_order : (k ≡ k') ⊎ ((k < k') ⊎ (k' < k)) → first ≡ second
-    by_order (inl one) = sym is ∙ ap (λ (place : ℕ). get_or records place first) one ∙ get_or_default records k' first second within' ∙ is'
-    by_order (inr (inl less)) =
-        absurd (omega (arith, rise k k' first less within', ap (λ (r : Record). r.number) is, ap (λ (r : Record). r.number) (get_or_default records k' first second within' ∙ is'), same))
-    by_order (inr (inr more)) =
-        absurd (omega (arith, rise k' k first more within, ap (λ (r : Record). r.number) is, ap (λ (r : Record). r.number) (get_or_default records k' first second within' ∙ is'), same))
+same_record records first second rise (k, within, is) (k', within', is') same =
+    grind (arith, rise k k' first, rise k' k first, get_or_default records k' first second within')
 
 -- two records of which neither comes before the other have one number
 pub neither : (from number other_from other_number : ℕ) → pair_comes_before from number other_from other_number ≡ false →
@@ -64,11 +44,10 @@ nothing_follows_move_out records rise none earlier r has_earlier has_r before =
         IsSomeAnd previous (λ p. comes_before p earlier ≡ false) → is_in_order previous next ≡ true → is_move_out earlier.kind ≡ false
     by_previous next has_next last None among behind stands = absurd behind
     by_previous next has_next last (Some p) (has_p, p_before) behind stands =
-        let not_after : comes_before earlier p ≡ false =
-        false_from_ne_true (comes_before earlier p) (λ is. false≢true (sym (All-contains (λ q. comes_before earlier q ≡ true → comes_before q next ≡ false) records p last has_p is) ∙ p_before)) in
-        let same : p ≡ earlier =
-        same_record records p earlier rise has_p has_earlier (neither p.from p.number earlier.from earlier.number behind not_after) in
-        subst (λ (q : Record). is_move_out q.kind ≡ false) same (followed p.kind next.kind (and_parts (may_follow p.kind next.kind) (has_its_unit p next) stands).0)
+        let none_between = All-contains (λ q. comes_before earlier q ≡ true → comes_before q next ≡ false) records p last has_p in
+        let not_after : comes_before earlier p ≡ false = false_from_ne_true (comes_before earlier p) (λ is. (let not_before = none_between is in cc)) in
+        let same : p ≡ earlier = same_record records p earlier rise has_p has_earlier (neither p.from p.number earlier.from earlier.number behind not_after) in
+        rw (← same) (followed p.kind next.kind (and_parts (may_follow p.kind next.kind) (has_its_unit p next) stands).0)
 
     by_next : (next : Option Record) → IfSome next (λ q. Contains records q × (comes_before earlier q ≡ true)) →
         All (λ q. comes_before earlier q ≡ true → IsSomeAnd next (λ best. comes_after best q ≡ false)) records → is_move_out earlier.kind ≡ false

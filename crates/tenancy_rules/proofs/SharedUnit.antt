@@ -1,21 +1,10 @@
 -- Whether two households have one unit changes only as their records begin.
-use Rattle.tenancy_rules.proofs.Words.{◌≡◌, ◌∙◌, sym, ap, subst, ℕ, Bool, true, List, ◌++◌, Option, Some, None, arith, ◌&&◌, ◌==◌, not, nat_le, map, filter, fold, option_and_then, All, Contains, IfSome, false≢true, and_parts, nat_tests, All-append, All-contains, All-contains_itself, All-filter, All-weaker, Contains-append_left, Contains-append_right, filter_passes, ChangesAtBeginnings, latest-among, Record, is_live, live_records, comes_before, latest, records_of, Change, without, listed, changed_records, unit_kept, occupied_unit_on, is_one_unit, have_one_unit_on, is_rival_on, first_day_before, sooner_beginning, filter_alike}
-use Rattle.std.proofs.lemmas.List.Sums.{fold-append}
+use Rattle.tenancy_rules.proofs.Words.{◌≡◌, ◌∙◌, sym, ap, ℕ, Bool, true, List, ◌++◌, Option, Some, None, arith, ◌&&◌, ◌==◌, not, nat_le, map, filter, fold, option_and_then, All, Contains, IfSome, false≢true, and_parts, nat_tests, All-append, All-contains, All-contains_itself, All-filter, All-weaker, filter_passes, ChangesAtBeginnings, latest-among, Record, is_live, live_records, comes_before, latest, records_of, Change, listed, changed_records, unit_kept, occupied_unit_on, is_one_unit, have_one_unit_on, is_rival_on, first_day_before, sooner_beginning, filter_alike, fold-append, All-both, All-left, All-right, All-unmap, Contains-map}
 use Rattle.tenancy_rules.proofs.Beginning.{first_beginning-is}
-use Rattle.list_laws.proofs.Elements.{All-both, All-unmap, Contains-map}
 
 -- what holds of each record holds of each that is among them
 among_all : (P : Record → Type 0) (records some : List Record) → All (Contains records) some → All P records → All P some
 among_all P records some among all = All-weaker (Contains records) P (λ r contains. All-contains P records r all contains) some among
-
--- the first and the last of records joined are among them
-among_left : (records others : List Record) → All (Contains (records ++ others)) records
-among_left records others =
-    All-weaker (Contains records) (Contains (records ++ others)) (Contains-append_left records others) records (All-contains_itself records)
-
-among_right : (records others : List Record) → All (Contains (records ++ others)) others
-among_right records others =
-    All-weaker (Contains others) (Contains (records ++ others)) (Contains-append_right records others) others (All-contains_itself others)
 
 -- where no record begins between two days the household has one unit on both
 occupied-alike : (records : List Record) (day next : ℕ) → All (λ r. nat_le r.from day ≡ nat_le r.from next) records →
@@ -43,14 +32,12 @@ module _ (records others beginning : List Record) (among : All (Contains beginni
       (filter_passes (λ r. nat_le r.from 0) records)))
       have
     where
-      first : (day : ℕ) → nat_le day 0 ≡ true → day ≡ 0
-      first day is = grind (arith, nat_tests)
-
       by_force : (force : Option Record) → IfSome force (λ r. Contains beginning r × (nat_le r.from 0 ≡ true)) →
           is_one_unit (option_and_then unit_kept force) (occupied_unit_on others 0) ≡ true → Contains (map (λ r. r.from) beginning) 0
       by_force None has is = absurd (false≢true is)
       by_force (Some r) (contains, by) is =
-          subst (Contains (map (λ (q : Record). q.from) beginning)) (first r.from by) (Contains-map (λ (q : Record). q.from) beginning r contains)
+          let first : r.from ≡ 0 = grind (arith, nat_tests) in
+          rw first at (Contains-map (λ (q : Record). q.from) beginning r contains)
 
 -- the days on which records of either household begin show the first on which they have one unit
 pub first_shared-is : (households : List (List Record)) (household : ℕ) (change : Change) (other end : ℕ) →
@@ -64,15 +51,11 @@ first_shared-is households household change other end =
     let others : List Record = records_of households other in
     let added : List Record = listed change.add in
     let beginning : List Record = (own ++ others) ++ added in
-    let own_among : All (Contains beginning) own =
-    among_all (Contains beginning) (own ++ others) own (among_left own others) (among_left (own ++ others) added) in
-    let others_among : All (Contains beginning) others =
-    among_all (Contains beginning) (own ++ others) others (among_right own others) (among_left (own ++ others) added) in
+    let all : All (Contains beginning) beginning = All-contains_itself beginning in
+    let own_among = All-left (Contains beginning) own others (All-left (Contains beginning) (own ++ others) added all) in
+    let others_among = All-right (Contains beginning) own others (All-left (Contains beginning) (own ++ others) added all) in
     let changed_among : All (Contains beginning) (changed_records own change) =
-    All-append (Contains beginning) (without change.«drop» (live_records own)) added
-    (All-filter (λ (r : Record). not (r.number == change.«drop»)) (Contains beginning) (live_records own)
-    (All-filter (is_live own) (Contains beginning) own own_among))
-    (among_right (own ++ others) added) in
+    All-append (Contains beginning) _ added (search (All-filter, own_among)) (All-right (Contains beginning) (own ++ others) added all) in
     let live_among : All (Contains beginning) (live_records others) = All-filter (is_live others) (Contains beginning) others others_among in
     ap (λ (first : Option ℕ). fold step first added) (sym (fold-append step None own others))
     ∙ sym (fold-append step None (own ++ others) added)

@@ -1,8 +1,7 @@
 -- What an act does to the live records of a household.
 use Rattle.std.specs.Prelude.{ℕ, ◌+◌, ◌<◌, ◌≡◌, ◌==◌, not, Bool, List, [], ◌∷◌, ◌++◌, filter, Option, Some, None, AllPairs, IfSome}
 use Rattle.row_choice.specs.Latest.{comes_before as pair_comes_before}
-use Rattle.record_history.specs.declared.records.Record.{Record}
-use Rattle.record_history.specs.Records.{live_records, newest_number}
+use Rattle.record_history.specs.{declared.records.Record.Record, Records.live_records, Records.newest_number}
 use Rattle.tenancy_rules.specs.declared.change.Change.{Change}
 
 -- the records without the one of that number; 0 takes none away, since records are numbered from 1

@@ -1,12 +1,8 @@
 -- What it comes to that records are in order, that no unit would have two households, and that a change is judged.
 use Rattle.std.specs.Prelude.{◌≡◌, ◌≢◌, ◌↔◌, ◌≤◌, ◌<◌, ℕ, true, false, if◌then◌else◌, List, [], ◌∷◌, ◌++◌, length, Some, None, All, Contains, IfSome}
-use Rattle.record_history.specs.declared.records.Record.{Record}
-use Rattle.record_history.specs.Records.{is_withdrawal, live_records, comes_before}
-use Rattle.record_history.specs.Held.{records_of}
-use Rattle.tenancy_rules.specs.declared.change.Change.{Change}
-use Rattle.tenancy_rules.specs.Changed.{changed_records, NumbersRise}
+use Rattle.record_history.specs.{declared.records.Record.Record, Records.is_withdrawal, Records.live_records, Records.comes_before, Held.records_of}
+use Rattle.tenancy_rules.specs.{declared.change.Change.Change, Changed.changed_records, Changed.NumbersRise, Occupancy.occupied_unit_on, Occupancy.first_double_use}
 use Rattle.tenancy_rules.specs.Order.{is_transfer, is_move_out, record_before, first_out_of_order}
-use Rattle.tenancy_rules.specs.Occupancy.{occupied_unit_on, first_double_use}
 
 -- where no record is out of order, the unit changes from one record to the next exactly by a transfer
 abbrev pub UnitsChangeByTransfer : Type 0

@@ -1,14 +1,9 @@
 -- Which unit a household has on a day, and where one unit would have two households (own rules).
 use Rattle.std.specs.Prelude.{ℕ, ◌&&◌, ◌==◌, not, nat_le, if◌then◌else◌, Bool, false, List, length, filter, find, Option, Some, None, is_some, option_and_then}
-use Rattle.std.specs.Option.{option_map}
-use Rattle.std.specs.List.{range_with_len}
+use Rattle.std.specs.{Option.option_map, List.range_with_len}
 use Rattle.row_choice.specs.FirstDay.{first_day}
-use Rattle.record_history.specs.declared.records.Record.{Record}
-use Rattle.record_history.specs.Records.{live_records, latest}
-use Rattle.record_history.specs.Held.{records_of}
-use Rattle.tenancy_rules.specs.declared.change.Change.{Change}
-use Rattle.tenancy_rules.specs.Changed.{changed_records}
-use Rattle.tenancy_rules.specs.Order.{is_move_out}
+use Rattle.record_history.specs.{declared.records.Record.Record, Records.live_records, Records.latest, Held.records_of}
+use Rattle.tenancy_rules.specs.{declared.change.Change.Change, Changed.changed_records, Order.is_move_out}
 
 -- the unit that a household has while the record is in force: that of the record, and none after a move-out
 abbrev pub unit_kept : Record → Option ℕ

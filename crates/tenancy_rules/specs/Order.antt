@@ -3,29 +3,26 @@
 -- Each definition takes the live records of one household.
 use Rattle.std.specs.Prelude.{◌&&◌, ◌||◌, ◌==◌, not, if◌then◌else◌, Bool, true, false, List, filter, Option, Some, None}
 use Rattle.row_choice.specs.Latest.{later as later_by, latest as latest_by}
-use Rattle.record_history.specs.declared.records.Kind.{Kind}
-use Rattle.record_history.specs.declared.records.Kind.TheVariants as kind
-use Rattle.record_history.specs.declared.records.Record.{Record}
-use Rattle.record_history.specs.Records.{comes_before, latest}
+use Rattle.record_history.specs.{declared.records.Kind.Kind, declared.records.Record.Record, Records.comes_before, Records.latest}
 
 -- a move-in
 abbrev pub is_move_in : Kind → Bool
-is_move_in kind.MI = true
+is_move_in Kind.MI = true
 is_move_in _ = false
 
 -- an initial certification
 abbrev pub is_initial : Kind → Bool
-is_initial kind.IC = true
+is_initial Kind.IC = true
 is_initial _ = false
 
 -- a unit transfer
 abbrev pub is_transfer : Kind → Bool
-is_transfer kind.UT = true
+is_transfer Kind.UT = true
 is_transfer _ = false
 
 -- a move-out
 abbrev pub is_move_out : Kind → Bool
-is_move_out kind.MO = true
+is_move_out Kind.MO = true
 is_move_out _ = false
 
 -- the kinds that may stand first: a move-in or an initial certification
@@ -35,8 +32,8 @@ may_begin kind = is_move_in kind || is_initial kind
 -- The kinds that may stand right after a kind: after a move-out none, after a termination of assistance an initial
 -- certification or a move-out, and after any other all but a move-in and an initial certification.
 abbrev pub may_follow : Kind → Kind → Bool
-may_follow kind.MO next = false
-may_follow kind.TM next = is_initial next || is_move_out next
+may_follow Kind.MO next = false
+may_follow Kind.TM next = is_initial next || is_move_out next
 may_follow _ next = not (may_begin next)
 
 -- a transfer is to another unit, and every other record is for the unit of the record before it

@@ -1,7 +1,6 @@
 pub mod Words
 pub mod Totals
-pub mod Weights
-pub mod Differences
+pub mod Covered
 pub mod DayShares
 pub mod Paid
 pub mod Settled

@@ -1,28 +1,16 @@
 -- The names that most proofs here cite, passed on from one place. Declares nothing.
-pub use Rattle.std.proofs.Common.{ℕ, List, ◌≡◌, suc, ◌+◌, ◌-◌, ◌≤◌, ℤ, pos, ◌+ℤ◌, true, ap, ◌∙◌, arith, ◌-ℤ◌, zero, ◌*◌, ◌<◌, [], ◌∷◌, length, Bool, false, Option, Some, None, sym, subst, length-append, ◌++◌, take, drop, set, max, refl, append_assoc, to_z, of_z, w32, ◌≢◌, ◌⊎◌, inl, inr, ◌/◌, reverse, negsuc, neg_ℤ, ◌≤ℤ◌, w64}
-pub use Rattle.std.proofs.lemmas.Bool.{and_parts, eqb-true, cond_both, ne_eqb, eq-eqb, cases_eq, and_right, cases_lt, lt-leb}
-pub use Rattle.std.proofs.lemmas.Bool.Decides.{Decides-int_eq}
-pub use Rattle.std.proofs.lemmas.Grind.{common_steps, reverse_onto}
-pub use Rattle.std.proofs.lemmas.Int.{ints, to_z-of_z, to_z_pos}
-pub use Rattle.std.proofs.lemmas.List.{length-map, length-reverse, flat_map_more, take_more, drop_more, append-nil, length-take-le}
-pub use Rattle.std.proofs.lemmas.List.Elements.{All-append, filter-append, All-head, All-tail, All-filter, All-map, All-nil, All-cons, filter_passes, All-weaker}
-pub use Rattle.std.proofs.lemmas.List.Sums.{sum_by_push, sum_by-le, sum_by-cons}
-pub use Rattle.std.specs.List.{range_with_len, flat_map}
-pub use Rattle.std.specs.Ordering.{int_eq}
-pub use Rattle.std.specs.Prelude.{sum_by, ◌==◌, map, not, get_or, if◌then◌else◌, SomeIff, All, IfSome, find, filter, nat_le}
+pub use Rattle.std.proofs.Common.{ℕ, List, ◌≡◌, suc, ◌+◌, ◌-◌, ◌≤◌, ℤ, pos, ◌+ℤ◌, true, ap, ◌∙◌, arith, ◌-ℤ◌, zero, ◌*◌, ◌<◌, [], ◌∷◌, length, false, Option, Some, None, sym, subst, length-append, ◌++◌, take, drop, set, max, refl, append_assoc, to_z, of_z, w32, ◌≢◌, ◌⊎◌, inl, inr, reverse, negsuc, neg_ℤ, ◌≤ℤ◌, w64}
+pub use Rattle.std.proofs.lemmas.Bool.{eqb-true, cond_both, ne_eqb, eq-eqb, and_right, cases_lt, lt-leb}
+pub use Rattle.std.proofs.lemmas.{Bool.Decides.Decides-int_eq, Bool.Decides.nat_tests, Grind.common_steps, Int.ints, Int.to_z-of_z, Int.to_z_pos, List.Sums.sum_by-le, List.Sums.sum_by-cons}
+pub use Rattle.std.proofs.lemmas.List.{length-map, flat_map_more, take_more, drop_more, append-nil, length-take-le, Concat.length-flat_map, FromFn.length-range_with_len}
+pub use Rattle.std.proofs.lemmas.List.Elements.{All-append, filter-append, All-head, All-tail, All-filter, All-map, All-nil, All-cons, filter_passes}
+pub use Rattle.std.specs.{List.range_with_len, List.flat_map, Ordering.int_eq, Bool.Decides, Option.option_map_or}
+pub use Rattle.std.specs.Prelude.{sum_by, ◌==◌, map, not, get_or, if◌then◌else◌, SomeIff, All, IfSome, find, filter, nat_le, nat_lt, ◌&&◌}
 pub use Rattle.days_core.proofs.Bridge.{days_in_bounds, first_of-suc}
 pub use Rattle.days_core.specs.Calendar.{days_in, first_of, last_of}
-pub use Rattle.list_laws.proofs.Filters.{filter_few, filter_none}
-pub use Rattle.list_laws.proofs.Ranges.{range-more, sum_by-range_more}
-pub use Rattle.record_history.proofs.EachDay.{IsOfItsDays, Cover, IsOther, of_their_days, stretches_cover}
-pub use Rattle.record_history.specs.Held.{AreNumbered, records_of}
-pub use Rattle.record_history.specs.Records.{as_of, in_force}
-pub use Rattle.record_history.specs.Stretch.{with_day, newest_first, stretches}
-pub use Rattle.record_history.specs.declared.records.Record.{Record}
-pub use Rattle.record_history.specs.declared.stretch.Stretch.{Stretch}
-pub use Rattle.share_rules.specs.Shares.{day_share, run_share}
-pub use Rattle.voucher_core.specs.Certified.{assistance_on, day_at, certified_amount}
-pub use Rattle.voucher_core.specs.Lines.{change_on, is_same_force, is_same_change, changes, difference, line_of, month_lines, known_before, lines_for, adjustment_lines, closing_lines, placed, is_for, total, paid}
-pub use Rattle.voucher_core.specs.declared.changes.Change.{Change}
-pub use Rattle.voucher_core.specs.declared.changes.InForce.{InForce}
-pub use Rattle.voucher_core.specs.declared.line.Line.{Line}
+pub use Rattle.list_laws.proofs.{Filters.filter_few, Filters.filter_none, Ranges.range-more, Ranges.sum_by-range_more, Finds.find_first, Finds.find_fails}
+pub use Rattle.record_history.proofs.{EachDay.IsOfItsDays, EachDay.Cover, EachDay.IsOther, EachDay.of_their_days, EachDay.stretches_cover, EachDay.cover_few, Latest.in_force_is}
+pub use Rattle.record_history.specs.{Held.AreNumbered, Held.records_of, Records.as_of, Records.in_force, Stretch.with_day, Stretch.newest_first, Stretch.stretches, declared.records.Record.Record, declared.stretch.Stretch.Stretch, Runs.number_on}
+pub use Rattle.share_rules.specs.Shares.{day_share}
+pub use Rattle.voucher_core.specs.{Certified.assistance_on, Certified.day_at, Certified.certified_amount, declared.changes.Change.Change, declared.line.Line.Line, Naming.assistance_of, Naming.NamesItsPair, Naming.NameTheirPairs, Naming.LinesNameTheirPairs, Naming.IsOtherPair, Naming.CoverByPairs, Naming.ChangesAreLongest, Law.ClosingSettles, Law.NothingIsSettled, Law.SettledPaysNoOther, Law.CertifiedStays, Law.SettledStays}
+pub use Rattle.voucher_core.specs.Lines.{change_on, is_same_change, changes, difference, line_of, month_lines, known_before, lines_for, adjustment_lines, closing_lines, placed, is_for, total, paid}

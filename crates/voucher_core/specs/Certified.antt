@@ -2,11 +2,9 @@
 --
 -- Each definition takes the records that are known, all of one household.
 use Rattle.std.specs.Prelude.{ℕ, ◌+◌, ◌-◌, List, sum_by}
-use Rattle.std.specs.List.{range_with_len}
-use Rattle.std.specs.Option.{option_map_or}
+use Rattle.std.specs.{List.range_with_len, Option.option_map_or}
 use Rattle.days_core.specs.Calendar.{days_in, first_of}
-use Rattle.record_history.specs.declared.records.Record.{Record}
-use Rattle.record_history.specs.Records.{in_force}
+use Rattle.record_history.specs.{declared.records.Record.Record, Records.in_force}
 use Rattle.share_rules.specs.Shares.{day_share}
 
 -- the assistance for the whole month of the record in force on the day, and 0 where none is

@@ -1,10 +1,7 @@
 -- What closings keep: the lines total what is certified, and each line names its records.
 use Rattle.std.specs.Prelude.{ℕ, ◌+◌, ◌⊎◌, ◌<◌, ◌≤◌, ◌≡◌, pos, List, [], ◌++◌, All}
-use Rattle.record_history.specs.declared.records.Record.{Record}
-use Rattle.record_history.specs.Records.{as_of}
-use Rattle.voucher_core.specs.declared.line.Line.{Line}
-use Rattle.voucher_core.specs.Certified.{certified_amount}
-use Rattle.voucher_core.specs.Lines.{closing_lines, placed, paid}
+use Rattle.record_history.specs.{declared.records.Record.Record, Records.as_of}
+use Rattle.voucher_core.specs.{declared.line.Line.Line, Certified.certified_amount, Lines.closing_lines, Lines.placed, Lines.paid}
 
 -- The lines pay each household for each month, from the first to the one before the next, what it was certified for as
 -- of the act, and nothing for any other month.

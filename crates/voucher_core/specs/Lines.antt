@@ -2,19 +2,11 @@
 --
 -- `own` gives each household all its records, and households have the numbers from 1 to the count.
 use Rattle.std.specs.Prelude.{ℕ, ◌+◌, ◌-◌, ◌==◌, ◌&&◌, ℤ, pos, ◌+ℤ◌, ◌-ℤ◌, not, Bool, if◌then◌else◌, List, [], ◌∷◌, ◌++◌, map, filter, Option, Some, None}
-use Rattle.std.specs.List.{range_with_len, flat_map}
-use Rattle.std.specs.Ordering.{int_eq}
+use Rattle.std.specs.{List.range_with_len, List.flat_map, Ordering.int_eq}
 use Rattle.days_core.specs.Calendar.{days_in}
-use Rattle.record_history.specs.declared.records.Record.{Record}
-use Rattle.record_history.specs.declared.stretch.Stretch.{Stretch}
-use Rattle.record_history.specs.Records.{as_of}
-use Rattle.record_history.specs.Runs.{number_on}
-use Rattle.record_history.specs.Stretch.{stretches}
+use Rattle.record_history.specs.{declared.records.Record.Record, declared.stretch.Stretch.Stretch, Records.as_of, Runs.number_on, Stretch.stretches}
 use Rattle.share_rules.specs.Shares.{run_share}
-use Rattle.voucher_core.specs.declared.changes.InForce.{InForce}
-use Rattle.voucher_core.specs.declared.changes.Change.{Change}
-use Rattle.voucher_core.specs.declared.line.Line.{Line}
-use Rattle.voucher_core.specs.Certified.{assistance_on, day_at}
+use Rattle.voucher_core.specs.{declared.changes.InForce.InForce, declared.changes.Change.Change, declared.line.Line.Line, Certified.assistance_on, Certified.day_at}
 
 -- the number and the assistance of the record in force on the day, and 0 and 0 where none is
 abbrev pub force_on : List Record → ℕ → InForce

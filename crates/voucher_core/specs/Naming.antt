@@ -2,15 +2,9 @@
 use Rattle.std.specs.Prelude.{ℕ, ◌+◌, ◌-◌, ◌<◌, ◌≤◌, ◌≡◌, ◌≢◌, ◌==◌, pos, ◌-ℤ◌, List, [], ◌∷◌, All, find, Option}
 use Rattle.std.specs.Option.{option_map_or}
 use Rattle.days_core.specs.Calendar.{days_in, first_of, last_of}
-use Rattle.record_history.specs.declared.records.Record.{Record}
-use Rattle.record_history.specs.declared.stretch.Stretch.{Stretch}
-use Rattle.record_history.specs.Records.{as_of}
-use Rattle.record_history.specs.Runs.{number_on}
-use Rattle.record_history.specs.Held.{AreNumbered}
+use Rattle.record_history.specs.{declared.records.Record.Record, declared.stretch.Stretch.Stretch, Records.as_of, Runs.number_on, Held.AreNumbered}
 use Rattle.share_rules.specs.Shares.{run_share}
-use Rattle.voucher_core.specs.declared.line.Line.{Line}
-use Rattle.voucher_core.specs.declared.changes.Change.{Change}
-use Rattle.voucher_core.specs.Certified.{day_at}
+use Rattle.voucher_core.specs.{declared.line.Line.Line, declared.changes.Change.Change, Certified.day_at}
 use Rattle.voucher_core.specs.Lines.{known_before, changes, closing_lines, placed}
 
 -- the assistance of the household's record of that number, and 0 where it has none

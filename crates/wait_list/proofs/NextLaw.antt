@@ -1,71 +1,24 @@
 -- Whoever is next is so rightly.
-use Rattle.wait_list.proofs.Words.{◌≡◌, ◌∙◌, sym, ℕ, Bool, true, false, List, [], ◌∷◌, get_or, refl, inl, inr, Option, Some, None, ◌&&◌, ◌||◌, not, filter, All, Contains, IfSome, IsSomeAnd, MatchOption, if◌then◌else◌, option_map, option_or, Applicant, Asked, is_within_limit, is_extremely_low, is_candidate, candidates, stands_behind, first_of, next_of, mover_of, next_needing, next_not_needing, next_of_all, first_there, common_steps, arith}
-use Rattle.std.proofs.lemmas.Bool.{false≢true, and_parts, and_from, false_from_ne_true}
+use Rattle.wait_list.proofs.Words.{◌≡◌, ◌∙◌, sym, ℕ, Bool, true, false, List, length, ◌<◌, [], ◌∷◌, get_or, refl, inl, inr, Option, Some, None, ◌&&◌, ◌||◌, not, filter, All, Contains, IfSome, IsSomeAnd, MatchOption, if◌then◌else◌, option_map, option_or, Applicant, Asked, is_within_limit, is_extremely_low, is_candidate, candidates, stands_behind, first_of, next_of, mover_of, next_needing, next_not_needing, next_of_all, first_there, common_steps, arith, false≢true, and_parts, and_from, false_from_ne_true, cond_both, Candidate, needs, goes_before, NoMoverNeeds, NoApplicantNeeds, ApplicantIsFirst, IsRightful, NextIsRightful}
 use Rattle.rent_table.specs.Admission.{suits}
-use Rattle.row_choice.specs.Latest.{IsLatest}
-use Rattle.row_choice.proofs.LatestLemmas.{latest-is, pairs_order-turned, filter-filter}
-use Rattle.wait_list.specs.declared.ask.Candidate.{Candidate}
-use Rattle.wait_list.specs.declared.ask.Candidate.TheVariants as candidate
-use Rattle.wait_list.specs.Law.{needs, goes_before, NoMoverNeeds, NoApplicantNeeds, ApplicantIsFirst, IsRightful, NextIsRightful}
+use Rattle.row_choice.{specs.Latest.IsLatest, proofs.LatestLemmas.latest-is, proofs.LatestLemmas.pairs_order-turned, proofs.LatestLemmas.filter-filter}
 
--- whether one other goes before the next: w says that an extremely low-income one is wanted, e that the other is one, n
--- that the next is, and s that the next stands behind the other
-abbrev decides : Bool → Bool → Bool → Bool → Bool
-decides w e n s = (w && (e && not n)) || (s && not (w && (n && not e)))
+-- the first of low income where such a row is wanted and there is one, else the first: none goes before it, by any tests
+module _ {Row : Type 0} (wanted : Bool) (low is_of : Row → Bool) (behind : Row → Row → Bool) (rows : List Row) (extremely first : Option Row)
+    (of_extremely : IsLatest behind (λ row. is_of row && low row) rows extremely) (of_first : IsLatest behind is_of rows first) where
+  abbrev is_before : Row → Row → Bool
+  is_before other next = (wanted && (low other && not (low next))) || (behind next other && not (wanted && (low next && not (low other))))
 
-unwanted : (e n s : Bool) → s ≡ false → decides false e n s ≡ false
-unwanted e n s behind = grind (arith, common_steps, behind)
+  chosen_among : IfSome (if wanted then option_or extremely first else first) (λ next. Contains rows next × (is_of next ≡ true))
+  chosen_among = grind (arith, common_steps, of_extremely.among, of_first.among)
 
-preferred : (e n s : Bool) → n ≡ true → (e ≡ true → s ≡ false) → decides true e n s ≡ false
-preferred e n s is behind = grind (arith, common_steps, is, behind)
-
-ordinary : (e n s : Bool) → e ≡ false → s ≡ false → decides true e n s ≡ false
-ordinary e n s is behind = grind (arith, common_steps, is, behind)
-
--- the second test false_from_ne_true where the two don't pass together
-second_fails : (a b : Bool) → a ≡ true → ((a && b) ≡ true → ⊥) → b ≡ false
-second_fails a b of_a not_both = false_from_ne_true b (λ is. not_both (and_from a b of_a is))
+  chosen_last : (k : ℕ) (d : Row) → k < length rows → is_of (get_or rows k d) ≡ true →
+      IsSomeAnd (if wanted then option_or extremely first else first) (λ next. is_before (get_or rows k d) next ≡ false)
+  chosen_last k d within passed = grind (arith, common_steps, of_extremely.among, of_extremely.last k d within, of_first.last k d within)
 
 -- who is next of a group
 abbrev IsNextOf : Asked → List Applicant → (Applicant → Bool) → Option Applicant → Type 0
 IsNextOf asked applicants is_of next = IsLatest (λ applicant other. goes_before asked other applicant) is_of applicants next
-
--- the first extremely low-income one of a group where such a one is wanted and there is one, else the first
-chosen : (asked : Asked) (applicants : List Applicant) (is_of : Applicant → Bool) (w : Bool) → asked.wanted ≡ w → (extremely first : Option Applicant) →
-    IsLatest stands_behind (λ applicant. is_of applicant && is_extremely_low asked applicant) applicants extremely →
-    IsLatest stands_behind is_of applicants first →
-    IsNextOf asked applicants is_of (if w then option_or extremely first else first)
-chosen asked applicants is_of false is extremely None of_extremely of_first = record {
-  among = tt;
-  last = of_first.last;
-}
-chosen asked applicants is_of false is extremely (Some next) of_extremely of_first = record {
-  among = of_first.among;
-  last = λ k d within passed.
-      let other : Applicant = get_or applicants k d in
-      rw is (unwanted (is_extremely_low asked other) (is_extremely_low asked next) (stands_behind next other) (of_first.last k d within passed));
-}
-chosen asked applicants is_of true is (Some next) first of_extremely of_first =
-    let parts = and_parts (is_of next) (is_extremely_low asked next) of_extremely.among.1 in
-    record {
-      among = (of_extremely.among.0, parts.0);
-      last = λ k d within passed.
-          let other : Applicant = get_or applicants k d in
-          rw is (preferred (is_extremely_low asked other) (is_extremely_low asked next) (stands_behind next other) parts.1
-          (λ low. of_extremely.last k d within (and_from (is_of other) (is_extremely_low asked other) passed low)));
-    }
-chosen asked applicants is_of true is None None of_extremely of_first = record {
-  among = tt;
-  last = of_first.last;
-}
-chosen asked applicants is_of true is None (Some next) of_extremely of_first = record {
-  among = of_first.among;
-  last = λ k d within passed.
-      let other : Applicant = get_or applicants k d in
-      rw is (ordinary (is_extremely_low asked other) (is_extremely_low asked next) (stands_behind next other)
-      (second_fails (is_of other) (is_extremely_low asked other) passed (of_extremely.last k d within))
-      (of_first.last k d within passed));
-}
 
 -- who is next of those who pass
 next_of-is : (asked : Asked) (applicants : List Applicant) (is_of : Applicant → Bool) →
@@ -75,9 +28,11 @@ next_of-is asked applicants is_of =
     let both : Applicant → Bool = λ applicant. is_of applicant && is_extremely_low asked applicant in
     let extremely : IsLatest stands_behind both applicants (first_of (filter (is_extremely_low asked) (filter is_of applicants))) =
     rw (filter-filter (is_extremely_low asked) is_of applicants) (latest-is stands_behind both applicants order) in
-    chosen asked applicants is_of asked.wanted refl
-    (first_of (filter (is_extremely_low asked) (filter is_of applicants))) (first_of (filter is_of applicants))
-    extremely (latest-is stands_behind is_of applicants order)
+    let of_first = latest-is stands_behind is_of applicants order in
+    record {
+      among = chosen_among asked.wanted (is_extremely_low asked) is_of stands_behind applicants _ _ extremely of_first;
+      last = chosen_last asked.wanted (is_extremely_low asked) is_of stands_behind applicants _ _ extremely of_first;
+    }
 
 -- who is next of those who could be admitted and need the unit's features, or don't
 pub record NextOfNeed (asked : Asked) (applicants : List Applicant) (need : Bool) (next : Option Applicant) : Type 0 where
@@ -91,32 +46,18 @@ of_need : (asked : Asked) (applicants : List Applicant) (need : Bool) (is_of : A
     NextOfNeed asked applicants need (next_of asked (filter is_of (candidates asked applicants)))
 of_need asked applicants need is_of told tells =
     rw (filter-filter is_of (is_candidate asked) applicants)
-    (by_next (next_of asked (filter is_candidate_of applicants)) (next_of-is asked applicants is_candidate_of))
+    (let is = next_of-is asked applicants (λ applicant. is_candidate asked applicant && is_of applicant) in
+    record { among = with_need _ is.among; first = λ k d within passed of_need. is.last k d within (and_from _ _ passed (tells _ of_need)) })
   where
-    is_candidate_of : Applicant → Bool
-    is_candidate_of applicant = is_candidate asked applicant && is_of applicant
-
-    by_next : (next : Option Applicant) → IsNextOf asked applicants is_candidate_of next → NextOfNeed asked applicants need next
-    by_next None is = record {
-      among = tt;
-      first = λ k d within passed of_need.
-          let other : Applicant = get_or applicants k d in
-          is.last k d within (and_from (is_candidate asked other) (is_of other) passed (tells other of_need));
-    }
-    by_next (Some next) is =
-        let parts = and_parts (is_candidate asked next) (is_of next) is.among.1 in
-        record {
-          among = (is.among.0, parts.0, told next parts.1);
-          first = λ k d within passed of_need.
-              let other : Applicant = get_or applicants k d in
-              is.last k d within (and_from (is_candidate asked other) (is_of other) passed (tells other of_need));
-        }
+    with_need : (next : Option Applicant) → IfSome next (λ next. Contains applicants next × ((is_candidate asked next && is_of next) ≡ true)) →
+        IfSome next (λ next. Contains applicants next × (is_candidate asked next ≡ true) × (needs asked next ≡ need))
+    with_need None among = among
+    with_need (Some next) among = (let parts = and_parts (is_candidate asked next) (is_of next) among.1 in (among.0, parts.0, told next parts.1))
 
 -- who is next of those of a need goes before all of them
 is_first : (asked : Asked) (applicants : List Applicant) (need : Bool) (next : Applicant) → NextOfNeed asked applicants need (Some next) →
-    NoMoverNeeds asked → (need ≡ false → NoApplicantNeeds asked applicants) → (need ≡ false → asked.other ≡ None) →
-    ApplicantIsFirst asked applicants next
-is_first asked applicants need next of_need no_mover_needs no_applicant_needs no_mover =
+    NoMoverNeeds asked → (need ≡ false → NoApplicantNeeds asked applicants × (asked.other ≡ None)) → ApplicantIsFirst asked applicants next
+is_first asked applicants need next of_need no_mover_needs nobody_before =
     let parts = and_parts (suits asked.plan asked.unit next.persons) (is_within_limit asked next) of_need.among.1 in
     record {
       listed = of_need.among.0;
@@ -124,13 +65,13 @@ is_first asked applicants need next of_need no_mover_needs no_applicant_needs no
       within = parts.1;
       first = λ k d within passed same. of_need.first k d within passed (same ∙ of_need.among.2);
       no_mover_needs = no_mover_needs;
-      no_applicant_needs = λ not. no_applicant_needs (sym of_need.among.2 ∙ not);
-      no_mover = λ not. no_mover (sym of_need.among.2 ∙ not);
+      no_applicant_needs = λ not. (nobody_before (sym of_need.among.2 ∙ not)).0;
+      no_mover = λ not. (nobody_before (sym of_need.among.2 ∙ not)).1;
     }
 
 -- an applicant who is next, as a candidate
 abbrev by_number : Option Applicant → Option Candidate
-by_number next = option_map (λ applicant. candidate.Applicant applicant.number) next
+by_number next = option_map (λ applicant. Candidate.Applicant applicant.number) next
 
 -- the first who is there of the four groups
 in_turn : (asked : Asked) (applicants : List Applicant) (needing other : Option ℕ) (who_needs another : Option Applicant) →
@@ -138,36 +79,24 @@ in_turn : (asked : Asked) (applicants : List Applicant) (needing other : Option 
     asked.other ≡ other → NextOfNeed asked applicants true who_needs → NextOfNeed asked applicants false another →
     IsRightful asked applicants (first_there (mover_of needing ∷ by_number who_needs ∷ mover_of other ∷ by_number another ∷ []))
 in_turn asked applicants (Some household) other who_needs another of_needing is_other of_need of_others = inl of_needing
-in_turn asked applicants None other (Some next) another no_mover_needs is_other of_need of_others = (
-  next,
-  refl,
-  is_first asked applicants true next of_need no_mover_needs (λ not. absurd (false≢true (sym not))) (λ not. absurd (false≢true (sym not))),
-)
+in_turn asked applicants None other (Some next) another no_mover_needs is_other of_need of_others =
+    (next, refl, is_first asked applicants true next of_need no_mover_needs (λ not. absurd (cc)))
 in_turn asked applicants None other None another no_mover_needs is_other of_need of_others =
     by_others other another is_other of_others
   where
     none_needs : NoApplicantNeeds asked applicants
-    none_needs = λ k d within passed. false_from_ne_true (needs asked (get_or applicants k d)) (of_need.first k d within passed)
+    none_needs k d within passed = false_from_ne_true (needs asked (get_or applicants k d)) (of_need.first k d within passed)
 
     by_others : (other : Option ℕ) (another : Option Applicant) → asked.other ≡ other → NextOfNeed asked applicants false another →
         IsRightful asked applicants (first_there (mover_of other ∷ by_number another ∷ []))
     by_others (Some household) another is_other of_others = inr (is_other, no_mover_needs, none_needs)
     by_others None (Some next) is_other of_others =
-        (next, refl, is_first asked applicants false next of_others no_mover_needs (λ _. none_needs) (λ _. is_other))
+        (next, refl, is_first asked applicants false next of_others no_mover_needs (λ _. (none_needs, is_other)))
     by_others None None is_other of_others = record {
       no_mover_needs = no_mover_needs;
       no_mover = is_other;
-      no_applicant = λ k d within.
-          let applicant : Applicant = get_or applicants k d in
-          false_from_ne_true (is_candidate asked applicant) (λ passed. of_others.first k d within passed (none_needs k d within passed));
+      no_applicant = λ k d within. false_from_ne_true (is_candidate asked (get_or applicants k d)) (λ passed. of_others.first k d within passed (none_needs k d within passed));
     }
-
--- the second of two tests is as both together, where the first passes
-without_need : (unit applicant : Bool) → unit ≡ true → not applicant ≡ true → (unit && applicant) ≡ false
-without_need unit applicant of_unit not_applicant = grind (arith, common_steps, of_unit, not_applicant)
-
-no_need : (unit applicant : Bool) → unit ≡ true → (unit && applicant) ≡ false → not applicant ≡ true
-no_need unit applicant of_unit neither = grind (arith, common_steps, of_unit, neither)
 
 -- in a unit that has accessible features
 in_accessible : (asked : Asked) (applicants : List Applicant) → asked.unit.accessible ≡ true →
@@ -182,8 +111,8 @@ in_accessible asked applicants is =
     (λ applicant. and_from asked.unit.accessible applicant.accessible is)
     (λ applicant needed. (and_parts asked.unit.accessible applicant.accessible needed).1))
     (of_need asked applicants false (λ applicant. not applicant.accessible)
-    (λ applicant. without_need asked.unit.accessible applicant.accessible is)
-    (λ applicant. no_need asked.unit.accessible applicant.accessible is))
+    (λ applicant not_needing. grind (arith, common_steps))
+    (λ applicant no_need. grind (arith, common_steps)))
   where
     by_needing : (needing : Option ℕ) → asked.needing ≡ needing →
         MatchOption needing (NoMoverNeeds asked) (λ household. (asked.unit.accessible ≡ true) × (asked.needing ≡ Some household))
@@ -204,12 +133,5 @@ in_another asked applicants is =
     none_needs applicant = rw is refl
 
 pub next-is_rightful : NextIsRightful
-next-is_rightful asked applicants = by_unit asked.unit.accessible refl
-  where
-    by_unit : (accessible : Bool) → asked.unit.accessible ≡ accessible →
-        IsRightful asked applicants (first_there (
-        if accessible
-        then mover_of asked.needing ∷ next_needing asked applicants ∷ mover_of asked.other ∷ next_not_needing asked applicants ∷ []
-        else mover_of asked.other ∷ next_of_all asked applicants ∷ []))
-    by_unit true is = in_accessible asked applicants is
-    by_unit false is = in_another asked applicants is
+next-is_rightful asked applicants =
+    cond_both asked.unit.accessible _ _ (λ nexts. IsRightful asked applicants (first_there nexts)) (in_accessible asked applicants) (in_another asked applicants)

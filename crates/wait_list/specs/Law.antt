@@ -1,9 +1,7 @@
 -- What it comes to that one is next for a unit.
 use Rattle.std.specs.Prelude.{◌≡◌, ◌⊎◌, ℕ, ◌&&◌, ◌||◌, not, Bool, true, false, Option, Some, None, List, All, Contains}
 use Rattle.rent_table.specs.Admission.{suits}
-use Rattle.wait_list.specs.declared.applicant.Applicant.{Applicant}
-use Rattle.wait_list.specs.declared.ask.Candidate.{Candidate}
-use Rattle.wait_list.specs.declared.ask.Candidate.TheVariants as candidate
+use Rattle.wait_list.specs.declared.{applicant.Applicant.Applicant, ask.Candidate.Candidate}
 use Rattle.wait_list.specs.Next.{Asked, is_within_limit, is_extremely_low, is_candidate, stands_behind, next_candidate}
 
 -- the applicant needs accessible features, and the unit has them
@@ -55,9 +53,9 @@ pub record NobodySuits (asked : Asked) (applicants : List Applicant) : Type 0 wh
 -- the answer is right
 abbrev pub IsRightful : Asked → List Applicant → Option Candidate → Type 0
 IsRightful asked applicants None = NobodySuits asked applicants
-IsRightful asked applicants (Some (candidate.Applicant number)) =
+IsRightful asked applicants (Some (Candidate.Applicant number)) =
     (next : Applicant) × (next.number ≡ number) × ApplicantIsFirst asked applicants next
-IsRightful asked applicants (Some (candidate.Household household)) = HouseholdIsFirst asked applicants household
+IsRightful asked applicants (Some (Candidate.Household household)) = HouseholdIsFirst asked applicants household
 
 -- whoever is next is so rightly
 abbrev pub NextIsRightful : Type 0

@@ -1,15 +1,9 @@
 -- Who is next for a unit.
 use Rattle.std.specs.Prelude.{ℕ, ◌&&◌, not, nat_le, if◌then◌else◌, Bool, true, false, Option, None, List, [], ◌∷◌, filter, fold}
 use Rattle.std.specs.Option.{option_map, option_map_or, option_or, option_copied}
-use Rattle.rent_table.specs.declared.plan.Plan.{Plan}
-use Rattle.rent_table.specs.declared.rows.Unit.{Unit as UnitRow}
-use Rattle.rent_table.specs.declared.rows.LimitRow.{LimitRow}
-use Rattle.rent_table.specs.Admission.{suits, admission_limit, has_extremely_low_income}
+use Rattle.rent_table.specs.{declared.plan.Plan.Plan, declared.rows.Unit.Unit as UnitRow, declared.rows.LimitRow.LimitRow, Admission.suits, Admission.admission_limit, Admission.has_extremely_low_income}
 use Rattle.row_choice.specs.Latest.{comes_before, latest}
-use Rattle.wait_list.specs.declared.applicant.Applicant.{Applicant}
-use Rattle.wait_list.specs.declared.ask.Ask.{Ask}
-use Rattle.wait_list.specs.declared.ask.Candidate.{Candidate}
-use Rattle.wait_list.specs.declared.ask.Candidate.TheVariants as candidate
+use Rattle.wait_list.specs.declared.{applicant.Applicant.Applicant, ask.Ask.Ask, ask.Candidate.Candidate}
 
 -- What is asked about a unit on a day: the plan, the income limits that stand for the day, whether an extremely
 -- low-income applicant is wanted, and the households that would move there. For an accessible unit `needing` is the
@@ -68,7 +62,7 @@ candidates asked applicants = filter (is_candidate asked) applicants
 -- the one who is next of the candidates of a group
 abbrev pub next_applicant : Asked → (Applicant → Bool) → List Applicant → Option Candidate
 next_applicant asked is_of_group applicants =
-    option_map (λ applicant. candidate.Applicant applicant.number) (next_of asked (filter is_of_group (candidates asked applicants)))
+    option_map (λ applicant. Candidate.Applicant applicant.number) (next_of asked (filter is_of_group (candidates asked applicants)))
 
 -- of those who need accessible features
 abbrev pub next_needing : Asked → List Applicant → Option Candidate
@@ -84,7 +78,7 @@ next_of_all asked applicants = next_applicant asked (λ applicant. true) applica
 
 -- a household that would move
 abbrev pub mover_of : Option ℕ → Option Candidate
-mover_of household = option_map (λ number. candidate.Household number) household
+mover_of household = option_map (λ number. Candidate.Household number) household
 
 -- Who is next of each group, the first group first: those who need accessible features go first to a unit that has them
 -- (24 CFR 8.27), and movers before applicants (own rule).

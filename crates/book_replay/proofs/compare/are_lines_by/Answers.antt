@@ -1,7 +1,6 @@
-use Rattle.book_replay.proofs.Words.{◌∙◌, ◌+◌, sym, ap, ℕ, arith, drop, pointwise, same_line, lines_by}
-use Rattle.book_replay.proofs.Compared.{none_more, counted, passed_over}
+use Rattle.book_replay.proofs.Words.{◌∙◌, sym, same_line}
+use Rattle.book_replay.proofs.{Compared.none_more, Compared.counted, Compared.passed_over, compare.are_lines_by.Goals.then-line-n+else-not-is_line_at, compare.are_lines_by.Goals.else-line-n}
 use Rattle.book_replay.proofs.compare.are_lines_by.Goals as goal
-use Rattle.book_replay.proofs.compare.are_lines_by.Goals.{then-line-n+else-not-is_line_at, else-line-n}
 
 pub returns-then-not-is_line_at : goal.returns-then-not-is_line_at
 returns-then-not-is_line_at c =

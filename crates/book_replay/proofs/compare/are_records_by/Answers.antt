@@ -1,7 +1,6 @@
-use Rattle.book_replay.proofs.Words.{◌∙◌, ◌+◌, sym, ap, ℕ, arith, drop, pointwise, same_record, records_by}
-use Rattle.book_replay.proofs.Compared.{none_more, counted, passed_over}
+use Rattle.book_replay.proofs.Words.{◌∙◌, sym, same_record}
+use Rattle.book_replay.proofs.{Compared.none_more, Compared.counted, Compared.passed_over, compare.are_records_by.Goals.then-made-n+else-not-is_record_at, compare.are_records_by.Goals.else-made-n}
 use Rattle.book_replay.proofs.compare.are_records_by.Goals as goal
-use Rattle.book_replay.proofs.compare.are_records_by.Goals.{then-made-n+else-not-is_record_at, else-made-n}
 
 pub returns-then-not-is_record_at : goal.returns-then-not-is_record_at
 returns-then-not-is_record_at c =

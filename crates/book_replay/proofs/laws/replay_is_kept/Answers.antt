@@ -8,10 +8,10 @@ pub returns-clause-goes_on : goal.returns-clause-goes_on
 returns-clause-goes_on c = replay_goes_on c.appended_is_accepted.ensures.accepted
 
 pub returns-clause-stops : goal.returns-clause-stops
-returns-clause-stops c = replay_stops c.appended_is_accepted.ensures.accepted
+returns-clause-stops c = replay_stops
 
 pub returns-clause-ends : goal.returns-clause-ends
-returns-clause-ends c = replay_ends c.appended_is_accepted.ensures.accepted
+returns-clause-ends c = replay_ends
 
 pub returns-clause-given : goal.returns-clause-given
-returns-clause-given c = replayed_is_given c.appended_is_accepted.ensures.accepted
+returns-clause-given c = replayed_is_given

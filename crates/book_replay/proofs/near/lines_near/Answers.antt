@@ -1,7 +1,6 @@
-use Rattle.book_replay.proofs.Words.{◌∙◌, ◌==◌, ap, Line, lines_by}
+use Rattle.book_replay.proofs.Words.{◌==◌, Line}
 use Rattle.book_replay.proofs.Gathered.{kept_again}
 use Rattle.book_replay.proofs.near.lines_near.Goals as goal
 
 pub returns-then-in_order : goal.returns-then-in_order
-returns-then-in_order c =
-    ap (lines_by c.args.n) c.lines_of_act.ensures ∙ kept_again (λ (line : Line). line.act == c.args.n) c.args.lines.now
+returns-then-in_order c = rw c.lines_of_act.ensures (kept_again (λ (line : Line). line.act == c.args.n) c.args.lines.now)

@@ -1,4 +1,4 @@
-use Rattle.book_search.proofs.Words.{ℕ, ◌≡◌, ◌∙◌, sym, ap, true, nat_eq, Bool, arith, option_copied, nat_tests, false≢true, ActRow, request_key, act_key, is_of_request, find_passes, find_none-narrower, find_first-narrower}
+use Rattle.book_search.proofs.Words.{ℕ, ◌≡◌, ◌∙◌, sym, ap, true, nat_eq, Bool, arith, option_copied, nat_tests, ActRow, request_key, act_key, is_of_request, find_passes, find_none-narrower, find_first-narrower}
 use Rattle.book_search.proofs.by_request.act_of_request.Goals as goal
 
 -- the test for the key of a request
@@ -20,6 +20,5 @@ returns-then-is_of_request c =
 
 pub returns-else-is_of_request : goal.returns-else-is_of_request
 returns-else-is_of_request c =
-    absurd (false≢true (sym c.if-is_of_request.false ∙ c.is_of_request.ensures.key
-    ∙ ap (nat_eq (act_key c.in-Some.act.now)) (sym c.act_key.ensures)
-    ∙ find_passes (of_key c.act_key.result) c.args.acts.now c.in-Some.act.now (sym c.act_of_key.ensures ∙ ap option_copied c.in-Some.is)))
+    let passed = find_passes (of_key c.act_key.result) c.args.acts.now c.in-Some.act.now (sym c.act_of_key.ensures ∙ ap option_copied c.in-Some.is) in
+    grind (arith, nat_tests, passed)

@@ -1,6 +1,4 @@
-use Rattle.std.proofs.Common.{subst}
-use Rattle.std.proofs.lemmas.List.{take_all}
-use Rattle.std.proofs.lemmas.List.Elements.{All-more}
+use Rattle.std.proofs.{Common.subst, lemmas.List.take_all, lemmas.List.Elements.All-more}
 use Rattle.command_forms.proofs.holdable.held_rows.Goals as goal
 
 pub loop-row-preserved : goal.loop-row-preserved

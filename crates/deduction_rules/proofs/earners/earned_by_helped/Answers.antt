@@ -1,6 +1,5 @@
 use Rattle.std.proofs.Common.{◌≡◌, ℕ, ◌+◌, length, ap, sym, ◌∙◌, arith}
-use Rattle.std.specs.Prelude.{sum_by}
-use Rattle.std.specs.List.{range_with_len}
+use Rattle.std.specs.{Prelude.sum_by, List.range_with_len}
 use Rattle.deduction_rules.specs.Deductions.{is_helped_adult}
 use Rattle.deduction_rules.proofs.Bounds.{share_of, shares-le, earned_by-shares}
 use Rattle.deduction_rules.proofs.earners.earned_by_helped.Goals as goal

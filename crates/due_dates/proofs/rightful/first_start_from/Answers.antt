@@ -7,8 +7,7 @@ returns-then-eq c =
     let day : c.unwrap-day.result ≡ c.args.number = search rules in
     let same : c.first_of-start.result ≡ c.unwrap-day.result = eqb-true _ _ (sym c.eq.ensures ∙ c.if-eq.true) in
     let start : first_of (month_of c.args.number) ≡ c.args.number = cc in
-    let found = first_month_that-is (begins_from c.args.number) (month_of c.args.number) (first_start-own c.args.number c.requires start) in
-    day ∙ sym (ap first_of found ∙ start)
+    rw (first_month_that-is (begins_from c.args.number) (month_of c.args.number) (first_start-own c.args.number c.requires start)) (cc)
 
 pub returns-else-eq : goal.returns-else-eq
 returns-else-eq c =

@@ -1,4 +1,4 @@
-use Rattle.due_dates.proofs.Words.{◌≡◌, ◌+◌, ◌∙◌, sym, ap, arith, month_of, first_of, has_anniversary_after}
+use Rattle.due_dates.proofs.Words.{◌≡◌, ◌+◌, arith, month_of, has_anniversary_after}
 use Rattle.due_dates.proofs.MonthLemmas.{first_month_that-is, anniversary, wait_of, month_of_by}
 use Rattle.due_dates.proofs.rightful.next_anniversary.Goals as goal
 
@@ -9,8 +9,6 @@ pub returns : goal.returns
 returns c =
     let after : c.number-next.result ≡ month_of c.args.after = cc in
     let opening : c.number.result ≡ month_of c.args.opening = cc in
-    let found = first_month_that-is (has_anniversary_after c.args.opening c.args.after) (month_of c.args.after + 1 + wait_of c.args.opening c.args.after)
-    (anniversary c.args.opening c.args.after c.requires)
-    in
-    let start : c.month_start.result ≡ first_of (month_of c.args.after + 1 + wait_of c.args.opening c.args.after) = rw (sym after, sym opening) c.month_start.ensures in
-    start ∙ sym (ap first_of found)
+    rw (first_month_that-is (has_anniversary_after c.args.opening c.args.after) (month_of c.args.after + 1 + wait_of c.args.opening c.args.after)
+    (anniversary c.args.opening c.args.after c.requires))
+    (rw (← after, ← opening) c.month_start.ensures)

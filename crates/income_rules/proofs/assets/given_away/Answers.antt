@@ -1,5 +1,4 @@
-use Rattle.income_rules.proofs.Words.{arith, Disposal, is_between}
-use Rattle.income_rules.proofs.Sums.{sum_by-filter-le}
+use Rattle.income_rules.proofs.{Words.arith, Words.Disposal, Words.is_between, Sums.sum_by-filter-le}
 use Rattle.income_rules.proofs.assets.given_away.Goals as goal
 
 pub values_within-requires : goal.values_within-requires

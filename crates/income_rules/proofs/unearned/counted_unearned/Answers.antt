@@ -1,14 +1,13 @@
-use Rattle.income_rules.proofs.Words.{arith, is_counted_whole, is_adoption}
-use Rattle.income_rules.proofs.Fits.{incomes_fit, sum_of-le, whole_and_adoption_fit}
+use Rattle.income_rules.proofs.{Words.arith, Words.is_counted_whole, Words.is_adoption, Fits.sums_fit, Fits.sum_of-le, Fits.whole_and_adoption_fit}
 use Rattle.income_rules.proofs.unearned.counted_unearned.Goals as goal
 
 pub counted_whole-whole-requires : goal.counted_whole-whole-requires
 counted_whole-whole-requires c =
-    rw c.as_slice.ensures (omega (arith, sum_of-le is_counted_whole c.args.facts.now.incomes c.args.member, incomes_fit c.args.facts.now c.args.day c.requires.kept))
+    rw c.as_slice.ensures (omega (arith, sum_of-le is_counted_whole c.args.facts.now.incomes c.args.member, (sums_fit c.args.facts.now c.args.day c.requires.kept).incomes))
 
 pub adoption-adoption-requires : goal.adoption-adoption-requires
 adoption-adoption-requires c =
-    rw c.as_slice-2.ensures (omega (arith, sum_of-le is_adoption c.args.facts.now.incomes c.args.member, incomes_fit c.args.facts.now c.args.day c.requires.kept))
+    rw c.as_slice-2.ensures (omega (arith, sum_of-le is_adoption c.args.facts.now.incomes c.args.member, (sums_fit c.args.facts.now c.args.day c.requires.kept).incomes))
 
 pub counted-requires : goal.counted-requires
 counted-requires c =

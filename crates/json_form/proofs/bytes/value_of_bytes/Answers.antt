@@ -1,8 +1,7 @@
-use Rattle.std.proofs.Common.{ap}
-use Rattle.std.proofs.lemmas.Bool.{false≢true}
+use Rattle.std.proofs.{Common.ap, lemmas.Bool.false≢true}
 use Rattle.serde_json.specs.View.{view}
 use Rattle.json_form.specs.Form.{fit}
-use Rattle.json_form.proofs.DataFrom.{data_from_text, data_from_other}
+use Rattle.json_form.proofs.Texts.{data_from_text, data_from_other}
 use Rattle.json_form.proofs.bytes.value_of_bytes.Goals as goal
 
 pub returns-in-Ok : goal.returns-in-Ok

@@ -1,5 +1,4 @@
-use Rattle.std.proofs.Common.{arith}
-use Rattle.std.proofs.lemmas.Grind.{common_steps}
+use Rattle.std.proofs.{Common.arith, lemmas.Grind.common_steps}
 use Rattle.json_form.proofs.Floats.{items_without_float}
 use Rattle.json_form.proofs.written.values_of.Goals as goal
 

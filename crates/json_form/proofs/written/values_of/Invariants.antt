@@ -1,6 +1,5 @@
 use Rattle.std.proofs.Common.{◌≡◌, false, map, take}
-use Rattle.serde_json.specs.View.{view, items_view}
-use Rattle.serde_json.specs.Written.{items_have_float}
+use Rattle.serde_json.specs.{View.view, View.items_view, Written.items_have_float}
 use Rattle.json_form.proofs.written.values_of.Given as goal
 
 abbrev pub invariant-loop-row : goal.invariant-loop-row

@@ -1,6 +1,5 @@
-use Rattle.office_answers.proofs.Dues.{one_is_due, none_is_due}
+use Rattle.office_answers.proofs.{Dues.one_is_due, Dues.none_is_due, due.due_days.Goals.in-Some+in_ok-push, due.due_days.Goals.in_default}
 use Rattle.office_answers.proofs.due.due_days.Goals as goal
-use Rattle.office_answers.proofs.due.due_days.Goals.{in-Some+in_ok-push, in_default}
 
 pub loop-place-preserved : goal.loop-place-preserved
 loop-place-preserved c =

@@ -1,7 +1,6 @@
 use Rattle.std.proofs.Common.{◌≤◌, ◌∙◌, ap, ℕ, refl, rules}
 use Rattle.std.proofs.lemmas.List.Sorted.{All-permutation, answers_always}
-use Rattle.office_answers.specs.declared.answer.DueDay.{DueDay}
-use Rattle.office_answers.specs.DueList.{horizon, day_by_day}
+use Rattle.office_answers.specs.{declared.answer.DueDay.DueDay, DueList.horizon, DueList.day_by_day}
 use Rattle.office_answers.proofs.ByDay.{sorted_one_by_one}
 use Rattle.office_answers.proofs.due.due_list.Goals as goal
 

@@ -1,6 +1,4 @@
-use Rattle.std.proofs.Common.{arith, rules, take}
-use Rattle.std.proofs.lemmas.List.{length-take-le}
-use Rattle.std.proofs.KnownBytes.{Consumes-kept}
+use Rattle.std.proofs.{Common.arith, Common.rules, Common.take, lemmas.List.length-take-le, KnownBytes.Consumes-kept}
 use Rattle.office_io.proofs.Moves.{length-behind, behind-within, Consumes-next}
 use Rattle.office_io.proofs.transfer.fill.Goals as goal
 

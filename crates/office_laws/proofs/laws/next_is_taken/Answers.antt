@@ -1,5 +1,43 @@
-use Rattle.office_laws.proofs.Taken.{next_is_taken}
+-- Admissions and transfers take the next candidate.
+use Rattle.office_laws.proofs.Words.{nat_tests, common_steps, arith, Refusal, ◌≡◌, refl, ℕ, false, Option, Some, None, is_some, if◌then◌else◌, Plan, unit_at, Command, Known, known_of, no_unit, not_next, HouseholdChange, MoveIn, Passed, or_none, is_plan, no_such_in, move_in_for, of_move_in, out_of_turn, Candidate}
+use Rattle.office_step.specs.Refusals as test
+use Rattle.office_laws.specs.Taken.{TakesNextBy, IsNextFor, TakesNext}
+use Rattle.office_laws.proofs.{Inversion.passes, Reached.plan_there}
 use Rattle.office_laws.proofs.laws.next_is_taken.Goals as goal
 
+-- what a test missed that doesn't stand is there
+some_there : {X : Type 0} (found : Option X) (why : Refusal) → (if is_some found then None else Some why) ≡ None → (x : X) × (found ≡ Some x)
+some_there (Some x) why none = (x, refl)
+some_there None why none = absurd (cc)
+
+is_the_next : (next : Option Candidate) (asked : Candidate) → not_next next asked ≡ None → next ≡ Some asked
+is_the_next next asked none = grind (arith, common_steps, nat_tests, none)
+
+next_for : (known : Known) (mover : MoveIn) → (plan : Plan) × (known.plan ≡ Some plan) → test.no_unit known.units mover.unit ≡ None →
+    of_move_in known (Some mover) (out_of_turn known) ≡ None → IsNextFor known mover.unit mover.from mover.candidate
+next_for known mover (plan, is_plan) there none =
+    let unit = some_there (unit_at known.units mover.unit) _ there in
+    record {
+      plan = plan;
+      row = unit.0;
+      is_plan = is_plan;
+      is_unit = unit.1;
+      is_next = is_the_next _ mover.candidate (rw (is_plan, unit.1) at none);
+    }
+
+takes_next : (known : Known) (most today : ℕ) (asked : Command) → (is_plan asked ≡ false → (plan : Plan) × (known.plan ≡ Some plan)) →
+    Passed known most today asked → TakesNext known asked
+takes_next known most today (Command.Admit admit) plan free =
+    next_for known _ (plan refl) (or_none _ _ free.no_such).1 free.not_next
+takes_next known most today (Command.Household act) plan free = by_change act.change (or_none _ _ free.no_such).1 free.not_next
+  where
+    by_change : (done : HouseholdChange) → no_such_in known act.household done ≡ None → of_move_in known (move_in_for act.household done) (out_of_turn known) ≡ None →
+        TakesNextBy known act.household done
+    by_change (HouseholdChange.Transfer transfer) named none = next_for known _ (plan refl) named none
+    by_change _ named none = tt
+takes_next known most today _ plan free = tt
+
 pub returns : goal.returns
-returns c = next_is_taken
+returns c capacity book rows reached appends =
+    takes_next (known_of book) capacity.acts rows.act.day appends.call.command (plan_there capacity book rows reached appends)
+    (passes capacity book rows appends)

@@ -1,8 +1,7 @@
 use Rattle.std.proofs.Common.{◌∙◌, sym, ap, ◌+◌, ℕ, Option}
 use Rattle.std.specs.Option.{option_or}
 use Rattle.record_history.specs.Held.{records_of}
-use Rattle.office_step.specs.declared.refusal.Refusal.{Refusal}
-use Rattle.office_step.specs.Refusals.{household_overdue}
+use Rattle.office_step.specs.{declared.refusal.Refusal.Refusal, Refusals.household_overdue}
 use Rattle.office_refusals.proofs.FirstOf.{first_household-more}
 use Rattle.office_refusals.proofs.lateness.overdue.Goals as goal
 

@@ -1,5 +1,4 @@
-use Rattle.record_history.proofs.Words.{latest-is, filter-filter, pairs_order, comes_before}
-use Rattle.record_history.specs.Law.{is_candidate}
+use Rattle.record_history.proofs.Words.{latest-is, filter-filter, pairs_order, comes_before, is_candidate}
 use Rattle.record_history.proofs.laws.in_force_is_latest.Goals as goal
 
 pub returns : goal.returns

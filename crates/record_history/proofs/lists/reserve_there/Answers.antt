@@ -1,10 +1,10 @@
-use Rattle.record_history.proofs.Words.{◌∙◌, ap, arith, vec_items, vec_len, vec_capacity}
-use Rattle.record_history.proofs.Places.{lists_kept, room_after, room_kept}
+use Rattle.record_history.proofs.Words.{◌∙◌, ap, arith, vec_items, vec_len, vec_capacity, map-set_same}
+use Rattle.record_history.proofs.Places.{room_after, room_kept}
 use Rattle.record_history.proofs.lists.reserve_there.Goals as goal
 
 pub returns-in_err-reserve-clause-lists : goal.returns-in_err-reserve-clause-lists
 returns-in_err-reserve-clause-lists g c =
-    lists_kept c.args.lists.now.items c.args.place c.reserve.new.self c.index_mut.result.now (c.reserve.ensures.items ∙ ap vec_items c.index_mut.ensures.value)
+    map-set_same vec_items c.args.lists.now.items c.args.place c.reserve.new.self c.index_mut.result.now (c.reserve.ensures.items ∙ ap vec_items c.index_mut.ensures.value)
 
 pub returns-in_err-reserve-clause-kept : goal.returns-in_err-reserve-clause-kept
 returns-in_err-reserve-clause-kept g c =
@@ -13,7 +13,7 @@ returns-in_err-reserve-clause-kept g c =
 
 pub returns-clause-lists : goal.returns-clause-lists
 returns-clause-lists g c =
-    lists_kept c.args.lists.now.items c.args.place c.reserve.new.self c.index_mut.result.now (c.reserve.ensures.items ∙ ap vec_items c.index_mut.ensures.value)
+    map-set_same vec_items c.args.lists.now.items c.args.place c.reserve.new.self c.index_mut.result.now (c.reserve.ensures.items ∙ ap vec_items c.index_mut.ensures.value)
 
 pub returns-clause-room : goal.returns-clause-room
 returns-clause-room g c =

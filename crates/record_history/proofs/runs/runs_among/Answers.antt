@@ -1,13 +1,10 @@
-use Rattle.record_history.proofs.Words.{◌≡◌, ◌∙◌, ◌+◌, ◌-◌, All, List, map, sym, subst, ℕ, arith, Stretch, as_of, number_on, run_of, IsBy}
-use Rattle.std.proofs.lemmas.Result.{IfOk-weaker}
+use Rattle.record_history.proofs.Words.{◌≡◌, ◌∙◌, ◌+◌, ◌-◌, map, arith, as_of, number_on, run_of, IfOk-weaker}
 use Rattle.record_history.proofs.Longest.{stretches_by, are_longest}
 use Rattle.record_history.proofs.runs.runs_among.Goals as goal
 
 pub runs_of-requires : goal.runs_of-requires
 runs_of-requires c =
-    let low : ℕ = c.number.result in
-    let high : ℕ = c.number-2.result in
-    subst (λ (days : List (Stretch ℕ)). All (IsBy 116877) days) (sym (c.deref.ensures.value ∙ c.in_ok-days.ensures))
+    rw (c.deref.ensures.value, c.in_ok-days.ensures)
     (stretches_by (number_on (as_of c.args.act c.args.records.now)) c.number.result 116877 (c.number-2.result + 1 - c.number.result) (omega arith))
 
 pub returns-clause-longest : goal.returns-clause-longest

@@ -1,5 +1,5 @@
-use Rattle.record_history.proofs.Words.{rules, ◌≡◌, ◌++◌, ◌∷◌, [], List, ◌∙◌, sym, ap, length, vec_items, Stretch}
-use Rattle.record_history.proofs.Days.{joins, begins, begins_first, put_back, none_there}
+use Rattle.record_history.proofs.Words.{rules, arith, ◌≡◌, ◌∙◌, sym, ap, ◌-◌, length, vec_items, set-get_or}
+use Rattle.record_history.proofs.Days.{joins, begins, begins_first}
 use Rattle.record_history.proofs.stretch.add_day.Goals.{in-Some+else-eq, in_default}
 use Rattle.record_history.proofs.stretch.add_day.Goals as goal
 
@@ -12,14 +12,11 @@ pub returns-clause-ok : goal.returns-clause-ok
 returns-clause-ok g c = λ earlier is.
     elim c.match-last_mut.branch [
       | in-Some+else-eq w ↦
-          c.in_ok-push.ensures.items
-          ∙ ap (λ (ds : List (Stretch _)). ds ++ record { first = c.args.day; last = c.args.day; key = c.args.key } ∷ [])
-          (ap vec_items w.days-is ∙ put_back g.K.PartialEq.eq c.args.days.now.items c.args.days.now.len w.in-Some.newest.now w.in-Some.ensures.value)
-          ∙ begins g.K.PartialEq.eq c.args.days.now.items earlier c.args.days.now.len w.in-Some.newest.now c.args.day c.args.key is (search rules)
-          w.in-Some.ensures.value (sym w.eq.ensures ∙ w.if-eq.false)
+          (let unchanged = set-get_or c.args.days.now.items (c.args.days.now.len - 1) w.in-Some.newest.now in
+          let next = begins g.K.PartialEq.eq c.args.days.now.items earlier c.args.days.now.len w.in-Some.newest.now c.args.day c.args.key is (search rules) w.in-Some.ensures.value (sym w.eq.ensures ∙ w.if-eq.false) in
+          cc (c.in_ok-push.ensures.items, ap vec_items w.days-is, w.in-Some.ensures.value))
       | in_default w ↦
-          c.in_ok-push.ensures.items
-          ∙ ap (λ (ds : List (Stretch _)). ds ++ record { first = c.args.day; last = c.args.day; key = c.args.key } ∷ []) (ap vec_items w.days-is)
-          ∙ begins_first g.K.PartialEq.eq c.args.days.now.items earlier c.args.day c.args.key is
-          (let count : c.args.days.now.len ≡ length c.args.days.now.items = search rules in sym count ∙ none_there c.args.days.now.len w.in_default.ensures.variant.1)
+          (let count : c.args.days.now.len ≡ length c.args.days.now.items = search rules in
+          let next = begins_first g.K.PartialEq.eq c.args.days.now.items earlier c.args.day c.args.key is (grind (arith, w.in_default.ensures.variant.1)) in
+          cc (c.in_ok-push.ensures.items, ap vec_items w.days-is))
     ]

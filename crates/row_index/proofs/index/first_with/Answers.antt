@@ -1,5 +1,4 @@
-use Rattle.row_index.proofs.Words.{ap, option_copied}
-use Rattle.row_index.proofs.Points.{number_there, number_not_there, number_past}
+use Rattle.row_index.proofs.{Words.ap, Words.option_copied, Points.number_there, Points.number_not_there, Points.number_past}
 use Rattle.row_index.proofs.index.first_with.Goals as goal
 
 pub returns-then-entry-key : goal.returns-then-entry-key

@@ -1,7 +1,5 @@
-use Rattle.wait_list.proofs.Words.{arith, common_steps, filter_map-append}
-use Rattle.wait_list.proofs.RankLemmas.{reduce_min-push}
+use Rattle.wait_list.proofs.{Words.arith, Words.common_steps, Words.filter_map-append, RankLemmas.reduce_min-push, rank.best_rank.Goals.in-Some, rank.best_rank.Goals.in_default}
 use Rattle.wait_list.proofs.rank.best_rank.Goals as goal
-use Rattle.wait_list.proofs.rank.best_rank.Goals.{in-Some, in_default}
 
 pub loop-code-preserved : goal.loop-code-preserved
 loop-code-preserved c =

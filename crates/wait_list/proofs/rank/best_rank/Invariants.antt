@@ -1,5 +1,4 @@
-use Rattle.wait_list.proofs.Words.{◌≡◌, take, min, filter_map, reduce}
-use Rattle.wait_list.specs.Rank.{rank_of}
+use Rattle.wait_list.proofs.Words.{◌≡◌, take, min, filter_map, reduce, rank_of}
 use Rattle.wait_list.proofs.rank.best_rank.Given as goal
 
 abbrev pub invariant-loop-code : goal.invariant-loop-code

@@ -1,10 +1,9 @@
-use Rattle.std.proofs.Common.{◌∙◌, sym, subst, length}
-use Rattle.book_search.specs.Order.{LinesNeverFall}
+use Rattle.std.proofs.Common.{◌∙◌, sym, length}
 use Rattle.book_replay.proofs.InPlace.{never_fall, none_there}
 use Rattle.book_replay.proofs.given.Given.has_lines.Goals as goal
 
 pub lines_near-near-requires : goal.lines_near-near-requires
 lines_near-near-requires c in_order =
-    subst LinesNeverFall (sym c.deref.ensures.value)
+    rw c.deref.ensures.value
     (never_fall (λ row. row.act) (length c.self.inside.tables.now.acts.items) 0 c.self.inside.tables.now.lines.items
     (sym c.self.invariant.1 ∙ none_there c.self.inside.stray_line c.is_none.result c.is_none.ensures in_order))

@@ -1,7 +1,5 @@
-use Rattle.due_dates.proofs.Words.{map, is_rent_stale_on}
+use Rattle.due_dates.proofs.{Words.map, Words.is_rent_stale_on, StaleLemmas.changes_at_beginnings, ReviewLemmas.with_days-least}
 use Rattle.record_history.specs.Held.{records_of}
-use Rattle.due_dates.proofs.StaleLemmas.{changes_at_beginnings}
-use Rattle.due_dates.proofs.ReviewLemmas.{with_days-least}
 use Rattle.due_dates.proofs.review.RentReview.least_day.Goals as goal
 
 pub returns : goal.returns

@@ -1,6 +1,5 @@
 use Rattle.serde_json.specs.View.{view}
-use Rattle.json_form.specs.Form.{closed_by}
-use Rattle.json_form.specs.Gives.{Gives}
+use Rattle.json_form.specs.{Form.closed_by, Gives.Gives}
 use Rattle.facts_core.specs.Facts.{facts_at, facts_members}
 use Rattle.facts_core.proofs.facts.FactsFormed.of_value.Goals as goal
 

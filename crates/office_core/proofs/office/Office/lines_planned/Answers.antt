@@ -2,8 +2,7 @@ use Rattle.std.proofs.Common.{◌≤◌, ◌++◌, arith, ap, length, subst, len
 use Rattle.voucher_core.specs.declared.line.Line.{Line}
 use Rattle.book_rows.specs.Book.{appended}
 use Rattle.office_step.specs.Step.{IsReached, reached_more}
-use Rattle.office_core.specs.Office.{Holding}
-use Rattle.office_core.specs.Planned.{Planned}
+use Rattle.office_core.specs.{Office.Holding, Planned.Planned}
 use Rattle.office_core.proofs.office.Office.lines_planned.Goals as goal
 
 pub returns-clause-few : goal.returns-clause-few

@@ -5,15 +5,14 @@ use Rattle.record_history.specs.Held.{IsWithin}
 use Rattle.book_rows.specs.Book.{Book}
 use Rattle.row_index.specs.Index.{index_of}
 use Rattle.book_search.specs.Requests.{act_key}
-use Rattle.office_step.specs.Known.{known_of}
-use Rattle.office_step.specs.Step.{IsReached, reached_empty}
+use Rattle.office_step.specs.{Known.known_of, Step.reached_empty}
 use Rattle.office_core.proofs.office.Office.new.Goals as goal
 
 pub invariant_of-result : goal.invariant_of-result
 invariant_of-result c = record {
   acts = c.requires.acts;
   lines = c.requires.lines;
-  reached = subst (IsReached c.args.capacity) (sym c.new.ensures) reached_empty;
+  reached = rw c.new.ensures reached_empty;
   known = c.in_ok-new.ensures ∙ ap known_of (sym c.new.ensures);
   records = subst (λ (b : Book). All IsWithin b.records) (sym c.new.ensures) (All-nil IsWithin);
   requests = c.new-3.ensures ∙ sym (ap (λ (b : Book). index_of act_key b.acts) c.new.ensures);

@@ -1,7 +1,5 @@
-use Rattle.wait_list.proofs.Words.{◌≡◌, ◌≢◌, ◌∙◌, ap, sym, ℕ, ◌+◌, ◌-◌, ◌<◌, length, nat_eq, Bool, List, rules, if◌then◌else◌, not, vec_len, vec_capacity, All-filter, Applicant, is_listed, without, IsSize, IsInOrder}
-use Rattle.std.proofs.lemmas.Fn.{filter_same}
-use Rattle.std.proofs.lemmas.List.Kept.{AllPairs-filter}
-use Rattle.wait_list.proofs.ListedLemmas.{length-without, room_grows}
+use Rattle.wait_list.proofs.Words.{◌≡◌, arith, common_steps, ◌≢◌, ◌∙◌, ap, ℕ, ◌-◌, ◌<◌, length, nat_eq, Bool, List, rules, not, vec_len, vec_capacity, All-filter, Applicant, is_listed, without, IsSize, IsInOrder, filter_same, AllPairs-filter}
+use Rattle.wait_list.proofs.ListedLemmas.{length-without}
 use Rattle.wait_list.proofs.list.WaitList.remove.Goals as goal
 
 -- what stays is what was there without the applicant of the number
@@ -29,12 +27,8 @@ returns-clause-applicants c =
 pub returns-clause-room : goal.returns-clause-room
 returns-clause-room c =
     let list = c.self.inside.applicants.items in
-    let same : list ≡ c.args.self.now.applicants = ap (λ list. list.applicants) c.self.view_is in
     let room : vec_capacity c.self.inside.applicants - vec_len c.self.inside.applicants ≡ c.args.self.now.room = ap (λ list. list.room) c.self.view_is in
     let stay : vec_len c.retain.new.self ≡ length (without c.args.number list) = c.retain.new.self.ok.0 ∙ ap length (stays c) in
-    let listed : c.listed-listed.result ≡ is_listed list c.args.number = c.listed-listed.ensures ∙ ap (λ list. is_listed list c.args.number) (sym same) in
-    let counts : vec_len c.retain.new.self + (if c.listed-listed.result then 1 else 0) ≡ vec_len c.self.inside.applicants =
-    rw (stay, listed) (length-without c.args.number list c.self.invariant.numbers ∙ sym c.self.inside.applicants.ok.0) in
-    ap (λ capacity. capacity - vec_len c.retain.new.self) c.retain.ensures.capacity
-    ∙ room_grows c.listed-listed.result (vec_capacity c.self.inside.applicants) (vec_len c.self.inside.applicants)
-    (vec_len c.retain.new.self) c.args.self.now.room counts c.self.inside.applicants.ok.1 room
+    let listed : c.listed-listed.result ≡ is_listed list c.args.number = rw (ap (λ list. list.applicants) c.self.view_is) c.listed-listed.ensures in
+    let counts = length-without c.args.number list c.self.invariant.numbers in
+    grind (arith, common_steps, c.retain.ensures.capacity, c.self.inside.applicants.ok)
