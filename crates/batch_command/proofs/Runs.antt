@@ -6,7 +6,7 @@ use Rattle.std.proofs.{KnownBytes.Appends-trans, KnownBytes.Appends-kept, KnownB
 use Rattle.office_io.specs.Transfer.{AppendsPart}
 use Rattle.line_input.specs.{declared.reader.Next.Next, Lines.IsEndless, Lines.lines_of, Reading.Reading, Reading.Comes}
 use Rattle.book_rows.specs.Book.{Book}
-use Rattle.office_step.specs.declared.call.Capacity.{Capacity}
+use Rattle.clerk_desk.specs.Below.office_step.declared.call.Capacity.{Capacity}
 use Rattle.batch_command.specs.{declared.ending.Ending.Ending, Output.Given, Output.told_of, Output.batch_output, Line.AnswersLine}
 use Rattle.batch_command.specs.Batch.{line_limit, most_lines, lines_in, ending_of, Follows, Writes, WritesPart, Ran}
 use Rattle.batch_command.proofs.SoFar.{IsTaken, SoFar, book-more, written-more, joined-more}

@@ -5,7 +5,7 @@ use Rattle.std.proofs.KnownBytes.{Appends-nil, Appends-trans, Consumes-nil, Cons
 use Rattle.std.proofs.lemmas.{List.map-append, List.Sums.fold-append, List.Elements.All-nil, List.Elements.All-push, Grind.flat_map-append}
 use Rattle.line_input.specs.Lines.{IsEndless, joined}
 use Rattle.book_rows.specs.Book.{Book}
-use Rattle.office_step.specs.declared.call.Capacity.{Capacity}
+use Rattle.clerk_desk.specs.Below.office_step.declared.call.Capacity.{Capacity}
 use Rattle.batch_command.specs.Output.{Given, Told, told_of, one_more, batch_output}
 use Rattle.batch_command.specs.Batch.{line_limit, lines_in}
 

@@ -4,7 +4,7 @@ use Rattle.std.specs.Prelude.{Option, unwrap_or}
 use Rattle.line_input.specs.declared.reader.Next.{Next}
 use Rattle.line_input.specs.Reading.{Reading, Comes}
 use Rattle.book_rows.specs.Book.{Book}
-use Rattle.office_step.specs.declared.call.Capacity.{Capacity}
+use Rattle.clerk_desk.specs.Below.office_step.declared.call.Capacity.{Capacity}
 use Rattle.batch_command.specs.{declared.ending.Ending.Ending, Output.Given, Output.told_of, Line.AnswersLine, Batch.line_limit, Batch.most_lines, Batch.Ran}
 use Rattle.batch_command.proofs.{SoFar.SoFar, SoFar.so_far_more, Runs.ran_line, Runs.ran_last}
 

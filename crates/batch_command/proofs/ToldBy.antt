@@ -2,7 +2,7 @@
 use Rattle.std.proofs.Common.{◌≡◌, ℕ, List, Ok, sym, subst, ap, ◌∙◌}
 use Rattle.std.specs.Prelude.{Option, Result, unwrap_or}
 use Rattle.book_rows.specs.Book.{Book}
-use Rattle.office_step.specs.{declared.call.Call.Call, declared.call.Capacity.Capacity, Step.step}
+use Rattle.clerk_desk.specs.Below.office_step.{declared.call.Call.Call, declared.call.Capacity.Capacity, Step.step}
 use Rattle.json_front.specs.declared.line.BatchLine.{BatchLine}
 use Rattle.batch_command.specs.Output.{Told, session, told_of_call, told_by}
 use Rattle.batch_command.specs.{Line.Tells, declared.ending.Ending.Ending}

@@ -4,7 +4,7 @@ use Rattle.std.specs.Io.KnownBytes.{Appends, Consumes}
 use Rattle.office_io.specs.Outside.{Faulted}
 use Rattle.line_input.specs.{declared.reader.Next.Next, Lines.lines_of, Lines.ended_lines}
 use Rattle.book_rows.specs.Book.{Book}
-use Rattle.office_step.specs.declared.call.Capacity.{Capacity}
+use Rattle.clerk_desk.specs.Below.office_step.declared.call.Capacity.{Capacity}
 use Rattle.batch_command.specs.{Output.Given, Output.told_of, Output.batch_output, declared.ending.Ending.Ending}
 
 -- the most bytes of a line, without its end

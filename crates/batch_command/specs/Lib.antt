@@ -1,3 +1,4 @@
+pub mod Below
 pub mod Output
 pub mod Line
 pub mod Batch

@@ -1,8 +1,8 @@
 -- What a batch writes and what it makes of a book, line after line.
 use Rattle.std.specs.Prelude.{ℕ, ◌||◌, if◌then◌else◌, Bool, unwrap_or, List, [], ◌∷◌, ◌++◌, Result, Ok, Err, fold, bytes_eq}
 use Rattle.book_rows.specs.Book.{Book}
-use Rattle.office_step.specs.{declared.call.Capacity.Capacity, declared.refusal.Refusal.Refusal, Step.Outcome, Step.step}
-use Rattle.office_answers.specs.{declared.answer.Answer.Answer, Answering.answer_to, declared.reply.Reply.Reply}
+use Rattle.clerk_desk.specs.Below.office_step.{declared.call.Capacity.Capacity, declared.refusal.Refusal.Refusal, Step.Outcome, Step.step}
+use Rattle.clerk_desk.specs.Below.office_answers.{declared.answer.Answer.Answer, Answering.answer_to, declared.reply.Reply.Reply}
 use Rattle.json_front.specs.{declared.line.BatchLine.BatchLine, Lines.line_from, Replies.reply_text, Replies.bad_form_text, Answers.answer_text}
 use Rattle.clerk_desk.specs.Serving.{reply_of, book_after}
 

@@ -6,9 +6,9 @@ ghost use Rattle.batch_command.specs.Batch.{Ran, Blames, ending_of};
 
 use crate::Ending;
 use crate::line::answer_line;
+use clerk_desk::office_core::Office;
 use keeper_core::Keeper;
 use line_input::{LineReader, Next};
-use office_core::Office;
 use office_io::{Clock, Sink, Source};
 use std::alloc::Global;
 

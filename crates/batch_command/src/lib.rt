@@ -6,4 +6,6 @@ mod ending;
 mod line;
 
 pub use batch::answer_lines;
+pub use clerk_desk;
+pub use clerk_desk::office_core;
 pub use ending::Ending;

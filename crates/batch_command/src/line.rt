@@ -1,7 +1,7 @@
 ghost use Rattle.std.specs.Prelude.{◌≡◌, ◌++◌, ℕ, true, IfOk};
 ghost use Rattle.book_rows.specs.Book.{Book};
-ghost use Rattle.office_step.specs.Step.{step, is_fit_call};
-ghost use Rattle.office_answers.specs.Answering.{answer_to};
+ghost use Rattle.clerk_desk.specs.Below.office_step.Step.{step, is_fit_call};
+ghost use Rattle.clerk_desk.specs.Below.office_answers.Answering.{answer_to};
 ghost use Rattle.json_front.specs.Lines.{line_from};
 ghost use Rattle.keeper_core.specs.Keeping.{Keeps};
 ghost use Rattle.clerk_desk.specs.Serving.{ToldBefore};
@@ -9,13 +9,13 @@ ghost use Rattle.batch_command.specs.Output.{session, is_passed_over, line_end, 
 ghost use Rattle.batch_command.specs.Line.{Tells, IsText, WritesText, AnswersLine, LineBlames, SinkBlames, TellBlames};
 
 use crate::Ending;
+use clerk_desk::office_answers::{Asked, Question, Reply};
+use clerk_desk::office_core::{Call, Office};
 use clerk_desk::serve;
 use days_core::Day;
 use json_form::FormFault;
 use json_front::{BatchLine, line_of_bytes, text_of_answer, text_of_bad_form, text_of_reply};
 use keeper_core::Keeper;
-use office_answers::{Asked, Question, Reply};
-use office_core::{Call, Office};
 use office_io::{Clock, Sink, write_whole};
 use plain_data::{NoMemory, Text};
 use std::alloc::Global;

@@ -2,11 +2,11 @@
 //! so many times. Prints the replies, and how many acts the book has.
 #![tactic(auto)]
 
-use clerk_desk::open_office;
 use days_core::Day;
 use keeper_core::MemoryKeeper;
-use office_core::Capacity;
 use office_io::{FixedClock, StreamSink, StreamSource};
+use office_prog::clerk_desk::open_office;
+use office_prog::office_core::Capacity;
 use office_prog::run;
 use std::alloc::{AllocError, Global};
 use std::process::ExitCode;

@@ -4,5 +4,7 @@
 mod opening;
 mod serving;
 
+pub use office_core;
+pub use office_core::office_answers;
 pub use opening::{DeskFault, open_office};
 pub use serving::serve;

@@ -1,6 +1,6 @@
 ghost use Rattle.std.specs.Prelude.{◌≡◌, ◌≤◌, None, IfOk, IfErr};
 ghost use Rattle.keeper_core.specs.Keeping.{Keeps, Gives, LoadCause};
-ghost use Rattle.office_step.specs.Valid.{first_fault};
+ghost use Rattle.office_core.specs.Below.office_step.Valid.{first_fault};
 ghost use Rattle.clerk_desk.specs.Opening.{TellsOnly, Opens, IsUnopened, BlamesKeeper};
 
 use keeper_core::{Keeper, Loaded};

@@ -1,15 +1,15 @@
 ghost use Rattle.std.specs.Prelude.{◌≡◌, true};
 ghost use Rattle.book_rows.specs.Book.{Book};
 ghost use Rattle.keeper_core.specs.Keeping.{Keeps};
-ghost use Rattle.office_step.specs.Step.{step, appends, is_fit_call};
+ghost use Rattle.office_core.specs.Below.office_step.Step.{step, appends, is_fit_call};
 ghost use Rattle.office_core.specs.Planned.{IsPlannedFor};
 ghost use Rattle.clerk_desk.specs.Serving.{Serves, ReplyCause, ToldBefore, ServeCrash};
 
 use days_core::Day;
 use keeper_core::{Committed, Keeper};
-use office_answers::Reply;
+use office_core::office_answers::Reply;
+use office_core::office_laws::batches_follow;
 use office_core::{Call, Judged, Judgment, Office, Step};
-use office_laws::batches_follow;
 use record_history::{Dates, Record};
 use std::alloc::Global;
 

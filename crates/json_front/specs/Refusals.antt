@@ -2,7 +2,7 @@
 use Rattle.std.specs.Prelude.{ℕ, List, codes}
 use Rattle.serde_json.specs.Data.{Data, string, object, Members, member, no_members, put}
 use Rattle.json_form.specs.Written.{number_data, day_data, month_data, or_null, refused}
-use Rattle.office_step.specs.{declared.refusal.Named.Named, declared.refusal.Refusal.Refusal, Numbers.number_of, Numbers.name_of}
+use Rattle.office_answers.specs.Below.office_step.{declared.refusal.Named.Named, declared.refusal.Refusal.Refusal, Numbers.number_of, Numbers.name_of}
 use Rattle.json_front.specs.Values.{candidate_data}
 
 -- what a number should have named

@@ -3,7 +3,7 @@ use Rattle.std.specs.Prelude.{ℕ, List, codes}
 use Rattle.serde_json.specs.Data.{Data, null, object, member, no_members}
 use Rattle.serde_json.specs.Written.{compact_text}
 use Rattle.json_form.specs.Written.{number_data, amount_data, day_data, month_data, bad_form_data}
-use Rattle.office_step.specs.declared.reply.{Done.Done, Made.Made}
+use Rattle.office_answers.specs.Below.office_step.declared.reply.{Done.Done, Made.Made}
 use Rattle.office_answers.specs.declared.reply.Reply.{Reply}
 use Rattle.json_front.specs.Refusals.{refusal_data, failure_data}
 

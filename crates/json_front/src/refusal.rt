@@ -1,11 +1,11 @@
 ghost use Rattle.std.specs.Prelude.{◌≡◌, IfOk};
 ghost use Rattle.serde_json.specs.View.{view, members_view};
-ghost use Rattle.office_step.specs.Numbers.{number_of, name_of};
+ghost use Rattle.office_answers.specs.Below.office_step.Numbers.{number_of, name_of};
 ghost use Rattle.json_front.specs.Refusals.{refusal_members, named_word, refusal_data, failure_data};
 
 use crate::values::next_value;
 use json_form::{Exact, Members, refused};
-use office_step::{Named, Refusal};
+use office_answers::office_step::{Named, Refusal};
 use plain_data::NoMemory;
 use std::alloc::Global;
 

@@ -5,7 +5,7 @@ ghost use Rattle.json_front.specs.Replies.{made_data, done_data, reply_data, rep
 use crate::refusal::{failure_value, refusal_value};
 use json_form::{Exact, Members, bad_form};
 use office_answers::Reply;
-use office_step::{Done, Made};
+use office_answers::office_step::{Done, Made};
 use plain_data::{NoMemory, Text};
 use std::alloc::Global;
 

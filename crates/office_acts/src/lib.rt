@@ -29,3 +29,6 @@ pub use admissions::targets;
 pub use closing::lines_of;
 pub use judging::judge;
 pub use next::next_for;
+pub use office_refusals;
+pub use office_register;
+pub use office_step;

@@ -1,3 +1,4 @@
+pub mod Below
 pub mod Answered
 pub mod Households
 pub mod Vouchers

@@ -8,8 +8,8 @@ use crate::households::{household_answer, record_answer};
 use crate::next::next_answer;
 use crate::vouchers::{paid_answer, voucher_answer};
 use crate::{Answer, Asked, Question};
-use office_register::Register;
-use office_step::Refusal;
+use office_acts::office_register::Register;
+use office_acts::office_step::Refusal;
 use std::alloc::Global;
 use voucher_core::Line;
 

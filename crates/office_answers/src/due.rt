@@ -8,9 +8,9 @@ ghost use Rattle.office_answers.specs.DueList.{is_assisted_on, horizon, due_of, 
 
 use crate::{Answer, Asked, DueDay};
 use days_core::Day;
-use office_refusals::annual_right;
-use office_register::Register;
-use office_step::Refusal;
+use office_acts::office_refusals::annual_right;
+use office_acts::office_register::Register;
+use office_acts::office_step::Refusal;
 use plain_data::{Listed, NoMemory};
 use record_history::{Dates, History, Kind, Record};
 use rent_table::Plan;

@@ -13,5 +13,7 @@ mod vouchers;
 
 pub use answer::{Admissions, Answer, Asked, DueDay, HouseholdSummary, Voucher};
 pub use answering::answer_to;
+pub use office_acts;
+pub use office_acts::{office_refusals, office_register, office_step};
 pub use question::Question;
 pub use reply::Reply;

@@ -5,8 +5,8 @@ ghost use Rattle.office_answers.specs.Answering.{next_answer};
 use crate::Answer;
 use days_core::Day;
 use office_acts::next_for;
-use office_register::Register;
-use office_step::{Named, Refusal};
+use office_acts::office_register::Register;
+use office_acts::office_step::{Named, Refusal};
 use rent_table::{Plan, Unit};
 use wait_list::Candidate;
 

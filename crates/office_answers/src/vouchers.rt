@@ -7,9 +7,9 @@ ghost use Rattle.office_answers.specs.Vouchers.{is_closed, closing_lines, own_li
 
 use crate::{Answer, Asked, Voucher};
 use days_core::Month;
-use office_refusals::no_household;
-use office_register::Register;
-use office_step::Closed;
+use office_acts::office_refusals::no_household;
+use office_acts::office_register::Register;
+use office_acts::office_step::Closed;
 use plain_data::{Listed, NoMemory};
 use rent_table::Plan;
 use std::alloc::Global;

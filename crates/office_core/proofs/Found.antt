@@ -4,8 +4,8 @@ use Rattle.std.specs.Prelude.{Bool, All, Contains, IfSome, find, filter}
 use Rattle.std.specs.Option.{option_map_or}
 use Rattle.std.proofs.lemmas.List.{Elements.Contains-get_or, Sums.length-filter, Sums.count_by-le-length}
 use Rattle.book_rows.specs.declared.rows.ActRow.{ActRow}
-use Rattle.office_step.specs.Step.{last_act_day}
-use Rattle.office_laws.proofs.Tried.{find_holds}
+use Rattle.office_answers.specs.Below.office_step.Step.{last_act_day}
+use Rattle.book_replay.proofs.Below.office_laws.Tried.{find_holds}
 
 -- what is true of all is true of what is found
 pub found_holds : {X : Type 0} (p : X → Bool) (P : X → Type 0) (xs : List X) (found : Option X) → found ≡ find p xs → All P xs → IfSome found P

@@ -5,10 +5,10 @@ use Rattle.std.proofs.lemmas.{List.get_or_push, List.length_push, List.Elements.
 use Rattle.record_history.specs.{declared.records.Record.Record, Held.IsWithin}
 use Rattle.book_rows.specs.{declared.rows.ActRow.ActRow, declared.rows.Batch.Batch, Fit.is_fit, Book.Book, Book.appended}
 use Rattle.row_index.specs.{declared.index.Entry.Entry, Index.index_of, Index.with_entry, Index.request_key, Laws.IndexGrows}
-use Rattle.book_search.specs.Requests.{act_key}
-use Rattle.office_step.specs.{declared.call.Capacity.Capacity, Known.Known, Known.known_of, After.known_after, Step.IsAppended, Step.IsReached, Step.reached_more}
-use Rattle.office_laws.specs.{Accepted.Accepted, Accepted.AppendedIsAccepted, Kept.BooksAreKept, Kept.IsOfOffice, After.KnownAfter}
-use Rattle.office_register.specs.Accepted.{IsAccepted}
+use Rattle.book_replay.specs.Below.book_search.Requests.{act_key}
+use Rattle.office_answers.specs.Below.office_step.{declared.call.Capacity.Capacity, Known.Known, Known.known_of, After.known_after, Step.IsAppended, Step.IsReached, Step.reached_more}
+use Rattle.book_replay.specs.Below.office_laws.{Accepted.Accepted, Accepted.AppendedIsAccepted, Kept.BooksAreKept, Kept.IsOfOffice, After.KnownAfter}
+use Rattle.office_answers.specs.Below.office_register.Accepted.{IsAccepted}
 use Rattle.office_core.specs.Planned.{Planned, IsPlannedFor}
 
 all_last : {X : Type 0} (P : X → Type 0) (xs : List X) (x : X) → All P (xs ++ x ∷ []) → P x

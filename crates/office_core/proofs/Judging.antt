@@ -3,13 +3,13 @@ use Rattle.std.proofs.Common.{subst, ◌≡◌, ◌∙◌, ℕ, ◌+◌, [], ◌
 use Rattle.std.specs.Prelude.{true, false, find, bytes_eq}
 use Rattle.record_history.specs.declared.records.Record.{Record}
 use Rattle.book_rows.specs.{declared.rows.ActRow.ActRow, declared.rows.Batch.Batch}
-use Rattle.command_forms.specs.Commands.{command_in, body_of}
-use Rattle.office_step.specs.{declared.call.Call.Call, declared.refusal.Refusal.Refusal, declared.reply.Done.Done, Acts.name_given, Known.Known, Known.known_of, Made.record_of, Made.lines_of, Reply.done_of, Against.refused_by}
-use Rattle.office_step.specs.Refusals.{first_of, is_request_of, repeated, request_reused, lines_full}
-use Rattle.office_step.specs.Step.{Outcome, last_act_day, day_after, again, refused, appends, unless_refused, step, act_day, is_fit_call, IsReached}
-use Rattle.office_step.proofs.Passed.{first_of-around}
-use Rattle.office_laws.specs.AtHand.{NewRequests, RepeatedRequests, ReusedRequests, NextDayStays}
-use Rattle.office_acts.specs.Judged.{judged_by}
+use Rattle.book_replay.specs.Below.command_forms.Commands.{command_in, body_of}
+use Rattle.office_answers.specs.Below.office_step.{declared.call.Call.Call, declared.refusal.Refusal.Refusal, declared.reply.Done.Done, Acts.name_given, Known.Known, Known.known_of, Made.record_of, Made.lines_of, Reply.done_of, Against.refused_by}
+use Rattle.office_answers.specs.Below.office_step.Refusals.{first_of, is_request_of, repeated, request_reused, lines_full}
+use Rattle.office_answers.specs.Below.office_step.Step.{Outcome, last_act_day, day_after, again, refused, appends, unless_refused, step, act_day, is_fit_call, IsReached}
+use Rattle.office_answers.proofs.Below.office_step.Passed.{first_of-around}
+use Rattle.book_replay.specs.Below.office_laws.AtHand.{NewRequests, RepeatedRequests, ReusedRequests, NextDayStays}
+use Rattle.office_answers.specs.Below.office_acts.Judged.{judged_by}
 use Rattle.office_core.specs.{Office.Holding, Planned.IsPlannedFor}
 
 -- ---- what was judged

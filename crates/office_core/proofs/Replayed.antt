@@ -2,8 +2,8 @@
 use Rattle.std.proofs.Common.{◌≡◌, ◌∙◌, ◌<◌, ◌+◌, ℕ, List, get_or, ap, length, Option, Some, None, sym, slice_get}
 use Rattle.std.proofs.lemmas.Option.{slice_get-get_or}
 use Rattle.book_rows.specs.{declared.rows.ActRow.ActRow, declared.rows.Batch.Batch, Book.Book}
-use Rattle.office_step.specs.declared.call.Capacity.{Capacity}
-use Rattle.office_step.specs.Valid.{replayed, difference, with_rows, first_fault}
+use Rattle.office_answers.specs.Below.office_step.declared.call.Capacity.{Capacity}
+use Rattle.office_answers.specs.Below.office_step.Valid.{replayed, difference, with_rows, first_fault}
 use Rattle.book_replay.specs.Replay.{IsReplayed, ReplayGoesOn, ReplayStops}
 use Rattle.office_core.specs.{declared.opening.OpenFault.OpenFault, Opening.IsNamed}
 

@@ -3,8 +3,8 @@ use Rattle.std.proofs.Common.{◌≡◌, ◌≤◌, ◌+◌, ℕ, length, Option
 use Rattle.std.specs.{Prelude.IfSome, Option.option_map_or}
 use Rattle.record_history.specs.{declared.records.Record.Record, Held.room_of}
 use Rattle.book_rows.specs.Book.{Book}
-use Rattle.office_step.specs.{declared.call.Capacity.Capacity, Known.Known, Known.known_of}
-use Rattle.office_laws.specs.{Accepted.AppendedIsAccepted, AtHand.NextRecords}
+use Rattle.office_answers.specs.Below.office_step.{declared.call.Capacity.Capacity, Known.Known, Known.known_of}
+use Rattle.book_replay.specs.Below.office_laws.{Accepted.AppendedIsAccepted, AtHand.NextRecords}
 use Rattle.office_core.specs.Planned.{Planned, IsPlannedFor}
 
 -- the record is of a household that is there, or of the next

@@ -1,3 +1,4 @@
+pub mod Below
 pub mod Planned
 pub mod Judged
 pub mod Office

@@ -3,8 +3,8 @@ use Rattle.std.specs.Prelude.{ℕ, ◌≡◌, ◌≤◌, List, All, IfSome}
 use Rattle.record_history.specs.Held.{IsWithin, room_of as record_room_of}
 use Rattle.book_rows.specs.Book.{Book, Room as TableRoom, HasRoom, book_of}
 use Rattle.row_index.specs.Index.{index_of}
-use Rattle.book_search.specs.Requests.{act_key}
-use Rattle.office_step.specs.{declared.call.Capacity.Capacity, Known.known_of, Step.IsReached}
+use Rattle.book_replay.specs.Below.book_search.Requests.{act_key}
+use Rattle.office_answers.specs.Below.office_step.{declared.call.Capacity.Capacity, Known.known_of, Step.IsReached}
 use Rattle.office_core.specs.{declared.office.Office.TheInside.Inside, Planned.Planned}
 
 -- for how many more rows there is room: in the tables, and beside them of acts, of records of each household, of requests

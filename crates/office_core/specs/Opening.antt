@@ -1,6 +1,6 @@
 -- Why a book isn't opened.
 use Rattle.std.specs.Prelude.{◌≡◌, ⊤, Option, Some}
-use Rattle.office_step.specs.declared.fault.Fault.{Fault}
+use Rattle.office_answers.specs.Below.office_step.declared.fault.Fault.{Fault}
 use Rattle.office_core.specs.declared.opening.OpenFault.{OpenFault}
 
 -- a bad book is named by that fault; want of memory says nothing

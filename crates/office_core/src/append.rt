@@ -1,11 +1,11 @@
 use crate::reply::{certified_by, closed};
 use crate::{Office, Step};
-use book_rows::{ActRow, Command};
-use book_search::act_key;
-use office_laws::{
+use book_replay::book_search::act_key;
+use book_replay::office_laws::{
     appended_is_accepted, books_are_kept, known_after_each_act, new_replies, within_room,
 };
-use office_step::{Application, Done, Made};
+use book_rows::{ActRow, Command};
+use office_answers::office_step::{Application, Done, Made};
 use plain_data::NoMemory;
 use record_history::{Dates, Record};
 use row_index::index_grows;
@@ -14,9 +14,9 @@ use voucher_core::Line;
 impl Office {
     ghost use Rattle.std.specs.Prelude.{◌≡◌, ◌≤◌, ◌+◌, length, OnOk, IfSome};
     ghost use Rattle.book_rows.specs.Book.{appended};
-    ghost use Rattle.office_step.specs.Known.{known_of};
-    ghost use Rattle.office_step.specs.Reply.{done_of};
-    ghost use Rattle.office_laws.specs.AtHand.{made_now};
+    ghost use Rattle.office_answers.specs.Below.office_step.Known.{known_of};
+    ghost use Rattle.office_answers.specs.Below.office_step.Reply.{done_of};
+    ghost use Rattle.book_replay.specs.Below.office_laws.AtHand.{made_now};
     ghost use Rattle.office_core.specs.Planned.{IsPlannedFor};
     ghost use Rattle.office_core.specs.Office.{HasRoomFor};
 

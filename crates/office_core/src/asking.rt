@@ -1,6 +1,6 @@
 use crate::{Answer, Asked, Office, Question};
+use book_replay::office_laws::within_room;
 use office_answers::answer_to;
-use office_laws::within_room;
 use std::alloc::Global;
 
 impl Office {

@@ -1,5 +1,5 @@
 use book_rows::{Batch, Command};
-use office_step::{Done, Refusal};
+use office_answers::office_step::{Done, Refusal};
 use plain_data::Text;
 use record_history::{Dates, Record};
 use std::marker::Model;

@@ -1,7 +1,7 @@
 use crate::Step;
 use book_rows::Tables;
-use office_register::Register;
-use office_step::{Capacity, Closed};
+use office_answers::office_register::Register;
+use office_answers::office_step::{Capacity, Closed};
 use plain_data::{NoMemory, Text};
 use record_history::{Dates, History, Record};
 use rent_table::{Plan, RentTable};
@@ -43,9 +43,9 @@ impl Model for Office {
 impl Office {
     ghost use Rattle.std.specs.Prelude.{◌≡◌, ◌≤◌, IfOk, option_copied};
     ghost use Rattle.book_rows.specs.Book.{book_of, empty_book};
-    ghost use Rattle.office_step.specs.Acts.{at_number};
-    ghost use Rattle.office_step.specs.Known.{known_of};
-    ghost use Rattle.office_step.specs.Step.{IsReached};
+    ghost use Rattle.office_answers.specs.Below.office_step.Acts.{at_number};
+    ghost use Rattle.office_answers.specs.Below.office_step.Known.{known_of};
+    ghost use Rattle.office_answers.specs.Below.office_step.Step.{IsReached};
 
     /// An office with an empty book.
     pub fn new(alloc: Global, capacity: Capacity) -> Result<Office, NoMemory>

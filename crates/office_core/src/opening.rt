@@ -1,7 +1,7 @@
 use crate::{Judged, Judgment, Office, Step};
 use book_replay::{Given, call_of, replay_is_kept};
 use book_rows::{ActRow, Batch, Table, Tables};
-use office_step::{Call, Capacity, Fault};
+use office_answers::office_step::{Call, Capacity, Fault};
 use plain_data::NoMemory;
 use record_history::{Dates, Record};
 use std::alloc::Global;
@@ -19,8 +19,8 @@ impl Office {
     ghost use Rattle.std.specs.Option.{option_map};
     ghost use Rattle.book_rows.specs.Book.{book_of, appended};
     ghost use Rattle.std.specs.Prelude.{true};
-    ghost use Rattle.office_step.specs.Step.{step as step_of, is_fit_call};
-    ghost use Rattle.office_step.specs.Valid.{rows_in, replayed, difference, first_fault, with_rows};
+    ghost use Rattle.office_answers.specs.Below.office_step.Step.{step as step_of, is_fit_call};
+    ghost use Rattle.office_answers.specs.Below.office_step.Valid.{rows_in, replayed, difference, first_fault, with_rows};
     ghost use Rattle.office_core.specs.Planned.{IsPlannedFor};
     ghost use Rattle.office_core.specs.Office.{HasRoomFor};
     ghost use Rattle.office_core.specs.Opening.{IsNamed};

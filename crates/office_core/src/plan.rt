@@ -1,15 +1,15 @@
 ghost use Rattle.std.specs.Prelude.{◌≡◌, Some, IfOk};
-ghost use Rattle.command_forms.specs.Commands.{command_in};
+ghost use Rattle.book_replay.specs.Below.command_forms.Commands.{command_in};
 
 use crate::{Judged, Judgment, Office, Step};
+use book_replay::book_search::act_of_request;
+use book_replay::command_text::{BodyFault, body_of_command, command_of_body};
+use book_replay::office_laws::{days_are_lived, requests_are_once, within_room};
 use book_rows::{ActRow, Batch, Command};
-use book_search::act_of_request;
-use command_text::{BodyFault, body_of_command, command_of_body};
 use days_core::Day;
-use office_acts::{judge, lines_of};
-use office_laws::{days_are_lived, requests_are_once, within_room};
-use office_refusals::{act_day, lines_full};
-use office_step::{Call, Refusal};
+use office_answers::office_acts::{judge, lines_of};
+use office_answers::office_refusals::{act_day, lines_full};
+use office_answers::office_step::{Call, Refusal};
 use plain_data::{Listed, NoMemory, Text};
 use record_history::{Dates, Record};
 use std::alloc::Global;
@@ -18,14 +18,14 @@ use voucher_core::Line;
 impl Office {
     ghost use Rattle.std.specs.Prelude.{◌≡◌, ◌≤◌, ◌<◌, ◌^◌, true, None, Some, length, find, IfOk, IfSome, OnOk};
     ghost use Rattle.record_history.specs.Held.{IsWithin};
-    ghost use Rattle.command_forms.specs.Commands.{body_of, command_in};
-    ghost use Rattle.office_step.specs.Known.{known_of};
-    ghost use Rattle.office_step.specs.Made.{record_of, lines_of};
-    ghost use Rattle.office_step.specs.Refusals.{is_request_of, lines_full};
-    ghost use Rattle.office_step.specs.Step.{step, last_act_day, act_day, is_fit_call};
-    ghost use Rattle.office_step.specs.Against.{refused_by};
-    ghost use Rattle.office_acts.specs.Judged.{judged_by, ClosesBy};
-    ghost use Rattle.office_register.specs.Registered.{HasDates};
+    ghost use Rattle.book_replay.specs.Below.command_forms.Commands.{body_of, command_in};
+    ghost use Rattle.office_answers.specs.Below.office_step.Known.{known_of};
+    ghost use Rattle.office_answers.specs.Below.office_step.Made.{record_of, lines_of};
+    ghost use Rattle.office_answers.specs.Below.office_step.Refusals.{is_request_of, lines_full};
+    ghost use Rattle.office_answers.specs.Below.office_step.Step.{step, last_act_day, act_day, is_fit_call};
+    ghost use Rattle.office_answers.specs.Below.office_step.Against.{refused_by};
+    ghost use Rattle.office_answers.specs.Below.office_acts.Judged.{judged_by, ClosesBy};
+    ghost use Rattle.office_answers.specs.Below.office_register.Registered.{HasDates};
     ghost use Rattle.office_core.specs.Judged.{Judges, PlansFor};
 
     /// What the office does with a call in a session, while the clock shows the day. Nothing is kept of it yet.

@@ -1,18 +1,18 @@
 ghost use Rattle.std.specs.Prelude.{◌≡◌, ◌≤◌, length, nat_le, count_by, option_copied, IfSome};
 ghost use Rattle.std.specs.Option.{option_map_or};
 ghost use Rattle.record_history.specs.Held.{IsWithin};
-ghost use Rattle.office_step.specs.Reply as reply;
-ghost use Rattle.office_step.specs.declared.reply.Made.TheVariants as nothing;
+ghost use Rattle.office_answers.specs.Below.office_step.Reply as reply;
+ghost use Rattle.office_answers.specs.Below.office_step.declared.reply.Made.TheVariants as nothing;
 
 use crate::{Judged, Judgment, Office};
-use book_rows::{ActRow, Command, UnitAct};
-use book_search::{lines_of_act, record_of_act};
-use days_core::Month;
-use office_laws::{
+use book_replay::book_search::{lines_of_act, record_of_act};
+use book_replay::office_laws::{
     applicant_replies, books_are_kept, requests_are_once, unit_replies, within_room,
 };
-use office_refusals::certified;
-use office_step::{Application, Call, Done, Made, Refusal};
+use book_rows::{ActRow, Command, UnitAct};
+use days_core::Month;
+use office_answers::office_refusals::certified;
+use office_answers::office_step::{Application, Call, Done, Made, Refusal};
 use plain_data::Text;
 use record_history::{Dates, Record};
 use voucher_core::{Line, total};
@@ -20,12 +20,12 @@ use voucher_core::{Line, total};
 impl Office {
     ghost use Rattle.std.specs.Prelude.{◌≡◌, ◌==◌, ◌≤◌, ℕ, Some, nat_le, length, filter, find, option_copied, Contains, IfOk, IfSome};
     ghost use Rattle.book_rows.specs.declared.command.Command.TheVariants as command;
-    ghost use Rattle.command_forms.specs.Commands.{body_of, command_in};
+    ghost use Rattle.book_replay.specs.Below.command_forms.Commands.{body_of, command_in};
     ghost use Rattle.record_history.specs.Held.{IsWithin};
-    ghost use Rattle.office_step.specs.Acts.{applications_of, units_of};
-    ghost use Rattle.office_step.specs.Refusals.{is_request_of};
-    ghost use Rattle.office_step.specs.Reply.{acts_up_to, done_of, made_by};
-    ghost use Rattle.office_step.specs.Step.{step};
+    ghost use Rattle.office_answers.specs.Below.office_step.Acts.{applications_of, units_of};
+    ghost use Rattle.office_answers.specs.Below.office_step.Refusals.{is_request_of};
+    ghost use Rattle.office_answers.specs.Below.office_step.Reply.{acts_up_to, done_of, made_by};
+    ghost use Rattle.office_answers.specs.Below.office_step.Step.{step};
     ghost use Rattle.office_core.specs.Judged.{Judges, PlansFor};
 
     /// The answer to a call whose clerk and request an act has.

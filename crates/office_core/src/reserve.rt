@@ -2,8 +2,8 @@ ghost use Rattle.std.specs.Prelude.{◌≡◌};
 ghost use Rattle.std.specs.Option.{option_map_or};
 
 use crate::{Office, Step};
+use book_replay::office_laws::{appended_is_accepted, next_records};
 use book_rows::Batch;
-use office_laws::{appended_is_accepted, next_records};
 use plain_data::NoMemory;
 use record_history::{Dates, Record};
 
@@ -11,7 +11,7 @@ impl Office {
     ghost use Rattle.std.specs.Prelude.{◌≡◌, ◌≤◌, ◌+◌, length, OnOk, IfSome};
     ghost use Rattle.record_history.specs.Held.{room_of};
     ghost use Rattle.book_rows.specs.Book.{HasRoom};
-    ghost use Rattle.office_step.specs.Known.{known_of};
+    ghost use Rattle.office_answers.specs.Below.office_step.Known.{known_of};
     ghost use Rattle.office_core.specs.Planned.{IsPlannedFor};
     ghost use Rattle.office_core.specs.Office.{HasRoomFor};
 

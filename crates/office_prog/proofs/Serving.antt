@@ -3,8 +3,8 @@ use Rattle.std.proofs.Common.{◌≡◌, ℕ, None, List, subst}
 use Rattle.std.specs.Prelude.{Option}
 use Rattle.book_rows.specs.Book.{Book}
 use Rattle.keeper_core.specs.Keeping.{BadRow, Keeps}
-use Rattle.office_step.specs.{declared.call.Capacity.Capacity, Step.IsReached, Valid.first_fault}
-use Rattle.clerk_desk.specs.{Opening.TellsOnly, Serving.ToldBefore}
+use Rattle.batch_command.specs.Below.office_step.{declared.call.Capacity.Capacity, Step.IsReached, Valid.first_fault}
+use Rattle.batch_command.specs.Below.clerk_desk.{Opening.TellsOnly, Serving.ToldBefore}
 use Rattle.batch_command.specs.{declared.ending.Ending.Ending, Batch.Counts, Batch.Ran, Batch.Blames}
 use Rattle.office_prog.specs.Batch.{Serves, largest, status_of}
 

@@ -4,8 +4,8 @@ use Rattle.std.specs.Io.KnownBytes.{Keeps as KeepsBytes}
 use Rattle.office_io.specs.Outside.{Faulted}
 use Rattle.book_rows.specs.{declared.rows.Table.Table, Book.Book}
 use Rattle.keeper_core.specs.Keeping.{BadRow, Keeps}
-use Rattle.office_step.specs.{declared.call.Capacity.Capacity, declared.fault.Fault.Fault, Step.IsReached, Valid.first_fault}
-use Rattle.clerk_desk.specs.{declared.opening.DeskFault.DeskFault, Opening.IsUnopened}
+use Rattle.batch_command.specs.Below.office_step.{declared.call.Capacity.Capacity, declared.fault.Fault.Fault, Step.IsReached, Valid.first_fault}
+use Rattle.batch_command.specs.Below.clerk_desk.{declared.opening.DeskFault.DeskFault, Opening.IsUnopened}
 use Rattle.batch_command.specs.{declared.ending.Ending.Ending, Batch.Counts, Batch.Ran, Batch.Blames}
 use Rattle.office_prog.specs.Answer.{Answer, Ends}
 

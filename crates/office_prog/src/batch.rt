@@ -3,11 +3,11 @@ ghost use Rattle.office_prog.specs.Answer.{Ends};
 ghost use Rattle.office_prog.specs.Batch.{Batches, Door, status_of, bad_book, table_name};
 
 use crate::ending::finish;
+use batch_command::clerk_desk::{DeskFault, open_office};
+use batch_command::office_core::{Capacity, Fault};
 use batch_command::{Ending, answer_lines};
 use book_rows::Table;
-use clerk_desk::{DeskFault, open_office};
 use keeper_core::Keeper;
-use office_core::{Capacity, Fault};
 use office_io::{Clock, Sink, Source};
 use std::alloc::{AllocError, Global};
 

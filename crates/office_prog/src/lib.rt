@@ -6,4 +6,5 @@ mod ending;
 mod program;
 mod words;
 
+pub use batch_command::{clerk_desk, office_core};
 pub use program::run;

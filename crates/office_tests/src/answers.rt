@@ -1,8 +1,8 @@
 use crate::telling::{Known, told};
-use office_answers::{
+use office_core::office_answers::{
     Admissions, Answer, Asked, DueDay, HouseholdSummary, Question, Voucher, answer_to,
 };
-use office_step::{Named, Refusal};
+use office_core::office_step::{Named, Refusal};
 use plain_data::Listed;
 use record_history::{Kind, Record};
 use sample_office::{

@@ -1,5 +1,5 @@
 ghost use Rattle.std.specs.Prelude.{◌≡◌, true, IfOk};
-ghost use Rattle.office_step.specs.Step.{is_fit_call};
+ghost use Rattle.office_core.specs.Below.office_step.Step.{is_fit_call};
 ghost use Rattle.office_core.specs.Judged.{PlansFor};
 ghost use Rattle.office_core.specs.Office.{HasRoomFor};
 ghost use Rattle.office_core.specs.Planned.{IsPlannedFor};
@@ -7,8 +7,8 @@ ghost use Rattle.office_core.specs.Planned.{IsPlannedFor};
 use crate::telling::command;
 use book_rows::{Table, Tables};
 use days_core::Day;
+use office_core::office_step::{Call, Capacity, Done, Fault, Made, Refusal};
 use office_core::{Judged, Judgment, Office, OpenFault, Step};
-use office_step::{Call, Capacity, Done, Fault, Made, Refusal};
 use plain_data::NoMemory;
 use sample_office::{CLOSE_JANUARY, OTHER_UNIT, PLAN, RENTS, START, UNIT, day, month};
 use std::alloc::Global;

@@ -1,6 +1,6 @@
 use crate::telling::told;
-use office_register::Register;
-use office_step::Closed;
+use office_core::office_register::Register;
+use office_core::office_step::Closed;
 use rent_table::RentTable;
 use sample_office::{RENTS, UNIT, day, month};
 use std::alloc::Global;

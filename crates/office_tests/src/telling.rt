@@ -1,17 +1,17 @@
 ghost use Rattle.std.specs.Prelude.{◌≡◌, ◌≤◌, ◌<◌, ◌+◌, ◌^◌, length, true, IfOk, IfSome};
 ghost use Rattle.record_history.specs.Held.{IsWithin, room_of};
 ghost use Rattle.book_rows.specs.Fit.{is_fit};
-ghost use Rattle.office_step.specs.Acts.{name_given};
-ghost use Rattle.office_register.specs.Accepted.{IsAccepted};
-ghost use Rattle.office_register.specs.Registered.{HasDates};
-ghost use Rattle.office_acts.specs.Judged.{IsPlaced, ClosesBy};
+ghost use Rattle.office_core.specs.Below.office_step.Acts.{name_given};
+ghost use Rattle.office_core.specs.Below.office_register.Accepted.{IsAccepted};
+ghost use Rattle.office_core.specs.Below.office_register.Registered.{HasDates};
+ghost use Rattle.office_core.specs.Below.office_acts.Judged.{IsPlaced, ClosesBy};
 
 use book_rows::Command;
-use command_text::{BodyFault, command_of_body};
-use office_acts::{judge, lines_of};
-use office_refusals::certified;
-use office_register::Register;
-use office_step::{Made, Refusal};
+use office_core::command_text::{BodyFault, command_of_body};
+use office_core::office_acts::{judge, lines_of};
+use office_core::office_refusals::certified;
+use office_core::office_register::Register;
+use office_core::office_step::{Made, Refusal};
 use plain_data::{NoMemory, Text};
 use record_history::{Dates, Record};
 use sample_office::{body, office_day};

@@ -1,4 +1,4 @@
-use Rattle.office_step.specs.Refusals.{is_request_of}
+use Rattle.office_answers.specs.Below.office_step.Refusals.{is_request_of}
 use Rattle.office_core.proofs.{Found.found_there, Judging.again_in, Judging.reused_in}
 use Rattle.office_core.proofs.office.Office.answered.Goals as goal
 

@@ -2,7 +2,7 @@ use Rattle.std.proofs.Common.{sym, subst}
 use Rattle.std.specs.Prelude.{All}
 use Rattle.record_history.specs.Held.{IsWithin}
 use Rattle.book_rows.specs.Book.{Book, book_of}
-use Rattle.office_step.specs.Step.{reached_more}
+use Rattle.office_answers.specs.Below.office_step.Step.{reached_more}
 use Rattle.office_core.proofs.Grown.{accepted_next, known_next, records_next, indexed_next}
 use Rattle.office_core.proofs.office.Office.append.Goals as goal
 

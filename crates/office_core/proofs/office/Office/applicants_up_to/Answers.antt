@@ -1,6 +1,6 @@
 use Rattle.std.proofs.Common.{arith, nat_le}
 use Rattle.std.proofs.lemmas.List.Sums.{length-filter, count_by-le-length}
-use Rattle.office_step.specs.{declared.known.Application.Application}
+use Rattle.office_answers.specs.Below.office_step.{declared.known.Application.Application}
 use Rattle.book_rows.specs.Book.{book_of}
 use Rattle.office_core.proofs.office.Office.applicants_up_to.Goals as goal
 

@@ -1,7 +1,7 @@
 use Rattle.std.proofs.Common.{◌≤◌, ◌++◌, arith, ap, length, subst, length-append}
 use Rattle.voucher_core.specs.declared.line.Line.{Line}
 use Rattle.book_rows.specs.Book.{appended}
-use Rattle.office_step.specs.Step.{IsReached, reached_more}
+use Rattle.office_answers.specs.Below.office_step.Step.{IsReached, reached_more}
 use Rattle.office_core.specs.{Office.Holding, Planned.Planned}
 use Rattle.office_core.proofs.office.Office.lines_planned.Goals as goal
 

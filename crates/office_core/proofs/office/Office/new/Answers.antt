@@ -4,8 +4,8 @@ use Rattle.std.proofs.lemmas.List.Elements.{All-nil}
 use Rattle.record_history.specs.Held.{IsWithin}
 use Rattle.book_rows.specs.Book.{Book}
 use Rattle.row_index.specs.Index.{index_of}
-use Rattle.book_search.specs.Requests.{act_key}
-use Rattle.office_step.specs.{Known.known_of, Step.reached_empty}
+use Rattle.book_replay.specs.Below.book_search.Requests.{act_key}
+use Rattle.office_answers.specs.Below.office_step.{Known.known_of, Step.reached_empty}
 use Rattle.office_core.proofs.office.Office.new.Goals as goal
 
 pub invariant_of-result : goal.invariant_of-result

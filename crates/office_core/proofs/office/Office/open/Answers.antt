@@ -1,6 +1,6 @@
 use Rattle.std.proofs.Common.{◌∙◌, refl, rules}
 use Rattle.book_rows.specs.Book.{book_of}
-use Rattle.office_step.specs.Valid.{replayed}
+use Rattle.office_answers.specs.Below.office_step.Valid.{replayed}
 use Rattle.office_core.proofs.Replayed.{there, goes_on, stops}
 use Rattle.office_core.proofs.office.Office.open.Goals as goal
 

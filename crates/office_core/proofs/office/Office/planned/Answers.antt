@@ -1,5 +1,5 @@
 use Rattle.std.proofs.Common.{◌∙◌, ap, sym, refl}
-use Rattle.office_step.specs.Step.{appends}
+use Rattle.office_answers.specs.Below.office_step.Step.{appends}
 use Rattle.office_core.proofs.Judging.{new_call, judged_err, judged_ok, refused_for, full_for, appends_for, planned_for}
 use Rattle.office_core.proofs.office.Office.planned.Goals as goal
 

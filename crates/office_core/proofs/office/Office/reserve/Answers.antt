@@ -1,4 +1,4 @@
-use Rattle.office_step.specs.Known.{known_of}
+use Rattle.office_answers.specs.Below.office_step.Known.{known_of}
 use Rattle.office_core.proofs.Room.{placed, household_next, room_there}
 use Rattle.office_core.proofs.office.Office.reserve.Goals as goal
 
