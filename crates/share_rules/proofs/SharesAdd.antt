@@ -3,7 +3,8 @@ use Rattle.std.proofs.Common.{◌≡◌, ℕ, zero, suc, ◌+◌, ◌-◌, ◌*�
 use Rattle.std.specs.{Prelude.sum_by, List.range_with_len}
 use Rattle.std.proofs.lemmas.{Nat.div-mul-add, List.Sums.sum_by-cons}
 use lib.Ieee.Nearest.{div_mono}
-use Rattle.share_rules.specs.Shares.{share_to, day_share, run_share}
+use Rattle.days_core.specs.Rounding.{round_half_up}
+use Rattle.share_rules.specs.{Shares.share_to, Shares.day_share, Shares.run_share, Law.IsNearest, Law.SharesTotalTheirPart, Law.NoShareIsAboveTheAmount}
 
 -- a part that isn't smaller, of the same whole, isn't rounded to less
 less_of_less : (a b days : ℕ) → 0 < days → a ≤ b → (2 * a + days) / (2 * days) ≤ (2 * b + days) / (2 * days)
@@ -59,3 +60,32 @@ run_is amount first last days some low order =
 -- the days up to one take no more than the amount
 pub at_most : (amount last days : ℕ) → 0 < days → last ≤ days → share_to amount last days ≤ amount
 at_most amount last days some within = subst (λ (all : ℕ). share_to amount last days ≤ all) (ends amount days some) (grows amount last days days some within)
+
+-- The law ----
+
+-- no day takes nothing
+begins : (amount days : ℕ) → 0 < days → share_to amount 0 days ≡ 0
+begins amount days some =
+    let none : 2 * (amount * 0) ≡ 0 * (2 * days) = omega arith in
+    let half : days < 2 * days = omega arith in
+    ap (λ (n : ℕ). (n + days) / (2 * days)) none ∙ div-mul-add 0 (2 * days) days half
+
+from_nothing : (a b c : ℕ) → a ≡ 0 → a + b ≡ c → b ≡ c
+from_nothing a b c none sum = omega arith
+
+-- so the shares of the days up to one are what these days take
+up_to : (amount last days : ℕ) → 0 < days → sum_by (λ day. day_share amount day days) (range_with_len 1 last) ≡ share_to amount last days
+up_to amount last days some =
+    let end : 0 + last ≡ last = omega arith in
+    let grown = λ (day : ℕ). grows amount day (day + 1) days some (omega arith) in
+    from_nothing (share_to amount 0 days) _ (share_to amount last days) (begins amount days some)
+    (steps (λ (day : ℕ). share_to amount day days) 0 last grown ∙ ap (λ (day : ℕ). share_to amount day days) end)
+
+nearest : (numerator denominator : ℕ) → 0 < denominator → IsNearest (round_half_up numerator denominator) numerator denominator
+nearest numerator denominator some = record { not_above = omega arith; not_below = omega arith }
+
+pub total_their_part : SharesTotalTheirPart
+total_their_part amount last days some within = rw (up_to amount last days some) (nearest (amount * last) days some)
+
+pub none_above : NoShareIsAboveTheAmount
+none_above amount day days some within = let up_to = at_most amount day days some within in omega arith
