@@ -12,7 +12,7 @@ mod runs;
 mod stretch;
 
 pub use history::History;
-pub use laws::in_force_is_latest;
+pub use laws::{in_force_is_latest, one_record_is_in_force};
 pub use live::is_live;
 pub use order::{comes_before, later};
 pub use records::{Dates, Kind, Record};

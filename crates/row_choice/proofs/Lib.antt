@@ -1,2 +1,3 @@
 pub mod LatestLemmas
+pub mod StandsLemmas
 pub mod FirstDayLemmas
