@@ -3,4 +3,5 @@ pub mod LeastLemmas
 pub mod MonthLemmas
 pub mod RightfulLemmas
 pub mod StaleLemmas
+pub mod OtherRents
 pub mod ReviewLemmas

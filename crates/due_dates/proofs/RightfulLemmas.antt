@@ -1,6 +1,6 @@
 -- What the rightful days come to.
-use Rattle.due_dates.proofs.Words.{◌≡◌, ◌∙◌, ℕ, ◌+◌, ◌≤◌, sym, ap, arith, inl, inr, cases_lt, both_ways, leb-true, leb-false, month_of, month_place, first_of, days_in_bounds, first_of_mono, month_of_is, first_month_that, next_month, begins_from, first_start_from, has_anniversary_after, next_anniversary, BeginsMonth, IsMonthAfter, IsFirstStart, IsNextAnniversary}
-use Rattle.due_dates.proofs.MonthLemmas.{first_of_above, month_of_by, first_month_that-is, first_start, anniversary, place_reached, reached, wait_of}
+use Rattle.due_dates.proofs.Words.{◌≡◌, ◌∙◌, ℕ, ◌+◌, ◌≤◌, sym, ap, arith, inl, inr, cases_lt, both_ways, leb-true, leb-false, month_of, month_in_year, month_place, first_of, days_in_bounds, first_of_mono, month_of_is, first_month_that, next_month, begins_from, first_start_from, has_anniversary_after, next_anniversary, BeginsMonth, IsMonthAfter, IsFirstStart, IsNextAnniversary}
+use Rattle.due_dates.proofs.MonthLemmas.{first_of_above, first_of_below, month_of_by, first_month_that-is, first_start, anniversary, place_reached, reached, wait_of}
 
 -- a month begins on its first day
 month_of-first_of : (month : ℕ) → month ≤ 3839 → month_of (first_of month) ≡ month
@@ -52,3 +52,12 @@ is_next_anniversary opening after h =
             | inr more ↦ omega (arith, is_one.begins, first_of_mono month (month_of other) more)
           ];
     })
+
+-- where the last certification began in the month of the anniversary, the next anniversary is a year later
+pub a_year_later : (opening after day : ℕ) → after ≤ 80353 → IsNextAnniversary opening after day → month_in_year after ≡ month_in_year opening →
+    month_of day ≡ month_of after + 12
+a_year_later opening after day h next same =
+    elim (cases_lt (month_of after) (month_of day)) [
+      | inl later ↦ omega (arith, later, next.within_year, next.anniversary.same_month, same)
+      | inr earlier ↦ absurd (omega (arith, next.later, next.anniversary.begins, first_of_below after (month_of day) (omega arith) earlier))
+    ]

@@ -1,6 +1,8 @@
 -- What it comes to that a day is the rightful one.
-use Rattle.std.specs.Prelude.{ℕ, ◌+◌, ◌<◌, ◌≤◌, ◌≡◌}
-use Rattle.days_core.specs.Calendar.{month_of, month_in_year, first_of}
+use Rattle.std.specs.Prelude.{ℕ, ◌+◌, ◌<◌, ◌≤◌, ◌≡◌, ◌≢◌, List, Some}
+use Rattle.days_core.specs.{Calendar.month_of, Calendar.month_in_year, Calendar.first_of, declared.rents.Rents.Rents}
+use Rattle.record_history.specs.{declared.records.Kind.Kind, declared.records.Record.Record, Records.in_force}
+use Rattle.rent_table.specs.{declared.rows.Unit.Unit as UnitRow, declared.rows.RentRow.RentRow, Table.unit_at, Table.rents_on}
 
 -- the day is the first of a month of the calendar
 abbrev pub BeginsMonth : ℕ → Type 0
@@ -28,3 +30,16 @@ pub record IsNextAnniversary (opening after day : ℕ) : Type 0 where
   pub later : after < day
   pub within_year : month_of day ≤ month_of after + 12
   pub none_between : (other : ℕ) → IsAnniversary opening other → after < other → day ≤ other
+
+-- On the day a record is in force that is neither a move-out nor a termination, its unit is in the table and its group has
+-- rents then, and these are others than those of the record.
+pub record IsByOtherRents (records : List Record) (units : List UnitRow) (rows : List RentRow) (day : ℕ) : Type 0 where
+  pub certified : Record
+  pub unit : UnitRow
+  pub rents : Rents
+  pub stands : in_force records day ≡ Some certified
+  pub no_move_out : certified.kind ≢ Kind.MO
+  pub no_termination : certified.kind ≢ Kind.TM
+  pub of_unit : unit_at units certified.unit ≡ Some unit
+  pub on_day : rents_on rows unit.group day ≡ Some rents
+  pub others : certified.rents ≢ rents
