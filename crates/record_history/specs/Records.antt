@@ -1,6 +1,6 @@
--- Which of a household's records count, as of an act and on a day.
+-- Which of a household's records count, as of an act and on a day: own rules, where no other source is named.
 --
--- Each definition but the last takes the records that are known, all of one household.
+-- Each definition takes records of one household, and where it takes no act, those that are known.
 use Rattle.std.specs.Prelude.{ℕ, ◌&&◌, ◌==◌, not, nat_le, max, Bool, true, false, List, filter, fold, Option}
 use Rattle.std.specs.List.{list_any}
 use Rattle.record_history.specs.declared.records.{Kind.Kind, Record.Record}
@@ -39,7 +39,7 @@ later best r = later_by comes_before best r
 abbrev pub latest : List Record → Option Record
 latest records = latest_by comes_before records
 
--- the record by which the household is certified on the day (an outline of Handbook 4350.3, chapter 7; that a greater
+-- the record by which the household is certified on the day (Handbook 4350.3 REV-1, chapter 7, in outline; that a greater
 -- number goes before on the same day is an own rule)
 abbrev pub in_force : List Record → ℕ → Option Record
 in_force records day = latest (filter (λ r. nat_le r.from day) (live_records records))

@@ -1,4 +1,4 @@
--- What it comes to, in plain facts, that rents and income limits stand on a day.
+-- What it comes to, in plain facts, that rents and income limits stand on a day (own rules).
 use Rattle.std.specs.Prelude.{◌≡◌, ◌≤◌, ℕ, List, Contains}
 use Rattle.rent_table.specs.declared.rows.{RentRow.RentRow, LimitRow.LimitRow}
 

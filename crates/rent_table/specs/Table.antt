@@ -71,10 +71,11 @@ limits_begin_by day row = nat_le row.from day
 abbrev pub rent_row_on : List RentRow → ℕ → ℕ → Option RentRow
 rent_row_on rows group day = latest rents_before (filter (rents_begin_by group day) rows)
 
--- the rents of a group on a day
+-- the rents of a group on a day: those of the row that begins last, and of several on one day of that of the latest act
+-- (own rule)
 abbrev pub rents_on : List RentRow → ℕ → ℕ → Option Rents
 rents_on rows group day = option_map (λ row. row.rents) (rent_row_on rows group day)
 
--- the income limits on a day
+-- the income limits on a day, found in the same way (own rule)
 abbrev pub limits_on : List LimitRow → ℕ → Option LimitRow
 limits_on rows day = latest limits_before (filter (limits_begin_by day) rows)
