@@ -1,3 +1,4 @@
 pub mod Calendar
 pub mod DayText
+pub mod OfficeDays
 pub mod Rounding

@@ -1,5 +1,5 @@
 -- Which month is the first that passes, and the months of the days that an office meets.
-use Rattle.due_dates.proofs.Words.{◌≡◌, ◌≢◌, ℕ, zero, suc, ◌+◌, ◌-◌, ◌*◌, ◌%◌, ◌<◌, ◌≤◌, Bool, true, false, Option, Some, ap, arith, inl, inr, unwrap_or, cases_lt, cases_eq, le-leb, lt-leb, lt-ltb, le-ltb, eq-eqb, ne_eqb, and_right, month_of, month_in_year, month_place, first_of, last_month, days_in_bounds, first_of-suc, first_of_mono, first_of-end, month_of_fits, IsLeastOne, first_month_that, begins_from, has_anniversary_after}
+use Rattle.due_dates.proofs.Words.{◌≡◌, ◌≢◌, ℕ, zero, suc, ◌+◌, ◌-◌, ◌*◌, ◌%◌, ◌<◌, ◌≤◌, Bool, true, false, Option, Some, ap, arith, inl, inr, unwrap_or, cases_lt, cases_eq, le-leb, lt-leb, lt-ltb, le-ltb, eq-eqb, ne_eqb, and_right, month_of, month_in_year, month_place, first_of, last_month, last_office_day, days_in_bounds, first_of-suc, first_of_mono, first_of-end, month_of_fits, IsLeastOne, first_month_that, begins_from, has_anniversary_after}
 use Rattle.due_dates.proofs.LeastLemmas.{least_that-is}
 
 -- so many months have at most 31 days each
@@ -20,7 +20,7 @@ first_of_below day month in_range earlier =
     omega (arith, fits.begun, first_of_mono month (month_of day) earlier)
 
 -- a day up to 2100-01-30 leaves more than a year of the calendar behind it
-pub month_of_by : (day : ℕ) → day ≤ 80383 → month_of day ≤ 3827
+pub month_of_by : (day : ℕ) → day ≤ last_office_day + 30 → month_of day ≤ 3827
 month_of_by day h =
     elim (cases_lt 3827 (month_of day)) [
       | inl late ↦ absurd (omega (arith, first_of_within 3828 12, first_of-end, first_of_below day 3828 (omega arith) (omega arith)))
@@ -32,7 +32,7 @@ pub first_month_that-is : (passes : ℕ → Bool) (month : ℕ) → IsLeastOne p
 first_month_that-is passes month is = ap (λ (o : Option ℕ). unwrap_or o (last_month + 1)) (least_that-is passes 0 last_month (Some month) is)
 
 -- a first of the month begins the first month from it on
-pub first_start-own : (day : ℕ) → day ≤ 80383 → first_of (month_of day) ≡ day → IsLeastOne (begins_from day) 0 last_month (month_of day)
+pub first_start-own : (day : ℕ) → day ≤ last_office_day + 30 → first_of (month_of day) ≡ day → IsLeastOne (begins_from day) 0 last_month (month_of day)
 first_start-own day h is =
     let in_calendar = month_of_by day h in
     record {
@@ -43,7 +43,7 @@ first_start-own day h is =
     }
 
 -- and from another day on that is the next month
-pub first_start-next : (day : ℕ) → day ≤ 80383 → first_of (month_of day) ≢ day → IsLeastOne (begins_from day) 0 last_month (month_of day + 1)
+pub first_start-next : (day : ℕ) → day ≤ last_office_day + 30 → first_of (month_of day) ≢ day → IsLeastOne (begins_from day) 0 last_month (month_of day + 1)
 first_start-next day h other =
     let in_calendar = month_of_by day h in
     let begun = first_of_below day (month_of day) (omega arith) (omega arith) in
@@ -55,7 +55,7 @@ first_start-next day h other =
     }
 
 -- so there is one
-pub first_start : (day : ℕ) → day ≤ 80383 → IsLeastOne (begins_from day) 0 last_month (first_month_that (begins_from day))
+pub first_start : (day : ℕ) → day ≤ last_office_day + 30 → IsLeastOne (begins_from day) 0 last_month (first_month_that (begins_from day))
 first_start day h =
     elim (cases_eq (first_of (month_of day)) day) [
       | inl own ↦ let is = first_start-own day h own in rw (first_month_that-is (begins_from day) (month_of day) is) is
@@ -85,7 +85,7 @@ abbrev pub wait_of : ℕ → ℕ → ℕ
 wait_of opening after = (month_of opening % 12 + 12 - (month_of after + 1) % 12) % 12
 
 -- that month is the first with an anniversary later than the day
-pub anniversary : (opening after : ℕ) → after ≤ 80353 → IsLeastOne (has_anniversary_after opening after) 0 last_month (month_of after + 1 + wait_of opening after)
+pub anniversary : (opening after : ℕ) → after ≤ last_office_day → IsLeastOne (has_anniversary_after opening after) 0 last_month (month_of after + 1 + wait_of opening after)
 anniversary opening after h =
     let next = month_of after + 1 in
     let in_calendar = month_of_by after (omega arith) in

@@ -1,5 +1,5 @@
 -- What the rightful days come to.
-use Rattle.due_dates.proofs.Words.{◌≡◌, ◌∙◌, ℕ, ◌+◌, ◌≤◌, sym, ap, arith, inl, inr, cases_lt, both_ways, leb-true, leb-false, month_of, month_in_year, month_place, first_of, days_in_bounds, first_of_mono, month_of_is, first_month_that, next_month, begins_from, first_start_from, has_anniversary_after, next_anniversary, BeginsMonth, IsMonthAfter, IsFirstStart, IsNextAnniversary}
+use Rattle.due_dates.proofs.Words.{◌≡◌, ◌∙◌, ℕ, ◌+◌, ◌≤◌, sym, ap, arith, inl, inr, cases_lt, both_ways, leb-true, leb-false, month_of, month_in_year, month_place, first_of, last_office_day, days_in_bounds, first_of_mono, month_of_is, first_month_that, next_month, begins_from, first_start_from, has_anniversary_after, next_anniversary, BeginsMonth, IsMonthAfter, IsFirstStart, IsNextAnniversary}
 use Rattle.due_dates.proofs.MonthLemmas.{first_of_above, first_of_below, month_of_by, first_month_that-is, first_start, anniversary, place_reached, reached, wait_of}
 
 -- a month begins on its first day
@@ -11,7 +11,7 @@ month_of-first_of month h =
 begins : (month : ℕ) → month ≤ 3839 → BeginsMonth (first_of month)
 begins month h = ap first_of (sym (month_of-first_of month h))
 
-pub is_month_after : (day : ℕ) → day ≤ 80353 → IsMonthAfter day (next_month day)
+pub is_month_after : (day : ℕ) → day ≤ last_office_day → IsMonthAfter day (next_month day)
 is_month_after day h =
     let in_calendar = month_of_by day (omega arith) in
     record {
@@ -19,7 +19,7 @@ is_month_after day h =
       next = month_of-first_of (month_of day + 1) (omega arith);
     }
 
-pub is_first_start : (day : ℕ) → day ≤ 80383 → IsFirstStart day (first_start_from day)
+pub is_first_start : (day : ℕ) → day ≤ last_office_day + 30 → IsFirstStart day (first_start_from day)
 is_first_start day h =
     let least = first_start day h in
     let month = first_month_that (begins_from day) in
@@ -33,7 +33,7 @@ is_first_start day h =
           ];
     }
 
-pub is_next_anniversary : (opening after : ℕ) → after ≤ 80353 → IsNextAnniversary opening after (next_anniversary opening after)
+pub is_next_anniversary : (opening after : ℕ) → after ≤ last_office_day → IsNextAnniversary opening after (next_anniversary opening after)
 is_next_anniversary opening after h =
     let least = anniversary opening after h in
     let month = month_of after + 1 + wait_of opening after in
@@ -54,7 +54,7 @@ is_next_anniversary opening after h =
     })
 
 -- where the last certification began in the month of the anniversary, the next anniversary is a year later
-pub a_year_later : (opening after day : ℕ) → after ≤ 80353 → IsNextAnniversary opening after day → month_in_year after ≡ month_in_year opening →
+pub a_year_later : (opening after day : ℕ) → after ≤ last_office_day → IsNextAnniversary opening after day → month_in_year after ≡ month_in_year opening →
     month_of day ≡ month_of after + 12
 a_year_later opening after day h next same =
     elim (cases_lt (month_of after) (month_of day)) [

@@ -4,7 +4,7 @@ pub use Rattle.std.proofs.lemmas.Bool.{both_ways, cases_lt, cases_eq, le-leb, lt
 pub use Rattle.std.proofs.{lemmas.List.Elements.filter_agree, lemmas.List.Sums.fold-append, lemmas.Grind.common_steps}
 pub use Rattle.std.specs.Prelude.{nat_lt, unwrap_or, filter, fold, nat_le, ◌&&◌, map, All, not, take}
 pub use Rattle.days_core.proofs.Bridge.{days_in_bounds, first_of-suc, first_of_mono, first_of-end, month_of_fits, month_of_is}
-pub use Rattle.days_core.specs.Calendar.{month_of, month_in_year, month_place, first_of, last_month}
+pub use Rattle.days_core.specs.{Calendar.month_of, Calendar.month_in_year, Calendar.month_place, Calendar.first_of, Calendar.last_month, OfficeDays.last_office_day}
 pub use Rattle.row_choice.proofs.FirstDayLemmas.{IsFirst, first-is, same_first, first_day-is}
 pub use Rattle.row_choice.specs.FirstDay.{first_day, earliest, is_within, ChangesAtBeginnings}
 pub use Rattle.row_choice.specs.Latest.{later, latest}

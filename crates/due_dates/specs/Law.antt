@@ -1,4 +1,4 @@
--- What it comes to that a day is the rightful one.
+-- What it comes to that a day is the rightful one, and that rents are stale on it.
 use Rattle.std.specs.Prelude.{ℕ, ◌+◌, ◌<◌, ◌≤◌, ◌≡◌, ◌≢◌, List, Some}
 use Rattle.days_core.specs.{Calendar.month_of, Calendar.month_in_year, Calendar.first_of, declared.rents.Rents.Rents}
 use Rattle.record_history.specs.{declared.records.Kind.Kind, declared.records.Record.Record, Records.in_force}

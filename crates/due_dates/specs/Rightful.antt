@@ -1,6 +1,7 @@
--- The day on which a certification may take effect: a profile after Handbook 4350.3, chapter 7; the tables are own rules.
+-- The day on which a certification may take effect: a profile after Handbook 4350.3 REV-1, chapter 7; the tables are
+-- own rules.
 use Rattle.std.specs.Prelude.{ℕ, ◌+◌, ◌≤◌, ◌&&◌, ◌==◌, nat_lt, nat_le, if◌then◌else◌, Bool, unwrap_or}
-use Rattle.days_core.specs.Calendar.{month_of, month_in_year, month_place, first_of, last_month}
+use Rattle.days_core.specs.{Calendar.month_of, Calendar.month_in_year, Calendar.month_place, Calendar.first_of, Calendar.last_month, OfficeDays.last_office_day}
 use Rattle.record_history.specs.declared.records.Dates.{Dates}
 use Rattle.due_dates.specs.{declared.due.Due.Due, Least.least_that}
 
@@ -48,9 +49,9 @@ rightful_day_of (Due.Interim dates higher report_days) = interim_day dates highe
 rightful_day_of (Due.Annual opening after) = next_anniversary opening after
 rightful_day_of (Due.Resume done) = next_month done
 
--- the days come no later than 2099-12-31
+-- the days come no later than the last that an office knows (own rule)
 abbrev pub IsInRange : Due → Type 0
 IsInRange (Due.Interim dates higher report_days) =
-    (dates.event ≤ 80353) × (dates.notice ≤ 80353) × (dates.done ≤ 80353)
-IsInRange (Due.Annual opening after) = (opening ≤ 80353) × (after ≤ 80353)
-IsInRange (Due.Resume done) = done ≤ 80353
+    (dates.event ≤ last_office_day) × (dates.notice ≤ last_office_day) × (dates.done ≤ last_office_day)
+IsInRange (Due.Annual opening after) = (opening ≤ last_office_day) × (after ≤ last_office_day)
+IsInRange (Due.Resume done) = done ≤ last_office_day

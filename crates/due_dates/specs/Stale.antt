@@ -1,8 +1,8 @@
 -- When a household is certified by other rents than its unit has, and on which day a gross rent change may take effect
--- (Handbook 4350.3, chapter 7, in outline; the day: own rule).
+-- (Handbook 4350.3 REV-1, chapter 7, in outline; the day: own rule).
 use Rattle.std.specs.Prelude.{ℕ, ◌&&◌, ◌==◌, not, Bool, true, false, List, Option}
 use Rattle.std.specs.Option.{option_map_or, option_and_then}
-use Rattle.days_core.specs.declared.rents.Rents.{Rents}
+use Rattle.days_core.specs.{declared.rents.Rents.Rents, OfficeDays.last_office_day}
 use Rattle.record_history.specs.{declared.records.Kind.Kind, declared.records.Record.Record, Records.in_force}
 use Rattle.rent_table.specs.{declared.rows.Unit.Unit as UnitRow, declared.rows.RentRow.RentRow, Table.unit_at, Table.rents_on}
 use Rattle.due_dates.specs.Least.{least_that}
@@ -36,4 +36,4 @@ rent_due_day_of records units rows first last = least_that (is_rent_stale_on rec
 
 -- the day on which a gross rent change may take effect: the least such day through 2099-12-31
 abbrev pub gross_day_of : List Record → List UnitRow → List RentRow → Option ℕ
-gross_day_of records units rows = rent_due_day_of records units rows 0 80353
+gross_day_of records units rows = rent_due_day_of records units rows 0 last_office_day

@@ -1,5 +1,5 @@
 ghost use Rattle.std.specs.Prelude.{◌≡◌, ◌↔◌, ℕ, ◌+◌, ◌<◌, ◌≤◌, true, false, List};
-ghost use Rattle.days_core.specs.Calendar.{month_of, month_in_year};
+ghost use Rattle.days_core.specs.{Calendar.month_of, Calendar.month_in_year, OfficeDays.last_office_day};
 ghost use Rattle.record_history.specs.declared.records.Dates.{Dates};
 ghost use Rattle.record_history.specs.declared.records.Record.{Record};
 ghost use Rattle.rent_table.specs.declared.rows.Unit.{Unit as UnitRow};
@@ -54,7 +54,7 @@ pub fn assistance_resumes_with_a_month()
 /// for it only where they never are. It does nothing.
 pub fn gross_changes_begin_when_rents_are_stale()
     ensures gross_day { (records : List Record) (units : List UnitRow) (rows : List RentRow) →
-        IsLeast (is_rent_stale_on records units rows) 0 80353 (gross_day_of records units rows) }
+        IsLeast (is_rent_stale_on records units rows) 0 last_office_day (gross_day_of records units rows) }
     ensures rent_due_day { (records : List Record) (units : List UnitRow) (rows : List RentRow) (first last : ℕ) →
         IsLeast (is_rent_stale_on records units rows) first last (rent_due_day_of records units rows first last) }
 {}

@@ -4,12 +4,9 @@ ghost use Rattle.due_dates.specs.Stale.{rent_due_day_of, gross_day_of};
 ghost use Rattle.due_dates.specs.Review.{is_due_on, with_day, with_days};
 
 use crate::stale::is_rent_stale_on;
-use days_core::Day;
+use days_core::{Day, LAST_OFFICE_DAY};
 use record_history::{Dates, History, Record};
 use rent_table::{RentRow, RentTable};
-
-/// 2099-12-31, the last day on which a record may begin.
-const LAST_DAY: u32 = 80_353;
 
 /// The least day through 2099-12-31 on which the household's record in force is neither a move-out nor a
 /// termination and has other rents than its unit on that day (own rule). A day on which the unit isn't in
@@ -18,7 +15,7 @@ pub fn gross_day(history: &History, table: &RentTable, household: u32) -> Option
     ensures { result ≡ gross_day_of (records_of history.now.households household) table.now.units table.now.rents }
 {
     let first = Day::from_number(0).unwrap();
-    let last = Day::from_number(LAST_DAY).unwrap();
+    let last = Day::from_number(LAST_OFFICE_DAY).unwrap();
     rent_due_day(history, table, household, first, last)
 }
 

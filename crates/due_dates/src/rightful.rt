@@ -1,5 +1,5 @@
 ghost use Rattle.std.specs.Prelude.{◌≡◌, ◌+◌, ◌≤◌};
-ghost use Rattle.days_core.specs.Calendar.{first_of};
+ghost use Rattle.days_core.specs.{Calendar.first_of, OfficeDays.last_office_day};
 ghost use Rattle.due_dates.specs.Rightful.{IsInRange, rightful_day_of, interim_day, is_in_time, next_month, first_start_from, next_anniversary};
 
 use crate::Due;
@@ -26,9 +26,9 @@ pub fn rightful_day(due: &Due) -> Day
 }
 
 fn interim_day(dates: &Dates, higher: bool, report_days: u32) -> Day
-    requires event { dates.now.event ≤ 80353 }
-    requires notice { dates.now.notice ≤ 80353 }
-    requires done { dates.now.done ≤ 80353 }
+    requires event { dates.now.event ≤ last_office_day }
+    requires notice { dates.now.notice ≤ last_office_day }
+    requires done { dates.now.done ≤ last_office_day }
     ensures { result ≡ interim_day dates.now higher report_days }
 {
     match (is_in_time(dates, report_days), higher) {
@@ -46,7 +46,7 @@ fn is_in_time(dates: &Dates, report_days: u32) -> bool
 
 /// The first day of the month after that of the day.
 fn next_month(day: Day) -> Day
-    requires { day ≤ 80383 }
+    requires { day ≤ last_office_day + 30 }
     ensures { result ≡ next_month day }
 {
     month_start(month_of(day).number() + 1)
@@ -54,7 +54,7 @@ fn next_month(day: Day) -> Day
 
 /// The first day of the first month that begins on the day of that number or later.
 fn first_start_from(number: u32) -> Day
-    requires { number ≤ 80383 }
+    requires { number ≤ last_office_day + 30 }
     ensures { result ≡ first_start_from number }
 {
     let day = Day::from_number(number).unwrap();
@@ -64,7 +64,7 @@ fn first_start_from(number: u32) -> Day
 
 /// The first anniversary of the opening day that is later than the other day.
 fn next_anniversary(opening: Day, after: Day) -> Day
-    requires { after ≤ 80353 }
+    requires { after ≤ last_office_day }
     ensures { result ≡ next_anniversary opening after }
 {
     let next = month_of(after).number() + 1;

@@ -1,6 +1,7 @@
 -- What a history holds: the records of each household, and the room for more.
 use Rattle.std.specs.Prelude.{ℕ, ◌+◌, ◌-◌, ◌==◌, ◌≤◌, ◌<◌, ◌≡◌, All, nat_le, nat_lt, if◌then◌else◌, List, [], ◌∷◌, ◌++◌, length, map, slice_index_or, slice_set, vec_items, vec_len, vec_capacity}
 use Rattle.std.specs.Global.{Vec}
+use Rattle.days_core.specs.OfficeDays.{last_office_day}
 use Rattle.record_history.specs.{declared.records.Record.Record, Records.newest_number}
 
 -- the records of household 1, 2 and so on in the order in which they came, and how many more fit for each and, last, for
@@ -47,10 +48,11 @@ room_to_come vectors next = if nat_lt (vec_len vectors) (vec_capacity vectors) t
 abbrev pub all_room : {T : Type 0} → Vec (Vec T) → Vec T → List ℕ
 all_room vectors next = room_in vectors.items ++ room_to_come vectors next ∷ []
 
--- The bounds within which each record lies: it begins by 2099-12-31, and its amounts are those that a contract allows.
+-- The bounds within which each record lies (own rule): it begins by the last day that an office knows, and its amounts are
+-- those that a contract allows.
 pub record IsWithin (r : Record) : Type 0 where
   pub act : r.act ≤ 4294967295
-  pub from : r.from ≤ 80353
+  pub from : r.from ≤ last_office_day
   pub contract_rent : r.rents.contract_rent ≤ 99999
   pub utility : r.rents.utility ≤ 9999
   pub assistance : r.assistance ≤ 109998

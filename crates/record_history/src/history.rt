@@ -30,6 +30,7 @@ impl Model for History {
 
 impl History {
     ghost use Rattle.std.specs.Prelude.{◌≡◌, ◌≤◌, ◌<◌, ◌+◌, ◌-◌, ◌==◌, [], ◌∷◌, ℕ, map, nat_eq, length, slice_set, find, option_copied, is_ok, if◌then◌else◌, All, IfOk, OnOk, IsOk, IfSome};
+    ghost use Rattle.days_core.specs.OfficeDays.{last_office_day};
     ghost use Rattle.record_history.specs.Records.{as_of, is_live_as_of, in_force, in_force_as_of, newest_number, newest_act};
     ghost use Rattle.record_history.specs.Held.{records_of, room_of, room_after, with_place, with_record, IsWithin, AreNumbered};
     ghost use Rattle.record_history.specs.Stretch.{stretches};
@@ -61,7 +62,7 @@ impl History {
         requires room { 1 ≤ room_of self.old.room held.household }
         requires number { held.number ≡ newest_number (records_of self.old.households held.household) + 1 }
         requires act { newest_act (records_of self.old.households held.household) < held.act }
-        requires from { held.from ≤ 80353 }
+        requires from { held.from ≤ last_office_day }
         requires contract_rent { held.rents.contract_rent ≤ 99999 }
         requires utility { held.rents.utility ≤ 9999 }
         requires assistance { held.assistance ≤ 109998 }
