@@ -1,5 +1,5 @@
 -- Lines that are gathered one after another.
-use Rattle.voucher_core.proofs.Words.{◌≡◌, ℕ, suc, ◌+◌, ◌-◌, ◌<◌, ◌≤◌, List, [], ◌∷◌, ◌++◌, length, take, drop, get_or, set, Option, Some, pos, ◌-ℤ◌, max, false, refl, ap, sym, ◌∙◌, subst, arith, append_assoc, to_z, of_z, w32, SomeIff, ◌==◌, ne_eqb, Record, range_with_len, flat_map, ints, to_z-of_z, to_z_pos, flat_map_more, take_more, drop_more, append-nil, length-take-le, Line, lines_for, adjustment_lines, placed, range-more}
+use Rattle.voucher_core.proofs.Words.{◌≡◌, ℕ, suc, ◌+◌, ◌-◌, ◌<◌, ◌≤◌, List, [], ◌∷◌, ◌++◌, length, map, take, drop, get_or, set, Option, Some, pos, ◌-ℤ◌, max, false, refl, ap, sym, ◌∙◌, subst, arith, append_assoc, to_z, of_z, w32, SomeIff, ◌==◌, ne_eqb, Record, range_with_len, flat_map, ints, to_z-of_z, to_z_pos, flat_map_more, map_push, take_more, drop_more, append-nil, length-take-le, Line, lines_for, adjustment_lines, placed, range-more}
 use Rattle.std.proofs.Math.Seq.{set-append_seam, get_or-append_seam}
 
 -- the value that is there
@@ -15,6 +15,17 @@ pieces-more f a k start lines new low so_far more =
     more ∙ ap (λ (ls : List Line). ls ++ f k) so_far ∙ ap (λ (n : ℕ). (start ++ flat_map f (range_with_len a (k - a))) ++ f n) at
     ∙ flat_map_more f start (range_with_len a (k - a)) (a + (k - a)) ∙ ap (λ (ks : List ℕ). start ++ flat_map f ks) (sym (range-more a (k - a)))
     ∙ ap (λ (n : ℕ). start ++ flat_map f (range_with_len a n)) count
+
+-- one more of some items
+pub some-more : {T : Type 0} (f : ℕ → List Line) (of : T → ℕ) (xs : List T) (i : ℕ) (d : T) (start lines new : List Line) → i < length xs →
+    lines ≡ start ++ flat_map f (map of (take i xs)) → new ≡ lines ++ f (of (get_or xs i d)) → new ≡ start ++ flat_map f (map of (take (i + 1) xs))
+some-more f of xs i d start lines new within so_far more =
+    more ∙ ap (λ (ls : List Line). ls ++ f (of (get_or xs i d))) so_far ∙ flat_map_more f start (map of (take i xs)) (of (get_or xs i d))
+    ∙ ap (λ (ks : List ℕ). start ++ flat_map f ks) (sym (ap (map of) (take_more xs i d within) ∙ map_push of (take i xs) (get_or xs i d)))
+
+-- and one that adds nothing
+pub none-more : (lines new none : List Line) → new ≡ lines → none ≡ [] → new ≡ lines ++ none
+none-more lines new none same is = same ∙ sym (append-nil lines) ∙ ap (λ (ls : List Line). lines ++ ls) (sym is)
 
 -- no piece yet
 pub pieces-none : (f : ℕ → List Line) (a k : ℕ) (start : List Line) → k ≡ a → start ≡ start ++ flat_map f (range_with_len a (k - a))

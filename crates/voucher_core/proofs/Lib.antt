@@ -5,6 +5,10 @@ pub mod DayShares
 pub mod Paid
 pub mod Settled
 pub mod Named
+pub mod Walk
+pub mod Alike
 pub mod Usable
+pub mod Unchanged
+pub mod Untouched
 pub mod Gathered
 pub mod Few

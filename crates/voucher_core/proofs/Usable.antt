@@ -1,7 +1,7 @@
 -- The changes of a month, day by day, and that they lie within their bounds.
-use Rattle.voucher_core.proofs.Words.{◌≡◌, ◌⊎◌, inl, inr, ℕ, suc, ◌+◌, ◌-◌, ◌<◌, ◌≤◌, List, [], reverse, ap, sym, ◌∙◌, subst, arith, All, get_or, cases_lt, days_in, first_of, last_of, first_of-suc, days_in_bounds, Record, Stretch, with_day, newest_first, stretches, Change, day_at, change_on, is_same_change, changes, IsOfItsDays}
+use Rattle.voucher_core.proofs.Words.{◌≡◌, ◌⊎◌, inl, inr, ℕ, suc, ◌+◌, ◌-◌, ◌<◌, ◌≤◌, List, [], reverse, refl, ap, sym, ◌∙◌, subst, arith, All, get_or, cases_lt, days_in, first_of, last_of, first_of-suc, days_in_bounds, Record, Stretch, with_day, newest_first, stretches, Change, day_at, change_on, is_same_change, changes, IsOfItsDays, up_to}
 use Rattle.voucher_core.specs.Bounds.{IsUsable}
-use Rattle.voucher_core.proofs.Named.{changes_of_days}
+use Rattle.voucher_core.proofs.{Covered.exact_change, Named.changes_of_days, Walk.one_run}
 
 -- the amounts of a change are those that a contract allows
 pub record IsAllowed (change : Change) : Type 0 where
@@ -23,30 +23,35 @@ module _ (old new : List Record) (month : ℕ) where
   pub none_allowed : (count : ℕ) → count ≡ 0 → AreAllowed change_at count
   none_allowed count none = λ place low high. absurd (omega arith)
 
-  -- the day comes at its place
-  at_its_place : (first day : ℕ) → first ≡ first_of month → first ≤ day → day_at month (1 + (day - first)) ≡ day
-  at_its_place first day is low = omega arith
-
-  -- one day more
-  pub next_day : (first day : ℕ) (change : Change) → first ≡ first_of month → first ≤ day → change ≡ change_on old new day →
-      reverse (with_day is_same_change (newest_first is_same_change change_at 1 (day - first)) (day + 1 - first) change) ≡ stretches is_same_change change_at 1 (day + 1 - first)
-  next_day first day change is low e =
-      let place : day + 1 - first ≡ 1 + (day - first) = omega arith in
-      let count : suc (day - first) ≡ day + 1 - first = omega arith in
-      ap (λ (k : Change). reverse (with_day is_same_change (newest_first is_same_change change_at 1 (day - first)) (day + 1 - first) k))
-      (e ∙ ap (change_on old new) (sym (at_its_place first day is low)))
-      ∙ ap (λ (p : ℕ). reverse (with_day is_same_change (newest_first is_same_change change_at 1 (day - first)) p (change_at (1 + (day - first))))) place
-      ∙ ap (λ (n : ℕ). stretches is_same_change change_at 1 n) count
-
-  pub next_allowed : (first day : ℕ) (change : Change) → first ≡ first_of month → first ≤ day → change ≡ change_on old new day →
-      IsAllowed change → AreAllowed change_at (day - first) → AreAllowed change_at (day + 1 - first)
-  next_allowed first day change is low e allowed all place from to = by_place (cases_lt (day - first) place)
+  -- a run of days more, where each has the change of the first
+  module _ (first day next : ℕ) (change : Change) (is : first ≡ first_of month) (low : first ≤ day) (e : change ≡ change_on old new day)
+      (alike : (other : ℕ) → day ≤ other → other < next → change_on old new other ≡ change_on old new day)
     where
-      by_place : (day - first < place) ⊎ (place ≤ day - first) → IsAllowed (change_at place)
-      by_place (inl last) =
-          let at : place ≡ 1 + (day - first) = omega arith in
-          subst IsAllowed (e ∙ ap (change_on old new) (sym (at_its_place first day is low)) ∙ ap change_at (sym at)) allowed
-      by_place (inr earlier) = all place from earlier
+      key : (place : ℕ) → day - first ≤ place → first + place < next → change_at (1 + place) ≡ change
+      key place from to =
+          let at : day_at month (1 + place) ≡ first + place = omega arith in
+          rw at (alike (first + place) (omega arith) to ∙ sym e)
+
+      pub next_run : day < next →
+          reverse (up_to (next - first) (with_day is_same_change (newest_first is_same_change change_at 1 (day - first)) (day + 1 - first) change))
+          ≡ stretches is_same_change change_at 1 (next - first)
+      next_run order =
+          let place : day + 1 - first ≡ 1 + (day - first) = omega arith in
+          let count : next - first ≡ suc ((next - (day + 1)) + (day - first)) = omega arith in
+          let last : suc ((next - (day + 1)) + (day - first)) ≡ 1 + ((next - (day + 1)) + (day - first)) = omega arith in
+          let run =
+          one_run is_same_change change_at 1 (day - first) change ((exact_change change change).1 refl) (next - (day + 1)) ((next - (day + 1)) + (day - first)) refl
+          (λ place from to. key place from (omega (arith, to))) in
+          rw (place, count) (rw run (ap (λ (n : ℕ). reverse (up_to n (with_day is_same_change (newest_first is_same_change change_at 1 (day - first)) (1 + (day - first)) change))) last))
+
+      pub run_allowed : IsAllowed change → AreAllowed change_at (day - first) → AreAllowed change_at (next - first)
+      run_allowed allowed all place from to = by_place (cases_lt (day - first) place)
+        where
+          by_place : (day - first < place) ⊎ (place ≤ day - first) → IsAllowed (change_at place)
+          by_place (inl later) =
+              let at : place ≡ 1 + (place - 1) = omega arith in
+              rw at (subst IsAllowed (sym (key (place - 1) (omega arith) (omega arith))) allowed)
+          by_place (inr earlier) = all place from earlier
 
   -- all days of the month
   all_of_it : (first day : ℕ) → first ≡ first_of month → day ≡ last_of month + 1 → day - first ≡ days_in month

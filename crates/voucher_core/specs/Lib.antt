@@ -4,3 +4,4 @@ pub mod Law
 pub mod Naming
 pub mod Bounds
 pub mod Book
+pub mod Walk

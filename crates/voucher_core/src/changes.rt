@@ -1,15 +1,16 @@
 //! What is in force on the days of a month, before and now.
 
-ghost use Rattle.std.specs.Prelude.{◌≡◌, ◌≤◌, ◌-◌, ◌+◌, All, IfOk};
+ghost use Rattle.std.specs.Prelude.{◌≡◌, ◌≤◌, ◌<◌, ◌-◌, ◌+◌, All, List, reverse, OnOk};
 ghost use Rattle.record_history.specs.Records.{as_of};
 ghost use Rattle.record_history.specs.Held.{records_of};
-ghost use Rattle.voucher_core.specs.Lines.{known_before, force_on, change_on, changes};
+ghost use Rattle.record_history.specs.Stretch.{with_day};
+ghost use Rattle.voucher_core.specs.Lines.{known_before, force_on, change_on, is_same_change, changes};
 ghost use Rattle.voucher_core.specs.Bounds.{IsUsable};
+ghost use Rattle.voucher_core.specs.Walk.{BeginsNotWithin, up_to};
 
 use days_core::{Day, Month, first_of, last_of};
 use plain_data::NoMemory;
-use record_history::{History, Stretch, add_day};
-use std::alloc::Global;
+use record_history::{History, Record, Stretch, add_day};
 
 /// What counts in a closing of the record in force: 0 and 0 where none is.
 #[derive(Clone, Copy, PartialEq, Eq)]
@@ -30,26 +31,64 @@ const NOTHING: InForce = InForce {
     assistance: 0,
 };
 
-/// The changes of a month for a household, the days by their places in the month.
+/// Makes the runs the changes of a month for a household, the days by their places in the month.
+///
+/// What is in force is looked up once for each run of days on which no record begins but on the first.
 pub fn changes_of_month(
-    alloc: Global,
+    runs: &mut Vec<Stretch<Change>>,
     history: &History,
     household: u32,
     month: Month,
     paid_at: Option<u32>,
     act: u32,
-) -> Result<Vec<Stretch<Change>>, NoMemory>
-    ensures value { IfOk result (λ runs. runs.items ≡ changes (known_before paid_at (records_of history.now.households household)) (as_of act (records_of history.now.households household)) month) }
-    ensures usable { IfOk result (λ runs. All (IsUsable month) runs.items) }
+) -> Result<(), NoMemory>
+    ensures value { OnOk result (runs.new.items ≡ changes (known_before paid_at (records_of history.now.households household)) (as_of act (records_of history.now.households household)) month) }
+    ensures usable { OnOk result (All (IsUsable month) runs.new.items) }
 {
+    runs.clear();
     let first = first_of(month).number();
-    let last = last_of(month).number();
-    let mut runs = Vec::new(alloc);
-    for day in first..last + 1 {
+    let end = last_of(month).number() + 1;
+    let mut day = first;
+    while day < end {
+        let next = next_start(history.records(household), day, end);
         let change = change_on(history, household, day, paid_at, act);
-        add_day(&mut runs, day + 1 - first, change)?;
+        add_run(runs, day + 1 - first, next - first, change)?;
+        day = next;
     }
-    Ok(runs)
+    Ok(())
+}
+
+/// The first day after this one on which some record begins, or the end where none does before it.
+fn next_start(records: &[Record], day: u32, end: u32) -> u32
+    requires { day < end }
+    ensures after { day < result }
+    ensures within { result ≤ end }
+    ensures none_between { All (BeginsNotWithin day result) records.now }
+{
+    let mut next = end;
+    for held in records {
+        let from = held.from.number();
+        if day < from && from < next {
+            next = from;
+        }
+    }
+    next
+}
+
+/// Adds the days from the first to the last, which follow those of the runs and have one change.
+fn add_run(
+    runs: &mut Vec<Stretch<Change>>,
+    first: u32,
+    last: u32,
+    change: Change,
+) -> Result<(), NoMemory>
+    ensures { OnOk result ((earlier : List (Stretch Change)) → runs.old.items ≡ reverse earlier → runs.new.items ≡ reverse (up_to last (with_day is_same_change earlier first change))) }
+{
+    add_day(runs, first, change)?;
+    if let Some(newest) = runs.last_mut() {
+        newest.last = last;
+    }
+    Ok(())
 }
 
 fn change_on(history: &History, household: u32, day: u32, paid_at: Option<u32>, act: u32) -> Change

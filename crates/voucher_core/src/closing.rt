@@ -42,7 +42,8 @@ fn gathered(
     last_close: u32,
     act: u32,
 ) -> Result<Vec<Line>, NoMemory>
-    requires { length history.now.households ≤ 100000 }
+    requires last_close { last_close ≤ act }
+    requires households { length history.now.households ≤ 100000 }
     ensures { IfOk result (λ lines. lines.items ≡ closing_lines (records_of history.now.households) (length history.now.households) month first_month last_close act) }
 {
     let mut lines = Vec::new(alloc);

@@ -9,6 +9,7 @@ mod laws;
 mod line;
 mod lines;
 mod sums;
+mod touched;
 
 pub use book::LineBook;
 pub use certified::certified_amount;

@@ -1,15 +1,18 @@
 //! The lines of a closing, household by household and month by month.
 
-ghost use Rattle.std.specs.Prelude.{◌≡◌, ◌≤◌, ◌<◌, ◌-◌, ◌+◌, ◌^◌, ◌++◌, pos, not, All, OnOk, filter, map, length};
+ghost use Rattle.std.specs.Prelude.{◌≡◌, ◌≤◌, ◌<◌, ◌-◌, ◌+◌, ◌^◌, ◌++◌, pos, not, All, Some, OnOk, filter, map, length};
+ghost use Rattle.std.specs.List.{flat_map};
 ghost use Rattle.std.specs.Ordering.{int_eq};
 ghost use Rattle.days_core.specs.Calendar.{days_in};
 ghost use Rattle.record_history.specs.Held.{records_of};
 ghost use Rattle.voucher_core.specs.Certified.{day_at};
 ghost use Rattle.voucher_core.specs.Lines.{line_of, lines_for, adjustment_lines, placed};
 ghost use Rattle.voucher_core.specs.Bounds.{IsUsable};
+ghost use Rattle.voucher_core.specs.Walk.{household_lines, touched_household, BeginsUntouched};
 
 use crate::Line;
 use crate::changes::{Change, changes_of_month};
+use crate::touched::{Touched, touched_since};
 use days_core::{Day, Month, days_in, last_of};
 use plain_data::NoMemory;
 use record_history::{History, Stretch};
@@ -17,6 +20,9 @@ use share_rules::share_run;
 use std::alloc::Global;
 
 /// Adds the lines for the months before the closed one, which are none where there was no closing before.
+///
+/// Only the households that have a new record since the last closing are looked at, and only from the month on in which
+/// something can have changed for them.
 pub fn add_adjustments(
     alloc: Global,
     lines: &mut Vec<Line>,
@@ -26,15 +32,53 @@ pub fn add_adjustments(
     last_close: u32,
     act: u32,
 ) -> Result<(), NoMemory>
-    requires { length history.now.households ≤ 100000 }
+    requires last_close { last_close ≤ act }
+    requires households { length history.now.households ≤ 100000 }
     ensures { OnOk result (lines.new.items ≡ lines.old.items ++ adjustment_lines (records_of history.now.households) (length history.now.households) act closed first_month last_close) }
 {
     if last_close == 0 {
         return Ok(());
     }
+    let changed = touched_since(alloc, history, last_close)?;
+    let mut runs = Vec::new(alloc);
     for month in first_month.number()..closed.number() {
         let month = Month::from_number(month).unwrap();
-        add_month(alloc, lines, history, closed, month, Some(last_close), act)?;
+        add_changed(
+            lines, &mut runs, history, &changed, closed, month, last_close, act,
+        )?;
+    }
+    Ok(())
+}
+
+/// Adds the lines of these households for a month that was closed before.
+fn add_changed(
+    lines: &mut Vec<Line>,
+    runs: &mut Vec<Stretch<Change>>,
+    history: &History,
+    changed: &[Touched],
+    closed: Month,
+    month: Month,
+    last_close: u32,
+    act: u32,
+) -> Result<(), NoMemory>
+    requires last_close { last_close ≤ act }
+    requires untouched { All (BeginsUntouched last_close (records_of history.now.households)) changed.now }
+    ensures { OnOk result (lines.new.items ≡ lines.old.items ++ flat_map (household_lines (records_of history.now.households) act closed (Some last_close) month) (map touched_household changed.now)) }
+{
+    let last = last_of(month).number();
+    for touched in changed {
+        if touched.first <= last {
+            add_household(
+                lines,
+                runs,
+                history,
+                closed,
+                touched.household,
+                month,
+                Some(last_close),
+                act,
+            )?;
+        }
     }
     Ok(())
 }
@@ -52,11 +96,30 @@ pub fn add_month(
     requires { length history.now.households ≤ 100000 }
     ensures { OnOk result (lines.new.items ≡ lines.old.items ++ lines_for (records_of history.now.households) (length history.now.households) act closed paid_at month) }
 {
+    let mut runs = Vec::new(alloc);
     for household in 1..history.households() + 1 {
-        let runs = changes_of_month(alloc, history, household, month, paid_at, act)?;
-        add_lines(lines, act, closed, household, month, &runs)?;
+        add_household(
+            lines, &mut runs, history, closed, household, month, paid_at, act,
+        )?;
     }
     Ok(())
+}
+
+/// Adds the lines of a household for a month. The room of the runs is used again and again.
+fn add_household(
+    lines: &mut Vec<Line>,
+    runs: &mut Vec<Stretch<Change>>,
+    history: &History,
+    closed: Month,
+    household: u32,
+    month: Month,
+    paid_at: Option<u32>,
+    act: u32,
+) -> Result<(), NoMemory>
+    ensures { OnOk result (lines.new.items ≡ lines.old.items ++ household_lines (records_of history.now.households) act closed paid_at month household) }
+{
+    changes_of_month(runs, history, household, month, paid_at, act)?;
+    add_lines(lines, act, closed, household, month, runs)
 }
 
 /// Adds a line for each of these changes that isn't for 0.

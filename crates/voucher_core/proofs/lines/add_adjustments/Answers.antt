@@ -1,5 +1,5 @@
-use Rattle.voucher_core.proofs.Words.{◌≡◌, ◌++◌, ◌∙◌, ap, arith, length, Some, ℕ, records_of, lines_for}
-use Rattle.voucher_core.proofs.Gathered.{pieces-none, pieces-more, adjustments-all, unwrapped}
+use Rattle.voucher_core.proofs.Words.{◌≡◌, ◌++◌, ◌∙◌, ap, arith, length, Some, ℕ, List, map, flat_map, records_of, Line, lines_for, household_lines, touched_household}
+use Rattle.voucher_core.proofs.{Gathered.pieces-none, Gathered.pieces-more, Gathered.adjustments-all, Gathered.unwrapped, Unchanged.all_of_changed}
 use Rattle.voucher_core.proofs.lines.add_adjustments.Goals as goal
 
 pub loop-month-init : goal.loop-month-init
@@ -16,10 +16,15 @@ loop-month-preserved c =
     record {
       lines =
           pieces-more (lines_for (records_of c.args.history.now.households) (length c.args.history.now.households) c.args.act c.args.closed (Some c.args.last_close))
-          c.args.first_month c.loop-month.month c.args.lines.now.items c.loop-month.lines.items c.add_month.new.lines.items (omega arith) c.loop-month.invariant.lines
-          (c.in_ok-add_month.ensures
+          c.args.first_month c.loop-month.month c.args.lines.now.items c.loop-month.lines.items c.add_changed.new.lines.items (omega arith) c.loop-month.invariant.lines
+          (c.in_ok-add_changed.ensures
           ∙ ap (λ (m : ℕ). c.loop-month.lines.items
-          ++ lines_for (records_of c.args.history.now.households) (length c.args.history.now.households) c.args.act c.args.closed (Some c.args.last_close) m) found);
+          ++ flat_map (household_lines (records_of c.args.history.now.households) c.args.act c.args.closed (Some c.args.last_close) m) (map touched_household c.deref.result.now)) found
+          ∙ ap (λ (hs : List ℕ). c.loop-month.lines.items
+          ++ flat_map (household_lines (records_of c.args.history.now.households) c.args.act c.args.closed (Some c.args.last_close) c.loop-month.month) hs)
+          (ap (map touched_household) c.deref.ensures.value ∙ c.in_ok-changed.ensures.households)
+          ∙ ap (λ (more : List Line). c.loop-month.lines.items ++ more)
+          (all_of_changed (records_of c.args.history.now.households) (length c.args.history.now.households) c.args.act c.args.closed c.args.last_close c.loop-month.month c.requires.last_close));
       within = omega arith;
     }
 

@@ -1,0 +1,61 @@
+-- Before the first day that new records touch, nothing has changed.
+use Rattle.voucher_core.proofs.Words.{◌≡◌, ℕ, ◌<◌, ◌≤◌, List, [], ◌∷◌, Bool, true, false, Some, refl, ap, sym, ◌∙◌, arith, nat_tests, common_steps, All, filter, nat_le, nat_lt, ◌==◌, ◌&&◌, get_or, list_any, or_parts, ltb-false, le-leb, lt-leb, last_of, first_of-suc, filter_alike, filter-filter, Record, Stretch, as_of, is_live, latest, in_force, Change, day_at, force_on, changes, household_lines, is_newly_corrected, is_touched, TouchesFrom}
+use Rattle.voucher_core.proofs.{Alike.force_of, Alike.force_is, Named.changes_of_days, Unchanged.IsUnchanged, Unchanged.no_line}
+
+never : (a b : Bool) → (a && (b && false)) ≡ false
+never a b = grind (arith, common_steps)
+
+module _ (last act : ℕ) (order : last ≤ act) where
+  -- where no new record passes the test, as many known ones pass it as before
+  any_known : (test : Record → Bool) (records : List Record) → list_any (λ o. nat_lt last o.act && test o) records ≡ false →
+      list_any test (as_of last records) ≡ list_any test (as_of act records)
+  any_known test [] none = refl
+  any_known test (o ∷ os) none =
+      let parts = or_parts (nat_lt last o.act && test o) (list_any (λ o. nat_lt last o.act && test o) os) none in
+      grind (arith, common_steps, nat_tests, parts.0, any_known test os parts.1)
+
+  module _ (own : List Record) (first day : ℕ) (touches : TouchesFrom last own first) (before : day < first) where
+    abbrev counts : ℕ → Record → Bool
+    counts known r = nat_le r.act known && (is_live (as_of known own) r && nat_le r.from day)
+
+    -- a record that isn't touched counts now where it counted before
+    untouched_counts : (r : Record) → is_touched last own r ≡ false → counts last r ≡ counts act r
+    untouched_counts r none =
+        let parts = or_parts (nat_lt last r.act) (is_newly_corrected last own r.number) none in
+        let old : r.act ≤ last = ltb-false last r.act parts.0 in
+        rw (le-leb r.act last old, le-leb r.act act (omega arith), any_known (λ (o : Record). o.corrects == r.number) own parts.1)
+
+    -- and so does one that hasn't begun
+    counts_alike : All (λ r. counts last r ≡ counts act r) own
+    counts_alike k d within = by_touch (is_touched last own (get_or own k d)) refl
+      where
+        by_touch : (touch : Bool) → is_touched last own (get_or own k d) ≡ touch → counts last (get_or own k d) ≡ counts act (get_or own k d)
+        by_touch true is =
+            let from : first ≤ (get_or own k d).from = touches.from k d within is in
+            rw (lt-leb (get_or own k d).from day (omega arith), never) (sym (never _ _))
+        by_touch false is = untouched_counts (get_or own k d) is
+
+    counted : (known : ℕ) → in_force (as_of known own) day ≡ latest (filter (counts known) own)
+    counted known =
+        ap latest
+        (filter-filter (λ (r : Record). nat_le r.from day) (is_live (as_of known own)) (as_of known own)
+        ∙ filter-filter (λ (r : Record). is_live (as_of known own) r && nat_le r.from day) (λ (r : Record). nat_le r.act known) own)
+
+    pub same_force : force_on (as_of last own) day ≡ force_on (as_of act own) day
+    same_force =
+        force_is (as_of last own) day ∙ ap force_of (counted last ∙ ap latest (filter_alike (counts last) (counts act) own counts_alike) ∙ sym (counted act))
+        ∙ sym (force_is (as_of act own) day)
+
+  -- so a month that ends before it has no lines
+  pub none_before : (own : ℕ → List Record) (closed household month first : ℕ) → TouchesFrom last (own household) first → last_of month < first →
+      household_lines own act closed (Some last) month household ≡ []
+  none_before own closed household month first touches before =
+      no_line act closed household month (changes (as_of last (own household)) (as_of act (own household)) month) unchanged
+    where
+      unchanged : All IsUnchanged (changes (as_of last (own household)) (as_of act (own household)) month)
+      unchanged k d within =
+          let run : Stretch Change = get_or (changes (as_of last (own household)) (as_of act (own household)) month) k d in
+          let is = changes_of_days (as_of last (own household)) (as_of act (own household)) month k d within in
+          let key = is.key run.first (omega arith) is.in_order in
+          let earlier : day_at month run.first < first = omega (arith, first_of-suc month, is.to, is.from, is.in_order) in
+          cc (same_force (own household) first (day_at month run.first) touches earlier)

@@ -1,0 +1,42 @@
+-- How a closing goes over households and days: past those that add nothing.
+use Rattle.std.specs.Prelude.{ℕ, ◌<◌, ◌≤◌, ◌≡◌, ◌==◌, ◌&&◌, ◌||◌, nat_lt, Bool, true, All, List, [], ◌∷◌, filter, Option}
+use Rattle.std.specs.{List.range_with_len, List.list_any}
+use Rattle.record_history.specs.{declared.records.Record.Record, declared.stretch.Stretch.Stretch, Records.as_of, Records.newest_act}
+use Rattle.voucher_core.specs.{declared.line.Line.Line, declared.touched.Touched.Touched, Lines.month_lines, Lines.known_before}
+
+-- the lines of one household for one month
+abbrev pub household_lines : (ℕ → List Record) → ℕ → ℕ → Option ℕ → ℕ → ℕ → List Line
+household_lines own act closed before month household =
+    month_lines act closed household month (known_before before (own household)) (as_of act (own household))
+
+-- the households of which an act after that one made a record
+abbrev pub changed_since : ℕ → (ℕ → List Record) → ℕ → List ℕ
+changed_since last_close own count = filter (λ h. nat_lt last_close (newest_act (own h))) (range_with_len 1 count)
+
+-- an act after that one made a record that corrects the one of that number
+abbrev pub is_newly_corrected : ℕ → List Record → ℕ → Bool
+is_newly_corrected last_close records number = list_any (λ other. nat_lt last_close other.act && other.corrects == number) records
+
+-- an act after that one made the record, or one that corrects it
+abbrev pub is_touched : ℕ → List Record → Record → Bool
+is_touched last_close records r = nat_lt last_close r.act || is_newly_corrected last_close records r.number
+
+-- none of the records that are touched begins before the day
+pub record TouchesFrom (last_close : ℕ) (records : List Record) (day : ℕ) : Type 0 where
+  pub from : All (λ r. is_touched last_close records r ≡ true → day ≤ r.from) records
+
+abbrev pub touched_household : Touched → ℕ
+touched_household t = t.household
+
+-- none of the household's records that are touched begins before its first day
+abbrev pub BeginsUntouched : ℕ → (ℕ → List Record) → Touched → Type 0
+BeginsUntouched last_close own t = TouchesFrom last_close (own t.household) t.first
+
+-- the record doesn't begin after the day and before the next
+pub record BeginsNotWithin (day next : ℕ) (r : Record) : Type 0 where
+  pub outside : day < r.from → next ≤ r.from
+
+-- the stretches, of which the newest is the first, with that one going on to the day
+abbrev pub up_to : {K : Type 0} → ℕ → List (Stretch K) → List (Stretch K)
+up_to day [] = []
+up_to day (newest ∷ earlier) = record newest { last = day } ∷ earlier
