@@ -12,3 +12,5 @@ pub mod Unchanged
 pub mod Untouched
 pub mod Gathered
 pub mod Few
+pub mod LongestRuns
+pub mod EachRun

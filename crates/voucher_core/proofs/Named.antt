@@ -1,6 +1,6 @@
 -- Each line of a closing names its pair.
-use Rattle.voucher_core.proofs.Words.{common_steps, ◌≡◌, ℕ, ◌+◌, ◌-◌, ◌<◌, ◌≤◌, List, [], ◌∷◌, get_or, pos, true, Option, Some, None, refl, ap, arith, All, IfSome, find, not, ◌==◌, ne_eqb, eq-eqb, Decides-int_eq, first_of-suc, Record, as_of, in_force, AreNumbered, int_eq, days_in, first_of, Stretch, Change, Line, assistance_on, day_at, change_on, is_same_change, changes, difference, line_of, month_lines, known_before, lines_for, adjustment_lines, closing_lines, placed, IsOfItsDays, Cover, IsOther, of_their_days, option_map_or, number_on, in_force_is, assistance_of, NamesItsPair, NameTheirPairs, LinesNameTheirPairs, IsOtherPair, CoverByPairs, ChangesAreLongest, find_first, find_fails}
-use Rattle.voucher_core.proofs.{Covered.exact_change, Covered.change_at, Covered.month_covered, Paid.all_pieces, Paid.each_passing, Settled.all_earlier, Settled.all_months, Settled.all_for, Settled.all_closing}
+use Rattle.voucher_core.proofs.Words.{common_steps, ◌≡◌, ℕ, ◌+◌, ◌-◌, ◌<◌, ◌≤◌, List, [], ◌∷◌, get_or, pos, ◌-ℤ◌, true, Option, Some, None, refl, arith, All, IfSome, find, not, ◌==◌, ne_eqb, eq-eqb, Decides-int_eq, first_of-suc, Record, as_of, in_force, AreNumbered, int_eq, days_in, first_of, Stretch, Change, Line, assistance_on, day_at, change_on, is_same_change, changes, difference, line_of, month_lines, known_before, lines_for, adjustment_lines, closing_lines, placed, IsOfItsDays, Cover, IsOther, of_their_days, option_map_or, number_on, in_force_is, assistance_of, shares_of, NamesItsPair, NameTheirPairs, LinesNameTheirPairs, IsOtherPair, CoverByPairs, ChangesAreLongest, NumberTellsAssistance, is_same_pair, NumbersMakeTheRuns, Decides, same_from_decides, with_day, newest_first, reverse, ap, ◌∙◌, zero, suc, cond_both, Bool, find_first, find_fails}
+use Rattle.voucher_core.proofs.{Covered.exact_change, Covered.exact_numbers, Covered.change_at, Covered.month_covered, Paid.all_pieces, Paid.each_passing, Settled.all_earlier, Settled.all_months, Settled.all_for, Settled.all_closing}
 
 -- Numbers lead to records ----
 
@@ -22,12 +22,12 @@ module _ (records : List Record) (numbered : AreNumbered records) where
   of_force o found = grind (arith, common_steps, no_assistance)
 
   -- so the number of the record in force leads to its assistance
-  leads : (act day : ℕ) → assistance_of records (number_on (as_of act records) day) ≡ assistance_on (as_of act records) day
+  pub leads : (act day : ℕ) → assistance_of records (number_on (as_of act records) day) ≡ assistance_on (as_of act records) day
   leads act day =
       of_force (in_force (as_of act records) day) (in_force_is (λ (r : Record). find (λ q. q.number == r.number) records ≡ Some r) records act day lead_back)
 
   -- so does that of the record known before, if any
-  leads_before : (before : Option ℕ) (day : ℕ) → assistance_of records (number_on (known_before before records) day) ≡ assistance_on (known_before before records) day
+  pub leads_before : (before : Option ℕ) (day : ℕ) → assistance_of records (number_on (known_before before records) day) ≡ assistance_on (known_before before records) day
   leads_before None day = no_assistance
   leads_before (Some act) day = leads act day
 
@@ -76,6 +76,23 @@ module _ (records before now : List Record)
     longest : CoverByPairs (λ place. number_on before (day_at month place)) (λ place. number_on now (day_at month place)) 1 (1 + days_in month) (changes before now month)
     longest = by_pairs 1 (1 + days_in month) (changes before now month) (month_covered before now month)
 
+    exact_pair : (place other : ℕ) → Decides (is_same_pair (change_at before now month place) (change_at before now month other)) (change_at before now month place ≡ change_at before now month other)
+    exact_pair place other =
+        let numbers = exact_numbers (change_at before now month place) (change_at before now month other) in (
+          λ same. same_numbers (change_at before now month place) (change_at before now month other) place other refl refl (numbers.0 same).0 (numbers.0 same).1,
+          λ same. numbers.1 (ap (λ (c : Change). c.old.number) same, ap (λ (c : Change). c.new.number) same),
+        )
+
+    -- the line of a change amounts to the shares of the two records
+    pub line_amount : (act closed household : ℕ) (run : Stretch Change) → IsOfItsDays (change_at before now month) 1 (1 + days_in month) run →
+        difference month run
+        ≡ pos (shares_of records run.key.new.number (line_of act closed household month run)) -ℤ pos (shares_of records run.key.old.number (line_of act closed household month run))
+    line_amount act closed household run is =
+        let first : run.first ≡ day_at month run.first + 1 - first_of month = omega (arith, is.from) in
+        let last : run.last ≡ day_at month run.last + 1 - first_of month = omega (arith, is.from, is.in_order) in
+        let first_day = is.key run.first (omega arith) is.in_order in
+        cc (old_found run.key run.first first_day, new_found run.key run.first first_day)
+
     -- the line of a change that isn't for 0 names its pair
     line_names : (act closed household : ℕ) (run : Stretch Change) → IsOfItsDays (change_at before now month) 1 (1 + days_in month) run →
         not (int_eq (difference month run) (pos 0)) ≡ true → NamesItsPair records before now (line_of act closed household month run)
@@ -85,11 +102,7 @@ module _ (records before now : List Record)
       to = omega (arith, first_of-suc month, is.to, is.from, is.in_order);
       old = λ day low high. rw (on_day day low high) refl;
       new = λ day low high. rw (on_day day low high) refl;
-      amount =
-          let first : run.first ≡ day_at month run.first + 1 - first_of month = omega (arith, is.from) in
-          let last : run.last ≡ day_at month run.last + 1 - first_of month = omega (arith, is.from, is.in_order) in
-          let first_day = is.key run.first (omega arith) is.in_order in
-          cc (old_found run.key run.first first_day, new_found run.key run.first first_day);
+      amount = line_amount act closed household run is;
       not_for_nothing = λ none. (let test = (Decides-int_eq (difference month run) (pos 0)).1 none in let passed = rw test at passes in cc);
     }
       where
@@ -149,3 +162,38 @@ lines_name_their_pairs = name_their_pairs
 pub changes_are_longest : ChangesAreLongest
 changes_are_longest records before act month numbered =
     longest records (known_before before records) (as_of act records) (leads_before records numbered before) (leads records numbered act) month
+
+-- Runs by numbers alone ----
+
+pub number_tells : NumberTellsAssistance
+number_tells records act other day next numbered same = cc (leads records numbered act day, leads records numbered other next)
+
+module _ {K : Type 0} (same other : K → K → Bool) (key_on : ℕ → K) (agree : (day next : ℕ) → same (key_on day) (key_on next) ≡ other (key_on day) (key_on next)) where
+  -- the key of the newest is that of some day
+  abbrev IsOfADay : List (Stretch K) → Type 0
+  IsOfADay [] = Unit {0}
+  IsOfADay (s ∷ earlier) = (day : ℕ) × (s.key ≡ key_on day)
+
+  same_day : (xs : List (Stretch K)) (day : ℕ) → IsOfADay xs →
+      (with_day same xs day (key_on day) ≡ with_day other xs day (key_on day)) × IsOfADay (with_day same xs day (key_on day))
+  same_day [] day of_day = (refl, (day, refl))
+  same_day (s ∷ earlier) day (of_day, is) =
+      let test : same s.key (key_on day) ≡ other s.key (key_on day) = rw is (agree of_day day) in
+      (rw test refl, cond_both (same s.key (key_on day)) _ _ IsOfADay (λ _. (of_day, is)) (λ _. (day, refl)))
+
+  -- tests that agree on the keys of days make the same stretches
+  same_stretches : (first count : ℕ) → (newest_first same key_on first count ≡ newest_first other key_on first count) × IsOfADay (newest_first same key_on first count)
+  same_stretches first zero = (refl, tt)
+  same_stretches first (suc count) =
+      let so_far = same_stretches first count in
+      let more = same_day (newest_first same key_on first count) (first + count) so_far.1 in
+      (more.0 ∙ ap (λ (xs : List (Stretch K)). with_day other xs (first + count) (key_on (first + count))) so_far.0, more.1)
+
+pub numbers_make_the_runs : NumbersMakeTheRuns
+numbers_make_the_runs records before act month numbered =
+    let old = known_before before records in
+    let now = as_of act records in
+    ap reverse
+    (same_stretches is_same_pair is_same_change (change_at old now month)
+    (λ day next. same_from_decides _ _ (exact_pair records old now (leads_before records numbered before) (leads records numbered act) month day next) (exact_change _ _))
+    1 (days_in month)).0

@@ -1,5 +1,5 @@
 -- What lines pay for a household and month.
-use Rattle.voucher_core.proofs.Words.{◌≡◌, ◌≢◌, ℕ, zero, suc, ◌+◌, ◌<◌, ◌≤◌, List, [], ◌∷◌, ◌++◌, length, take, pos, ◌+ℤ◌, ◌-ℤ◌, true, false, refl, ap, ◌∙◌, arith, All, get_or, filter, map, not, nat_le, nat_lt, ◌&&◌, if◌then◌else◌, range_with_len, flat_map, int_eq, ints, ne_eqb, eq-eqb, and_right, nat_tests, take_more, Decides-int_eq, filter-append, All-head, All-tail, All-filter, All-map, All-append, All-nil, All-cons, filter_passes, Record, Stretch, Change, Line, changes, difference, line_of, month_lines, placed, is_for, total, paid, certified_amount, filter_none, common_steps}
+use Rattle.voucher_core.proofs.Words.{◌≡◌, ◌≢◌, ℕ, zero, suc, ◌+◌, ◌<◌, ◌≤◌, List, [], ◌∷◌, ◌++◌, length, take, pos, ◌+ℤ◌, ◌-ℤ◌, true, false, refl, ap, ◌∙◌, arith, All, get_or, filter, map, not, nat_le, nat_lt, ◌&&◌, if◌then◌else◌, range_with_len, flat_map, int_eq, ints, ne_eqb, eq-eqb, and_right, nat_tests, take_more, Decides-int_eq, filter-append, All-head, All-tail, All-filter, All-map, All-append, All-nil, All-cons, filter_passes, Record, Stretch, Change, Line, changes, difference, line_of, month_lines, placed, is_for, total, paid, certified_amount, PaidIsTheSum, filter_none, common_steps}
 use Rattle.voucher_core.proofs.DayShares.{differences, changes_come_to}
 
 total-append : (xs ys : List Line) → total (xs ++ ys) ≡ total xs +ℤ total ys
@@ -93,3 +93,10 @@ pub paid_other : (act closed household other month : ℕ) (old new : List Record
     paid other month (month_lines act closed household month old new) ≡ pos 0
 paid_other act closed household other month old new apart =
     paid_none other month _ (each_line (λ (l : Line). is_for other month l ≡ false) act closed household month old new (λ run. rw (ne_eqb household other apart) refl))
+
+pub paid_is_the_sum : PaidIsTheSum
+paid_is_the_sum = record {
+  of_none = λ household month. refl;
+  of_its_own = λ lines l. rw paid-append (rw (eq-eqb l.household l.household refl, eq-eqb l.for_month l.for_month refl) (omega (arith, ints)));
+  of_others = λ household month lines l other. rw paid-append (grind (arith, ints, common_steps, nat_tests, other));
+}

@@ -1,5 +1,5 @@
 -- What closings keep: the lines total what is certified, and each line names its records.
-use Rattle.std.specs.Prelude.{ℕ, ◌+◌, ◌⊎◌, ◌<◌, ◌≤◌, ◌≡◌, pos, List, [], ◌++◌, All}
+use Rattle.std.specs.Prelude.{ℕ, ◌+◌, ◌⊎◌, ◌<◌, ◌≤◌, ◌≡◌, pos, ◌+ℤ◌, List, [], ◌∷◌, ◌++◌, All}
 use Rattle.record_history.specs.{declared.records.Record.Record, Records.as_of}
 use Rattle.voucher_core.specs.{declared.line.Line.Line, Certified.certified_amount, Lines.closing_lines, Lines.placed, Lines.paid}
 
@@ -20,6 +20,14 @@ ClosingSettles = (own : ℕ → List Record) (count : ℕ) (lines : List Line) (
     (last_close ≡ 0 → closed ≡ first_month) →
     IsSettled own first_month closed last_close lines →
     IsSettled own first_month (closed + 1) act (lines ++ placed place (closing_lines own count closed first_month last_close act))
+
+-- What lines pay for a household and month is the sum of the amounts of those that are for both: without a line it is 0, and
+-- one line more pays its amount for its own household and month, and nothing for any other.
+pub record PaidIsTheSum : Type 0 where
+  pub of_none : (household month : ℕ) → paid household month [] ≡ pos 0
+  pub of_its_own : (lines : List Line) (l : Line) → paid l.household l.for_month (lines ++ l ∷ []) ≡ paid l.household l.for_month lines +ℤ l.amount
+  pub of_others : (household month : ℕ) (lines : List Line) (l : Line) → ¬ ((l.household ≡ household) × (l.for_month ≡ month)) →
+      paid household month (lines ++ l ∷ []) ≡ paid household month lines
 
 -- Before any closing no line is wanted.
 abbrev pub NothingIsSettled : Type 0

@@ -2,6 +2,7 @@ pub mod Certified
 pub mod Lines
 pub mod Law
 pub mod Naming
+pub mod EachRun
 pub mod Bounds
 pub mod Book
 pub mod Walk

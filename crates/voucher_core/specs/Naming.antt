@@ -1,11 +1,11 @@
 -- What each line of a closing tells of its records.
-use Rattle.std.specs.Prelude.{ℕ, ◌+◌, ◌-◌, ◌<◌, ◌≤◌, ◌≡◌, ◌≢◌, ◌==◌, pos, ◌-ℤ◌, List, [], ◌∷◌, All, find, Option}
+use Rattle.std.specs.Prelude.{ℕ, ◌+◌, ◌-◌, ◌<◌, ◌≤◌, ◌≡◌, ◌≢◌, ◌==◌, ◌&&◌, Bool, pos, ◌-ℤ◌, List, [], ◌∷◌, All, find, Option}
 use Rattle.std.specs.Option.{option_map_or}
 use Rattle.days_core.specs.Calendar.{days_in, first_of, last_of}
-use Rattle.record_history.specs.{declared.records.Record.Record, declared.stretch.Stretch.Stretch, Records.as_of, Runs.number_on, Held.AreNumbered}
+use Rattle.record_history.specs.{declared.records.Record.Record, declared.stretch.Stretch.Stretch, Records.as_of, Runs.number_on, Stretch.stretches, Held.AreNumbered}
 use Rattle.share_rules.specs.Shares.{run_share}
-use Rattle.voucher_core.specs.{declared.line.Line.Line, declared.changes.Change.Change, Certified.day_at}
-use Rattle.voucher_core.specs.Lines.{known_before, changes, closing_lines, placed}
+use Rattle.voucher_core.specs.{declared.line.Line.Line, declared.changes.Change.Change, Certified.assistance_on, Certified.day_at}
+use Rattle.voucher_core.specs.Lines.{known_before, change_on, changes, closing_lines, placed}
 
 -- the assistance of the household's record of that number, and 0 where it has none
 abbrev pub assistance_of : List Record → ℕ → ℕ
@@ -63,3 +63,22 @@ ChangesAreLongest = (records : List Record) (paid_at : Option ℕ) (act month : 
     AreNumbered records →
     CoverByPairs (λ place. number_on (known_before paid_at records) (day_at month place)) (λ place. number_on (as_of act records) (day_at month place))
     1 (1 + days_in month) (changes (known_before paid_at records) (as_of act records) month)
+
+-- Where a household's records are numbered from 1, the number of the record in force tells its assistance, on whatever day
+-- and as of whatever act.
+abbrev pub NumberTellsAssistance : Type 0
+NumberTellsAssistance = (records : List Record) (act other day next : ℕ) →
+    AreNumbered records →
+    number_on (as_of act records) day ≡ number_on (as_of other records) next →
+    assistance_on (as_of act records) day ≡ assistance_on (as_of other records) next
+
+-- the same numbers of both records, whatever their assistance
+abbrev pub is_same_pair : Change → Change → Bool
+is_same_pair a b = a.old.number == b.old.number && a.new.number == b.new.number
+
+-- So the runs with one pair of numbers are those with one pair of numbers and of assistances.
+abbrev pub NumbersMakeTheRuns : Type 0
+NumbersMakeTheRuns = (records : List Record) (paid_at : Option ℕ) (act month : ℕ) →
+    AreNumbered records →
+    stretches is_same_pair (λ place. change_on (known_before paid_at records) (as_of act records) (day_at month place)) 1 (days_in month)
+    ≡ changes (known_before paid_at records) (as_of act records) month

@@ -1,5 +1,6 @@
-ghost use Rattle.voucher_core.specs.Law.{ClosingSettles, NothingIsSettled, SettledPaysNoOther, CertifiedStays, SettledStays};
-ghost use Rattle.voucher_core.specs.Naming.{LinesNameTheirPairs, ChangesAreLongest};
+ghost use Rattle.voucher_core.specs.Law.{ClosingSettles, NothingIsSettled, SettledPaysNoOther, CertifiedStays, SettledStays, PaidIsTheSum};
+ghost use Rattle.voucher_core.specs.Naming.{LinesNameTheirPairs, ChangesAreLongest, NumberTellsAssistance, NumbersMakeTheRuns};
+ghost use Rattle.voucher_core.specs.EachRun.{LinesTellEachRun};
 
 /// The law of one closing: with its lines, each household has been paid what it is certified for. It does nothing.
 pub fn one_closing_settles()
@@ -19,4 +20,21 @@ pub fn certified_stays()
 pub fn lines_name_their_pairs()
     ensures named { LinesNameTheirPairs }
     ensures longest { ChangesAreLongest }
+{}
+
+/// The lines of a closing tell each longest run of days with one pair of records that isn't for 0, once and in order. It
+/// does nothing.
+pub fn lines_tell_each_run()
+    ensures { LinesTellEachRun }
+{}
+
+/// The number of a record in force tells its assistance, so the numbers alone make the runs of a closing. It does nothing.
+pub fn numbers_make_the_runs()
+    ensures assistance { NumberTellsAssistance }
+    ensures runs { NumbersMakeTheRuns }
+{}
+
+/// What lines pay for a household and month is the sum of the amounts of those that are for both. It does nothing.
+pub fn paid_is_the_sum()
+    ensures { PaidIsTheSum }
 {}
