@@ -32,7 +32,7 @@ module _ (last act : ℕ) (order : last ≤ act) where
         by_touch : (touch : Bool) → is_touched last own (get_or own k d) ≡ touch → counts last (get_or own k d) ≡ counts act (get_or own k d)
         by_touch true is =
             let from : first ≤ (get_or own k d).from = touches.from k d within is in
-            rw (lt-leb (get_or own k d).from day (omega arith), never) (sym (never _ _))
+            rw (lt-leb (get_or own k d).from day (omega arith)) (never _ _ ∙ sym (never _ _))
         by_touch false is = untouched_counts (get_or own k d) is
 
     counted : (known : ℕ) → in_force (as_of known own) day ≡ latest (filter (counts known) own)
