@@ -1,6 +1,6 @@
-//! What closings take: so many households, each with six records that come late, and so many months from 2024-01 on.
-//! Prints how many lines that makes and what they come to: for two households and five months ten lines of 502 to 504
-//! dollars, and two that raise April by one.
+//! What closings take: so many households, each with a record every four months that comes up to three months late, a
+//! quarter of the households a month, and so many months from 2024-01 on. Prints how many lines that makes and what they
+//! come to: for two households and seven months fourteen lines of 502 to 504 dollars, and three that raise a month by one.
 #![tactic(auto)]
 
 ghost use Rattle.std.specs.Prelude.{◌<◌, ◌≤◌};
@@ -40,9 +40,10 @@ fn run<R: Env + Print + AllocGlobal>(rt: &R) -> io::Result<bool> {
 }
 
 fn close_all(alloc: Global, households: u32, months: u32) -> Result<(u64, i64), NoMemory> {
-    let history = history_of(alloc, households)?;
+    let months = months.min(900);
+    let history = history_of(alloc, households, months)?;
     let (mut count, mut amount) = (0u64, 0i64);
-    for place in 0..months.min(900) {
+    for place in 0..months {
         for line in &close(alloc, &history, place)? {
             count = count.wrapping_add(1);
             amount = amount.wrapping_add(i64::from(line.amount));
@@ -70,23 +71,25 @@ fn close(alloc: Global, history: &History, place: u32) -> Result<Vec<Line>, NoMe
     )
 }
 
-fn history_of(alloc: Global, households: u32) -> Result<History, NoMemory> {
+fn history_of(alloc: Global, households: u32, months: u32) -> Result<History, NoMemory>
+    requires { months ≤ 900 }
+{
     let mut history = History::new(alloc)?;
     for household in 1..households.saturating_add(1) {
-        for place in 0..6 {
+        for place in 0..months / 4 + 1 {
             hold(&mut history, household, place)?;
         }
     }
     Ok(history)
 }
 
-/// Holds a household's next record: from the first day of each third month on, but known a month and more later.
+/// Holds a household's next record: from the first day of each fourth month on, but known up to three months later.
 fn hold(history: &mut History, household: u32, place: u32) -> Result<(), NoMemory>
     requires household { 1 ≤ household }
-    requires place { place < 6 }
+    requires place { place ≤ 225 }
 {
-    let act = 4000 * place + 1;
-    let from = first_of(Month::from_number(FIRST_MONTH + 3 * place).unwrap());
+    let act = 4000 * place + 1000 * (household % 4) + 1;
+    let from = first_of(Month::from_number(FIRST_MONTH + 4 * place).unwrap());
     if household - 1 > history.households()
         || history.newest(household) != place
         || history.newest_act(household) >= act
@@ -113,7 +116,7 @@ fn hold(history: &mut History, household: u32, place: u32) -> Result<(), NoMemor
             contract_rent: 700,
             utility: 60,
         },
-        assistance: 501 + household % 50 + place,
+        assistance: 501 + household % 50 + place % 7,
         dates: None,
     });
     Ok(())
