@@ -4,5 +4,7 @@ pub mod SharedUnit
 pub mod Rivals
 pub mod Numbers
 pub mod OrderLaws
+pub mod InPlace
 pub mod UseLaws
+pub mod FirstUse
 pub mod LiveLaws

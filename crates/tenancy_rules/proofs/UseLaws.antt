@@ -12,15 +12,15 @@ module _ (is_rival : ℕ → ℕ → Bool) (count end : ℕ) where
     found_among other day some = grind (arith, common_steps, rivals day)
 
   -- where no rivalry is found there is none
-  none_found : first_rivalry is_rival count end ≡ None → (other day : ℕ) → 1 ≤ other → other ≤ count → day < end → is_rival other day ≡ false
+  pub none_found : first_rivalry is_rival count end ≡ None → (other day : ℕ) → 1 ≤ other → other ≤ count → day < end → is_rival other day ≡ false
   none_found = none_among (first_rival_on is_rival count) _ (λ day. first-is (λ other. is_rival other day) 1 count) (first_before-is end _)
 
   -- the rivalry that is found is one
-  rival_found : (other day : ℕ) → first_rivalry is_rival count end ≡ Some (other, day) → (day < end) × (is_rival other day ≡ true)
+  pub rival_found : (other day : ℕ) → first_rivalry is_rival count end ≡ Some (other, day) → (day < end) × (is_rival other day ≡ true)
   rival_found = found_among (first_rival_on is_rival count) _ (λ day. first-is (λ other. is_rival other day) 1 count) (first_before-is end _)
 
 -- two that have one unit
-both_have : (own other : Option ℕ) → is_one_unit own other ≡ true → (unit : ℕ) × (own ≡ Some unit) × (other ≡ Some unit)
+pub both_have : (own other : Option ℕ) → is_one_unit own other ≡ true → (unit : ℕ) × (own ≡ Some unit) × (other ≡ Some unit)
 both_have own other is = grind (arith, nat_tests, common_steps)
 
 pub no_unit_has_two : NoUnitHasTwo

@@ -3,3 +3,5 @@ pub mod Order
 pub mod Occupancy
 pub mod Beginnings
 pub mod Law
+pub mod OrderLaw
+pub mod UseLaw

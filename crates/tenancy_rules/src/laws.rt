@@ -1,4 +1,6 @@
 ghost use Rattle.tenancy_rules.specs.Law.{UnitsChangeByTransfer, NothingFollowsMoveOut, NoUnitHasTwo, DoubleUseHasTwo, ChangeIsWhatLives};
+ghost use Rattle.tenancy_rules.specs.OrderLaw.{OrderIsPlain, MoveOutIsLast, FaultIsFirst};
+ghost use Rattle.tenancy_rules.specs.UseLaw.{OccupancyIsPlain, DoubleUseIsFirst, NoDoubleUse};
 
 /// Where no record is out of order, a household comes to another unit by a transfer alone, and no record comes after a
 /// move-out. It does nothing.
@@ -7,11 +9,29 @@ pub fn units_change_by_transfer()
     ensures move_out { NothingFollowsMoveOut }
 {}
 
+/// What it comes to that no record is out of order, and that one is the first that is, in plain facts. It does nothing.
+pub fn order_is_plain()
+    ensures none { OrderIsPlain }
+    ensures move_out { MoveOutIsLast }
+    ensures fault { FaultIsFirst }
+{}
+
 /// Where no double use is found there is none on any day through 2099-12-31, and one that is found is one. It does
 /// nothing.
 pub fn no_unit_has_two()
     ensures none { NoUnitHasTwo }
     ensures found { DoubleUseHasTwo }
+{}
+
+/// Which unit a household has on a day, in plain facts. It does nothing.
+pub fn occupancy_is_plain()
+    ensures { OccupancyIsPlain }
+{}
+
+/// The double use that is found is the first, and of those of its day the one with the least household. It does nothing.
+pub fn double_use_is_first()
+    ensures found { DoubleUseIsFirst }
+    ensures none { NoDoubleUse }
 {}
 
 /// The records that are judged are those that live once the added one is held. It does nothing.
