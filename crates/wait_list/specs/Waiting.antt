@@ -34,7 +34,7 @@ abbrev pub HaveSizes : List Applicant → Type 0
 HaveSizes applicants = All (λ applicant. IsSize applicant.size) applicants
 
 -- what is true of the applicants on every list
-pub record IsInOrder (applicants : List Applicant) : Type 0 where
+pub record IsSoundList (applicants : List Applicant) : Type 0 where
   pub numbers : HaveOwnNumbers applicants
   pub acts : ActsRise applicants
   pub sizes : HaveSizes applicants

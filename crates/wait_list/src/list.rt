@@ -14,7 +14,7 @@ pub struct WaitList {
 
 impl Model for WaitList {
     ghost use Rattle.std.specs.Prelude.{◌-◌, vec_len, vec_capacity};
-    ghost use Rattle.wait_list.specs.Waiting.{Waiting, IsInOrder};
+    ghost use Rattle.wait_list.specs.Waiting.{Waiting, IsSoundList};
 
     ghost Value = { Waiting };
 
@@ -23,7 +23,7 @@ impl Model for WaitList {
       room = vec_capacity list.applicants - vec_len list.applicants;
     } };
 
-    ghost invariant = { λ list. IsInOrder list.applicants.items };
+    ghost invariant = { λ list. IsSoundList list.applicants.items };
 }
 
 impl WaitList {

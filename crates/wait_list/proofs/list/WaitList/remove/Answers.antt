@@ -1,4 +1,4 @@
-use Rattle.wait_list.proofs.Words.{◌≡◌, arith, common_steps, ◌≢◌, ◌∙◌, ap, ℕ, ◌-◌, ◌<◌, length, nat_eq, Bool, List, rules, not, vec_len, vec_capacity, All-filter, Applicant, is_listed, without, IsSize, IsInOrder, filter_same, AllPairs-filter}
+use Rattle.wait_list.proofs.Words.{◌≡◌, arith, common_steps, ◌≢◌, ◌∙◌, ap, ℕ, ◌-◌, ◌<◌, length, nat_eq, Bool, List, rules, not, vec_len, vec_capacity, All-filter, Applicant, is_listed, without, IsSize, IsSoundList, filter_same, AllPairs-filter}
 use Rattle.wait_list.proofs.ListedLemmas.{length-without}
 use Rattle.wait_list.proofs.list.WaitList.remove.Goals as goal
 
@@ -7,7 +7,7 @@ stays : (c : goal.After-retain) → c.retain.new.self.items ≡ without c.args.n
 stays c = filter_same _ (λ a. not (nat_eq a.number c.args.number)) _ (λ x b f' called. search rules) _ _ c.retain.ensures.filtered
 
 -- the list stays in order
-in_order : (number : ℕ) (applicants : List Applicant) → IsInOrder applicants → IsInOrder (without number applicants)
+in_order : (number : ℕ) (applicants : List Applicant) → IsSoundList applicants → IsSoundList (without number applicants)
 in_order number applicants order =
     let keeps : Applicant → Bool = λ applicant. not (nat_eq applicant.number number) in
     record {
