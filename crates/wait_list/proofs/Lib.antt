@@ -2,3 +2,5 @@ pub mod Words
 pub mod ListedLemmas
 pub mod RankLemmas
 pub mod NextLaw
+pub mod WantedLaw
+pub mod PlainNext

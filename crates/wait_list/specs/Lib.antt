@@ -4,3 +4,5 @@ pub mod Target
 pub mod Next
 pub mod Group
 pub mod Law
+pub mod Wanted
+pub mod RightfulNext

@@ -27,12 +27,12 @@ asked_by ask = record {
   other = ask.other;
 }
 
--- limits stand for the day, and the applicant earns at most the admission limit of its size
+-- limits stand for the day, and the applicant's annual income is at most the admission limit of its size (24 CFR 5.653)
 abbrev pub is_within_limit : Asked → Applicant → Bool
 is_within_limit asked applicant =
     option_map_or (λ limits. nat_le applicant.annual (admission_limit asked.plan limits applicant.size)) asked.limits false
 
--- limits stand for the day, and the applicant earns at most the extremely low one of its size
+-- limits stand for the day, and its annual income is at most the extremely low one of its size (24 CFR 5.653)
 abbrev pub is_extremely_low : Asked → Applicant → Bool
 is_extremely_low asked applicant =
     option_map_or (λ limits. has_extremely_low_income limits applicant.size applicant.annual) asked.limits false

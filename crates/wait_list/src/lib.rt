@@ -11,7 +11,7 @@ mod targets;
 
 pub use applicant::Applicant;
 pub use ask::{Ask, Candidate};
-pub use laws::next_suits;
+pub use laws::{next_is_plain, next_suits, wanted_is_plain};
 pub use list::WaitList;
 pub use rank::best_rank;
 pub use targets::{Targets, wants_extremely_low};
