@@ -8,7 +8,7 @@ use Rattle.deduction_rules.specs.declared.figures.Allowances.{Allowances}
 
 -- ---- dependents, the elderly and the disabled
 
--- a member of the family other than the head, the spouse and the co-head
+-- a member of the family other than the head, the spouse and the co-head (24 CFR 5.603(b))
 abbrev pub is_other : Relation → Bool
 is_other Relation.Other = true
 is_other _ = false
@@ -21,7 +21,7 @@ is_dependent day member = is_other member.relation && (is_under 18 member day ||
 abbrev pub dependents_of : Facts → ℕ → ℕ
 dependents_of facts day = 480 * count_by (is_dependent day) facts.members
 
--- a head, spouse or co-head who is at least 62, or disabled
+-- a head, spouse or co-head who is at least 62, or disabled (24 CFR 5.403)
 abbrev pub is_elderly_or_disabled : ℕ → Member → Bool
 is_elderly_or_disabled day member = is_head_or_partner member.relation && (nat_le 62 (age_on member.born day) || member.disabled)
 
@@ -35,17 +35,17 @@ elderly_deduction_of facts day = if is_elderly_family facts day then 400 else 0
 
 -- ---- care of children
 
--- what is counted of the earned income of such members; of a live-in aide's nothing is
+-- what is counted of the earned income of such members; of a live-in aide's nothing is (24 CFR 5.609(c)(5))
 abbrev pub earned_by : (Member → Bool) → Facts → ℕ → ℕ
 earned_by is_such facts day =
     sum_by (λ number. counted_earned_of facts number day) (filter (λ number. option_map_or is_such (slice_get facts.members number) false) (numbers_of facts))
 
--- a member of the family under 13
+-- a member of the family under 13 (24 CFR 5.603(b))
 abbrev pub is_young_child : ℕ → Member → Bool
 is_young_child day member = not (is_aide member.relation) && is_under 13 member day
 
--- Where there is a child under 13, the care that makes earning possible, up to what is earned so, and the care that
--- makes schooling possible (24 CFR 5.611(a)(4), 5.603(b)). Own rule: what all such members earn counts together.
+-- Where there is a child under 13, the care that makes work possible, up to what is earned so, and the care that
+-- makes schooling possible (24 CFR 5.611(a)(4), 5.603(b)). Own rule: the earnings of all such members count together.
 abbrev pub child_care_of : Facts → ℕ → ℕ
 child_care_of facts day =
     if list_any (is_young_child day) facts.members
@@ -54,11 +54,11 @@ child_care_of facts day =
 
 -- ---- disability assistance and medical expenses
 
--- three percent of the annual income (24 CFR 5.611(a)(3))
+-- three percent of the annual income (24 CFR 5.611(a)(3)); half a dollar is rounded up (own rule)
 abbrev pub three_percent_of : ℕ → ℕ
 three_percent_of annual = round_half_up (3 * annual) 100
 
--- an adult whose earning the disability assistance makes possible
+-- an adult whose work the disability assistance makes possible (24 CFR 5.611(a)(3)(ii))
 abbrev pub is_helped_adult : ℕ → Member → Bool
 is_helped_adult day member = member.helped && not (is_under 18 member day)
 
@@ -69,7 +69,8 @@ disability_deduction_of facts annual day =
     then min (facts.disability - three_percent_of annual) (earned_by (is_helped_adult day) facts day)
     else 0
 
--- the medical expenses where the disability assistance has passed a threshold, and else what both are above it
+-- The medical expenses where the disability assistance has passed a threshold, and else what both are above it: the
+-- threshold is taken once, and first from the assistance (own rule).
 abbrev pub medical_beyond : ℕ → ℕ → ℕ → ℕ
 medical_beyond threshold disability medical = if nat_lt threshold disability then medical else disability + medical - threshold
 

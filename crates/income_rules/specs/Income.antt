@@ -10,7 +10,7 @@ is_earned IncomeKind.Wages = true
 is_earned IncomeKind.Business = true
 is_earned _ = false
 
--- assistance for an adopted child, whom it names as its member
+-- assistance for an adopted child, whom it names as its member (24 CFR 5.609(c)(12))
 abbrev pub is_adoption : IncomeKind → Bool
 is_adoption IncomeKind.Adoption = true
 is_adoption _ = false
@@ -29,7 +29,7 @@ sum_of is_such incomes number =
 
 -- What is counted of a member's earnings: of a live-in aide's nothing (24 CFR 5.609(c)(5)), and of the head's, the
 -- spouse's and the co-head's all. Of another member's under 18 nothing (5.609(c)(1)), of a full-time student's up to
--- 480 (5.609(c)(11)), and else all.
+-- 480 (5.609(c)(11)), and else all. Own rule: a spouse or co-head under 18 counts as an adult.
 abbrev pub counted_of_earnings : Member → ℕ → ℕ → ℕ
 counted_of_earnings member day earnings =
     if is_aide member.relation then 0

@@ -1,17 +1,19 @@
--- What a family pays for its unit and what the office claims for it, in whole dollars a month.
+-- What a family pays for its unit and what the office claims for it, in whole dollars a month. Half a dollar is rounded up
+-- (own rule).
 use Rattle.std.specs.Prelude.{ℕ, ◌+◌, ◌-◌, max, min, Bool, true, false}
 use Rattle.days_core.specs.{declared.rents.Rents.Rents, Rounding.round_half_up}
 use Rattle.payment_rules.specs.declared.figures.Payment.{Payment}
 
--- 30 percent of the monthly adjusted income (24 CFR 5.628(a)(1)), of an income for the year
+-- 30 percent of the monthly adjusted income (24 CFR 5.628(a)(1)), of an income for the year: 12 months over 0.30 are 40
 abbrev pub share_of_adjusted : ℕ → ℕ
 share_of_adjusted adjusted = round_half_up adjusted 40
 
--- 10 percent of the monthly income (24 CFR 5.628(a)(2)), of an income for the year
+-- 10 percent of the monthly income (24 CFR 5.628(a)(2)), of an income for the year: 12 months over 0.10 are 120
 abbrev pub share_of_annual : ℕ → ℕ
 share_of_annual annual = round_half_up annual 120
 
--- the minimum rent, from which a family in hardship is exempt (24 CFR 5.630)
+-- the minimum rent, from which a family in hardship is exempt (24 CFR 5.630; that the exemption is one flag is
+-- an own rule)
 abbrev pub minimum_rent_of : Bool → ℕ
 minimum_rent_of true = 0
 minimum_rent_of false = 25
@@ -21,15 +23,15 @@ abbrev pub total_tenant_payment_of : ℕ → ℕ → ℕ → Bool → ℕ
 total_tenant_payment_of annual adjusted welfare exempt =
     max (max (share_of_adjusted adjusted) (share_of_annual annual)) (max welfare (minimum_rent_of exempt))
 
--- the contract rent and the allowance for utilities
+-- the gross rent: the contract rent and the allowance for utilities (24 CFR 5.628 to 5.634)
 abbrev pub gross_rent_of : Rents → ℕ
 gross_rent_of rents = rents.contract_rent + rents.utility
 
--- what the family bears of the gross rent
+-- what the family bears of the gross rent: its payment, but no more than that rent (own rule)
 abbrev pub family_share_of : ℕ → Rents → ℕ
 family_share_of ttp rents = min ttp (gross_rent_of rents)
 
--- what the office claims: the rest of the gross rent
+-- what the office claims: the rest of the gross rent (24 CFR 5.628 to 5.634)
 abbrev pub assistance_of : ℕ → Rents → ℕ
 assistance_of ttp rents = gross_rent_of rents - family_share_of ttp rents
 
@@ -41,7 +43,7 @@ tenant_rent_of ttp rents = family_share_of ttp rents - rents.utility
 abbrev pub reimbursement_of : ℕ → Rents → ℕ
 reimbursement_of ttp rents = rents.utility - family_share_of ttp rents
 
--- how a total tenant payment splits a unit's rents
+-- how a total tenant payment splits a unit's rents (24 CFR 5.628 to 5.634)
 abbrev pub split_of : ℕ → Rents → Payment
 split_of ttp rents = record {
   ttp = ttp;
@@ -50,5 +52,6 @@ split_of ttp rents = record {
   assistance = assistance_of ttp rents;
 }
 
+-- the payment of a family with these incomes for the year, this welfare rent and this exemption, in a unit with these rents
 abbrev pub payment_of : ℕ → ℕ → ℕ → Bool → Rents → Payment
 payment_of annual adjusted welfare exempt rents = split_of (total_tenant_payment_of annual adjusted welfare exempt) rents

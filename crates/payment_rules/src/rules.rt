@@ -24,12 +24,14 @@ pub fn payment(annual: u32, adjusted: u32, welfare: u32, exempt: bool, rents: Re
 fn adjusted_share(adjusted: u32) -> u32
     ensures { result ≡ share_of_adjusted adjusted }
 {
+    // 12 months over 0.30 are 40.
     round_half_up(adjusted.into(), 40) as u32
 }
 
 fn annual_share(annual: u32) -> u32
     ensures { result ≡ share_of_annual annual }
 {
+    // 12 months over 0.10 are 120.
     round_half_up(annual.into(), 120) as u32
 }
 

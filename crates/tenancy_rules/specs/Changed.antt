@@ -1,4 +1,4 @@
--- What an act does to the live records of a household.
+-- What an act does to the live records of a household (own rules).
 use Rattle.std.specs.Prelude.{ℕ, ◌+◌, ◌<◌, ◌≡◌, ◌==◌, not, Bool, List, [], ◌∷◌, ◌++◌, filter, Option, Some, None, AllPairs, IfSome}
 use Rattle.row_choice.specs.Latest.{comes_before as pair_comes_before}
 use Rattle.record_history.specs.{declared.records.Record.Record, Records.live_records, Records.newest_number}

@@ -1,4 +1,4 @@
--- Who waits for a unit.
+-- Who waits for a unit (own rules).
 use Rattle.std.specs.Prelude.{◌≢◌, ◌<◌, ◌≤◌, ℕ, ◌==◌, not, Bool, List, All, AllPairs, filter}
 use Rattle.std.specs.List.{list_any}
 use Rattle.wait_list.specs.declared.applicant.Applicant.{Applicant}
