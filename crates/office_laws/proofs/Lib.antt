@@ -9,6 +9,7 @@ pub mod Reached
 pub mod Changed
 pub mod Known
 pub mod Replies
+pub mod InPlace
 pub mod Own
 pub mod Tried
 pub mod InOrder

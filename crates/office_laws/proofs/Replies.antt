@@ -14,7 +14,7 @@ acts_within rows are =
     All-filter_map (λ row. row.n ≤ length rows) (λ act. act.n ≤ length rows) act_of
     (λ row act is by. omega (arith, by, act_numbered row act is)) rows (λ k d within. omega (arith, are.numbers k d within))
 
-its_own : (n : ℕ) (made : Option Record) → IfSome made (λ r. r.act ≡ n) → find (λ (r : Record). r.act == n) (option_to_list made) ≡ made
+pub its_own : (n : ℕ) (made : Option Record) → IfSome made (λ r. r.act ≡ n) → find (λ (r : Record). r.act == n) (option_to_list made) ≡ made
 its_own n made same = grind (arith, common_steps, nat_tests, same)
 
 module _ (capacity : Capacity) (book : Book) (rows : Batch) (reached : IsReached capacity book) (appends : IsAppended capacity book rows) where

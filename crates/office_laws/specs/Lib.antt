@@ -2,6 +2,7 @@ pub mod Accepted
 pub mod Kept
 pub mod After
 pub mod History
+pub mod InPlace
 pub mod Replies
 pub mod AtHand
 pub mod Tenancy

@@ -1,6 +1,7 @@
 ghost use Rattle.office_laws.specs.Accepted.{AppendedIsAccepted, NewIsAppended};
 ghost use Rattle.office_laws.specs.Kept.{BooksAreKept, BatchesFollow};
 ghost use Rattle.office_laws.specs.History.{RowsCameByActs};
+ghost use Rattle.office_laws.specs.InPlace.{ActsAreInPlace};
 ghost use Rattle.office_laws.specs.Replay.{ActsGiveTheBook, RedoneIsAppended};
 ghost use Rattle.office_laws.specs.Replies.{RepliesStay, RepeatsAreAnswered, FirstRepliesAreGivenAgain};
 ghost use Rattle.office_laws.specs.Tenancy.{HouseholdsAreInOrder, NoUnitIsShared};
@@ -87,4 +88,9 @@ pub fn acts_give_the_book()
 pub fn refusals_stand_in_order()
     ensures numbered { TestsAreNumbered }
     ensures least { LeastIsTold }
+{}
+
+/// Every act of a book found the book of the acts before it, and appended just its rows there. It does nothing.
+pub fn acts_are_in_place()
+    ensures { ActsAreInPlace }
 {}
