@@ -13,6 +13,7 @@ pub mod InPlace
 pub mod Own
 pub mod Tried
 pub mod InOrder
+pub mod Dated
 pub mod Unit
 pub mod Conserved
 pub mod RentsStand

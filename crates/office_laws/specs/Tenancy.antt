@@ -1,5 +1,5 @@
 -- The records of households and the units that they have, in every book that an office can come to.
-use Rattle.std.specs.Prelude.{◌≡◌, ◌≢◌, ◌≤◌, ◌<◌, ℕ, List, Some, None, All}
+use Rattle.std.specs.Prelude.{◌≡◌, ◌≢◌, ◌<◌, ℕ, List, Some, None, All}
 use Rattle.record_history.specs.{declared.records.Record.Record, Records.live_records, Held.AreNumbered}
 use Rattle.tenancy_rules.specs.{Order.first_out_of_order, Occupancy.occupied_unit_on}
 use Rattle.book_rows.specs.Book.{Book}
@@ -16,9 +16,9 @@ pub record IsInOrder (own : List Record) : Type 0 where
 abbrev pub HouseholdsAreInOrder : Type 0
 HouseholdsAreInOrder = (capacity : Capacity) (book : Book) → IsReached capacity book → All IsInOrder (known_of book).households
 
--- on no day through 2099-12-31 do two households have one unit
+-- on no day do two households have one unit
 abbrev pub NoUnitIsShared : Type 0
 NoUnitIsShared = (capacity : Capacity) (book : Book) → IsReached capacity book →
-    (one other day unit : ℕ) → one ≢ other → day ≤ 80353 →
+    (one other day unit : ℕ) → one ≢ other →
     occupied_unit_on (live_records (own_in (known_of book) one)) day ≡ Some unit →
     occupied_unit_on (live_records (own_in (known_of book) other)) day ≢ Some unit

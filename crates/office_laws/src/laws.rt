@@ -46,7 +46,7 @@ pub fn households_are_in_order()
     ensures { HouseholdsAreInOrder }
 {}
 
-/// On no day through 2099-12-31 do two households have one unit. It does nothing.
+/// On no day do two households have one unit. It does nothing.
 pub fn no_unit_is_shared()
     ensures { NoUnitIsShared }
 {}

@@ -1,7 +1,9 @@
 -- On no day do two households have one unit.
-use Rattle.office_laws.proofs.Words.{◌≡◌, ◌≢◌, ◌∙◌, sym, refl, ℕ, ◌<◌, ◌≤◌, inl, inr, arith, true, false, not, List, [], ◌∷◌, ◌++◌, Some, length, AllPairs, ◌==◌, All-filter, AllPairs-filter, Record, is_withdrawal, is_live, live_records, records_of, without, occupied_unit_on, Command, Known, known_of, own_in, change_by, record_of, IsOneOf, IsInOrder, Passed, filter_all, records_cases, option_map_none, rise, nat_tests}
+use Rattle.office_laws.proofs.Words.{Book, Capacity, IsReached, ◌≡◌, ◌≢◌, ◌∙◌, sym, refl, ℕ, ◌<◌, ◌≤◌, inl, inr, arith, true, false, not, List, [], ◌∷◌, ◌++◌, Some, length, AllPairs, ◌==◌, All-filter, AllPairs-filter, Record, is_withdrawal, is_live, live_records, records_of, without, occupied_unit_on, Command, Known, known_of, own_in, change_by, record_of, IsOneOf, IsInOrder, Passed, filter_all, records_cases, option_map_none, rise, nat_tests}
+use Rattle.std.proofs.lemmas.Bool.{cases_lt}
+use Rattle.office_step.specs.Against.{last_day}
 use Rattle.tenancy_rules.proofs.UseLaws.{no_unit_has_two}
-use Rattle.office_laws.proofs.{Inversion.passes, Known.next, Known.by_acts, Own.owned, Unit.moved_out_had, Unit.kept_had}
+use Rattle.office_laws.proofs.{Dated.begin_in_time, Dated.unit_past, Inversion.passes, Known.next, Known.by_acts, Own.owned, Unit.moved_out_had, Unit.kept_had}
 use Rattle.office_laws.proofs.Tried.{Placed, taken_by_none, moved_out, kept, tried}
 use Rattle.office_laws.proofs.InOrder.{own_in_order, in_order_more, live_changed}
 use Rattle.office_laws.proofs.laws.no_unit_is_shared.Goals as goal
@@ -72,9 +74,20 @@ apart_more known most today asked free orders apart one other day unit differs b
     (own_apart known most today asked r free is (orders r.household) apart other day unit (λ is_other. differs (same ∙ is_other)) by on)
     (λ r' is' same' taken. differs (cc (same, is, same', is'))))
 
-pub returns : goal.returns
-returns c capacity =
+-- on no day through 2099-12-31
+apart_in_time : (capacity : Capacity) (book : Book) → IsReached capacity book → Apart (own_in (known_of book))
+apart_in_time capacity =
     by_acts (λ known. Apart (own_in known)) capacity
     (λ one other day unit differs by on taken. absurd (omega (arith, has_there [] one day unit on)))
     (λ book rows reached appends apart.
     apart_more (known_of book) capacity.acts rows.act.day appends.call.command (passes capacity book rows appends) (own_in_order capacity book reached) apart)
+
+-- ---- and on no later day
+
+pub returns : goal.returns
+returns c capacity book reached one other day unit differs on taken = elim (cases_lt last_day day) [
+  | inr by ↦ apart_in_time capacity book reached one other day unit differs by on taken
+  | inl past ↦ apart_in_time capacity book reached one other last_day unit differs (omega arith)
+      (sym (unit_past (own_in (known_of book) one) day (begin_in_time capacity book reached one) (omega arith)) ∙ on)
+      (sym (unit_past (own_in (known_of book) other) day (begin_in_time capacity book reached other) (omega arith)) ∙ taken)
+]
