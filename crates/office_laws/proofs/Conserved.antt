@@ -35,7 +35,7 @@ quiet own more count lines later given (Some plan) (Some closing) there settled 
 
 -- ---- a closing
 
-next_closed : (first month : ℕ) (closing : Option Closed) → test.wrong_month (next_to_close first (option_map (λ closing. closing.month) closing)) month ≡ None →
+pub next_closed : (first month : ℕ) (closing : Option Closed) → test.wrong_month (next_to_close first (option_map (λ closing. closing.month) closing)) month ≡ None →
     option_map_or (λ closing. closing.month + 1) closing first ≡ month
 next_closed first month closing right = grind (arith, common_steps, nat_tests, right)
 

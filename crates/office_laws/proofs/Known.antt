@@ -6,7 +6,7 @@ use Rattle.office_laws.proofs.Grown.{plan-more, plan_act-more, units-more, appli
 use Rattle.office_laws.proofs.Changed.{waiting-more, households-longer, households-held, requests-longer, requests-said}
 
 -- no act gave a plan where none is named as the one that did
-unplanned : (acts : List Act) → plan_act acts ≡ None → plan_of acts ≡ None
+pub unplanned : (acts : List Act) → plan_act acts ≡ None → plan_of acts ≡ None
 unplanned [] none = refl
 unplanned (act ∷ acts) none = grind (arith, common_steps, none, unplanned acts)
 

@@ -19,3 +19,4 @@ pub mod Conserved
 pub mod RentsStand
 pub mod RentsDone
 pub mod Replay
+pub mod Upheld

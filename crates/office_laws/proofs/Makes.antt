@@ -29,27 +29,31 @@ lines_are P known none closing (Command.Close close) =
     elim known.plan as (λ plan. P (option_map_or (lines_from known close.month) plan [])) [ None ↦ none | Some plan ↦ closing close.month plan ]
 lines_are P known none closing _ = none
 
--- they name the act
-module _ (own : ℕ → List Record) (count act : ℕ) where
+-- they name the act, and the month that it closes
+module _ (own : ℕ → List Record) (count act closed : ℕ) where
   abbrev Names : Line → Type 0
-  Names line = line.act ≡ act
+  Names line = (line.act ≡ act) × (line.month ≡ closed)
 
-  month_names : (closed : ℕ) (before : Option ℕ) (month : ℕ) → All Names (lines_for own count act closed before month)
-  month_names closed before month =
+  month_names : (before : Option ℕ) (month : ℕ) → All Names (lines_for own count act closed before month)
+  month_names before month =
       all_pieces Names (λ h. month_lines act closed h month (known_before before (own h)) (as_of act (own h))) 1 count
-      (λ h low high. each_line Names act closed h month (known_before before (own h)) (as_of act (own h)) (λ run. refl))
+      (λ h low high. each_line Names act closed h month (known_before before (own h)) (as_of act (own h)) (λ run. (refl, refl)))
 
-  closing_names : (closed first last : ℕ) → All Names (placed 1 (closing_lines own count closed first last act))
-  closing_names closed first last =
+  closing_names : (first last : ℕ) → All Names (placed 1 (closing_lines own count closed first last act))
+  closing_names first last =
       all_placed Names (λ line place is. is) 1 (closing_lines own count closed first last act)
       (All-append Names (adjustment_lines own count act closed first last) (lines_for own count act closed None closed)
-      (all_earlier own count act closed first last Names (λ month low high. month_names closed (Some last) month))
-      (month_names closed None closed))
+      (all_earlier own count act closed first last Names (λ month low high. month_names (Some last) month))
+      (month_names None closed))
+
+pub lines_name_month : (known : Known) (month : ℕ) (plan : Plan) → All (λ line. (line.act ≡ known.count + 1) × (line.month ≡ month)) (lines_from known month plan)
+lines_name_month known month plan =
+    closing_names (own_in known) (length known.households) (known.count + 1) month plan.first (last_close known)
 
 pub lines_name_act : (known : Known) (asked : Command) → All (λ line. line.act ≡ known.count + 1) (lines_of known asked)
 lines_name_act known =
-    lines_are (All (λ line. line.act ≡ known.count + 1)) known (All-nil (λ line. line.act ≡ known.count + 1)) (λ month plan.
-    closing_names (own_in known) (length known.households) (known.count + 1) month plan.first (last_close known))
+    lines_are (All (λ line. line.act ≡ known.count + 1)) known (All-nil (λ line. line.act ≡ known.count + 1)) (λ month plan k d within.
+    (lines_name_month known month plan k d within).0)
 
 -- and have the places 1, 2 and so on
 abbrev ArePlaced : ℕ → List Line → Type 0

@@ -83,7 +83,7 @@ pub reached_later : (capacity : Capacity) (book later : Book) → IsReached capa
 reached_later capacity book _ reached later_same = reached
 reached_later capacity book _ reached (later_more {later} {rows} is appends) = reached_more (reached_later capacity book later reached is) appends
 
-still_there : (capacity : Capacity) (book later : Book) → IsLater capacity book later → (row : ActRow) → Contains book.acts row → Contains later.acts row
+pub still_there : (capacity : Capacity) (book later : Book) → IsLater capacity book later → (row : ActRow) → Contains book.acts row → Contains later.acts row
 still_there capacity book _ later_same row there = there
 still_there capacity book _ (later_more {later} {rows} is appends) row there =
     Contains-append_left later.acts (rows.act ∷ []) row (still_there capacity book later is row there)

@@ -1,8 +1,9 @@
 -- Each act of a book at its place: the book that it found, and the rows that it made.
 use Rattle.std.specs.Prelude.{ℕ, ◌==◌, nat_lt, Some, ◌≡◌, Contains, filter, find}
-use Rattle.book_rows.specs.{declared.rows.ActRow.ActRow, declared.rows.Batch.Batch, declared.command.Command.Command, Book.Book}
+use Rattle.book_rows.specs.{declared.rows.ActRow.ActRow, declared.rows.Batch.Batch, declared.command.Command.Command, Book.Book, Book.appended}
 use Rattle.command_forms.specs.Commands.{command_in}
 use Rattle.office_step.specs.{declared.call.Capacity.Capacity, Known.Known, Known.known_of, Step.IsAppended, Step.IsReached}
+use Rattle.office_laws.specs.History.{IsLater}
 
 -- the book before an act: the rows of earlier acts
 abbrev pub book_before : Book → ℕ → Book
@@ -20,10 +21,11 @@ rows_by book row = record {
   lines = filter (λ line. line.act == row.n) book.lines;
 }
 
--- an office comes to the book before the act, and appends just the act's rows to it
+-- an office comes to the book before the act, appends just the act's rows to it, and comes from there to the book
 pub record IsInPlace (capacity : Capacity) (book : Book) (row : ActRow) : Type 0 where
   pub reached : IsReached capacity (book_before book row.n)
   pub appends : IsAppended capacity (book_before book row.n) (rows_by book row)
+  pub later : IsLater capacity (appended (book_before book row.n) (rows_by book row)) book
 
 -- so it is with every act of a book
 abbrev pub ActsAreInPlace : Type 0

@@ -9,5 +9,6 @@ pub mod Tenancy
 pub mod Taken
 pub mod Conserved
 pub mod Closing
+pub mod Upheld
 pub mod Replay
 pub mod InTurn

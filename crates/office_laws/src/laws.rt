@@ -2,6 +2,7 @@ ghost use Rattle.office_laws.specs.Accepted.{AppendedIsAccepted, NewIsAppended};
 ghost use Rattle.office_laws.specs.Kept.{BooksAreKept, BatchesFollow};
 ghost use Rattle.office_laws.specs.History.{RowsCameByActs};
 ghost use Rattle.office_laws.specs.InPlace.{ActsAreInPlace};
+ghost use Rattle.office_laws.specs.Upheld.{BooksAreUpheld};
 ghost use Rattle.office_laws.specs.Replay.{ActsGiveTheBook, RedoneIsAppended};
 ghost use Rattle.office_laws.specs.Replies.{RepliesStay, RepeatsAreAnswered, FirstRepliesAreGivenAgain};
 ghost use Rattle.office_laws.specs.Tenancy.{HouseholdsAreInOrder, NoUnitIsShared};
@@ -94,3 +95,16 @@ pub fn refusals_stand_in_order()
 pub fn acts_are_in_place()
     ensures { ActsAreInPlace }
 {}
+
+/// What every book of an office upholds: its lines total what is certified and name their records; its closings follow each
+/// other, each with rents done; its households' records are in order, and no two have one unit; each admission and each
+/// transfer took the candidate who was next; and each act's call gets its first reply again. It does nothing.
+pub fn books_are_upheld()
+    ensures { BooksAreUpheld }
+{
+    rows_came_by_acts();
+    closings_are_in_order();
+    lines_total_what_is_due();
+    no_unit_is_shared();
+    next_is_taken();
+}
