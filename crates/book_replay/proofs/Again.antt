@@ -4,7 +4,7 @@ use Rattle.book_rows.specs.declared.rows.Table.{Table}
 use Rattle.command_forms.specs.Commands.{command_in}
 use Rattle.book_replay.proofs.{Gathered.act_more, Gathered.gathered_all, Compared.past, Compared.drop_at, Reached.records_decide, Reached.lines_decide}
 use Rattle.office_step.proofs.Passed.{or_none}
-use Rattle.office_laws.proofs.Replay.{rows_appended}
+use Rattle.office_laws.proofs.Replay.{replayed_is_appended}
 
 -- ---- what is told by one act
 
@@ -25,21 +25,6 @@ no_difference tables row rows none =
       lines = (pointwise_decides lines_decide rows.lines (lines_by row.n tables.lines)).0 lines.0;
     }
 
--- what is done again is appended, where its row is the given one
-appended_again : (capacity : Capacity) (book : Book) (row : ActRow) (rows : Batch) → replayed capacity book row ≡ Some rows → rows.act ≡ row →
-    IsAppended capacity book rows
-appended_again capacity book row rows is same =
-    option_and_then_some (λ call. rows_in (step book capacity row.session row.day call)) (call_of row) rows is (λ call is_call found.
-    option_and_then_some _ (command_in row.body) call is_call (λ asked read fits.
-    (let both = cond_some (is_fit_call (record { clerk = row.clerk; request = row.request; command = asked })) _ call fits in
-    record {
-      call = call;
-      fit = rw (← both.1) both.0;
-      read = rw (same, ← both.1) read;
-      same = subst (λ (r : ActRow). step book capacity r.session r.day call ≡ appends rows) (sym same)
-          (rows_appended (step book capacity row.session row.day call) rows found);
-    })))
-
 -- ---- one act after another
 
 pub replay_begins : ReplayBegins
@@ -48,7 +33,7 @@ replay_begins capacity tables = record { reached = reached_empty; acts = refl; r
 pub replay_goes_on : AppendedIsAccepted → ReplayGoesOn
 replay_goes_on accepted capacity tables count book row rows so_far is redone none =
     let own : HasRowsOf tables row rows = no_difference tables row rows none in
-    let more : IsAppended capacity book rows = appended_again capacity book row rows redone own.act in
+    let more : IsAppended capacity book rows = replayed_is_appended capacity book row rows redone own.act in
     let within = slice_get_within tables.acts count row is in
     let whole = length-take count tables.acts in
     let number : row.n ≡ count + 1 =

@@ -1,8 +1,8 @@
 -- Every record begins by 2099-12-31, so from then on a household has the unit that it has on that day.
-use Rattle.office_laws.proofs.Words.{common_steps, nat_tests, ◌≡◌, ◌∙◌, sym, ap, refl, ℕ, ◌+◌, ◌≤◌, ◌==◌, arith, true, List, [], ◌∷◌, ◌++◌, Option, Some, None, All, filter, nat_le, le-leb, All-filter, All-push, Record, is_live, live_records, latest, records_of, occupied_unit_on, unit_kept, Book, Capacity, Command, HouseholdAct, HouseholdChange, Heading, Known, known_of, own_in, record_at, record_of, heading_for, withdrawal_heading, correction_heading, new_heading, IsReached, Passed, or_none, IsUnder, IsHeaded, made_is_headed, under_own, option_map_some, filter_all, option_and_then, same_Some}
+use Rattle.office_laws.proofs.Words.{common_steps, nat_tests, ◌≡◌, ◌∙◌, sym, ap, refl, ℕ, ◌≤◌, ◌==◌, arith, true, List, Some, None, All, filter, nat_le, le-leb, All-filter, All-push, Record, is_live, live_records, latest, occupied_unit_on, unit_kept, Book, Capacity, Command, HouseholdAct, HouseholdChange, Heading, Known, known_of, own_in, record_at, record_of, heading_for, withdrawal_heading, correction_heading, IsReached, Passed, or_none, IsUnder, IsHeaded, made_is_headed, under_own, option_map_some, filter_all, option_and_then, same_Some}
 use Rattle.office_step.specs.Refusals as test
-use Rattle.office_step.specs.Against.{last_day, last_day_lived, day_range_in, from_range}
-use Rattle.office_laws.proofs.{Inversion.passes, Known.next, Known.by_acts, Own.owned, Tried.find_holds}
+use Rattle.office_step.specs.Against.{last_day, last_day_lived, day_range_in}
+use Rattle.office_laws.proofs.{Inversion.passes, Known.by_acts, Own.owned, Tried.find_holds}
 
 in_range : (first last day : ℕ) → test.day_range first last day ≡ None → (first ≤ day) × (day ≤ last)
 in_range first last day none = grind (arith, common_steps, nat_tests, none)

@@ -1,5 +1,5 @@
 -- Each act of a book found the book of the acts before it, and appended its rows there.
-use Rattle.office_laws.proofs.Words.{common_steps, nat_tests, ◌≡◌, ◌∙◌, sym, ap, subst, ℕ, ◌<◌, ◌≤◌, inl, inr, arith, List, [], ◌∷◌, ◌++◌, Some, length, option_to_list, All, Contains, filter, append-nil, filter-append, Contains-push_cases, ActRow, Batch, Book, IsBatch, IsBefore, appended, Record, Line, Command, command_in, same_Some, Capacity, IsAppended, IsReached, IsLater, later_same, later_more, reached_empty, reached_more, filter_all, filter_none, find_last, filter_last, find_earlier, filter_earlier, All-IfSome, Known, known_of}
+use Rattle.office_laws.proofs.Words.{common_steps, nat_tests, ◌≡◌, ◌∙◌, sym, ap, subst, ℕ, ◌<◌, ◌≤◌, inl, inr, arith, List, [], ◌∷◌, ◌++◌, option_to_list, All, Contains, filter, append-nil, filter-append, Contains-push_cases, ActRow, Batch, Book, IsBatch, IsBefore, appended, Record, Line, Command, same_Some, Capacity, IsAppended, IsReached, IsLater, later_same, later_more, reached_empty, reached_more, filter_all, filter_none, find_last, filter_last, find_earlier, filter_earlier, All-IfSome, Known, known_of}
 use Rattle.std.proofs.Common.{nat_lt, subst₂}
 use Rattle.office_laws.specs.InPlace.{book_before, rows_by, IsInPlace, ActsAreInPlace, OfEachAct}
 use Rattle.office_laws.proofs.{Inversion.accepted, Reached.books_are_kept, Reached.batches_follow, Replies.numbered_there, Replies.its_own}

@@ -2,7 +2,7 @@
 use Rattle.office_laws.proofs.Words.{Accepted, subst, common_steps, ◌++◌, ◌≡◌, ◌∙◌, sym, ap, ap₂, refl, ℕ, arith, true, List, [], ◌∷◌, Option, Some, None, ActRow, Batch, Book, body_of, command_in, Call, Capacity, Refusal, known_of, first_of, repeated, tests_of, first_of-around, Passed, passed, last_act_day, day_after, act_day, refusal_of, rows_for, step, appends, unless_refused, unless_repeated, is_fit_call, IsAppended, AppendedIsAccepted}
 
 -- what is appended is neither a repeat nor refused
-not_refused : (book : Book) (found : Option ActRow) (refused : Option Refusal) (own rows : Batch) →
+pub not_refused : (book : Book) (found : Option ActRow) (refused : Option Refusal) (own rows : Batch) →
     unless_repeated book found (unless_refused refused own) ≡ appends rows → (found ≡ None) × (refused ≡ None) × (own ≡ rows)
 not_refused book None None own rows same = (refl, refl, cc)
 not_refused book None (Some refusal) own rows same = absurd (cc)

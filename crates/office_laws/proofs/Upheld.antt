@@ -1,11 +1,11 @@
 -- What every book of an office upholds, of all that it holds.
-use Rattle.office_laws.proofs.Words.{Done, again, subst, ◌≤◌, All-nil, IsLater, get_or_default, option_or, Plan, common_steps, nat_tests, ◌≡◌, ◌∙◌, sym, ap, refl, ℕ, ◌+◌, ◌<◌, arith, true, ◌==◌, List, [], ◌∷◌, ◌++◌, Option, Some, None, option_map, option_map_or, IfSome, length, All, Contains, get_or, filter, option_to_list, append-nil, eq-eqb, All-contains, Contains-push, filter_map_more, places_push, option_map_none, option_or-none, Record, as_of, Line, ActRow, Batch, Book, appended, CloseAct, Command, command_in, Call, Capacity, Act, acts_of, plan_in, plan_of, closing_of, Closed, last_in, Known, known_of, own_in, last_close, lines_of, next_to_close, is_plan, HasItsRents, IsAppended, IsReached, reached_empty, reached_more, Past, RowsCameByActs, Passed}
+use Rattle.office_laws.proofs.Words.{Done, again, subst, ◌≤◌, All-nil, IsLater, get_or_default, option_or, Plan, ◌≡◌, ◌∙◌, sym, ap, refl, ℕ, ◌+◌, ◌<◌, arith, true, ◌==◌, List, [], ◌∷◌, ◌++◌, Option, Some, option_map_or, IfSome, length, All, Contains, get_or, option_to_list, append-nil, eq-eqb, All-contains, Contains-push, filter_map_more, places_push, option_map_none, option_or-none, Record, as_of, Line, ActRow, Batch, Book, appended, CloseAct, Command, command_in, Capacity, acts_of, plan_in, plan_of, closing_of, Closed, last_in, known_of, own_in, last_close, is_plan, IsAppended, IsReached, reached_empty, reached_more, Past, RowsCameByActs}
 use Rattle.std.proofs.Common.{subst₂}
 use Rattle.std.proofs.lemmas.List.Elements.{All-contains_itself}
 use Rattle.list_laws.proofs.Filters.{All-passing}
 use Rattle.voucher_core.specs.Naming.{NamesItsPair, NameTheirPairs}
-use Rattle.office_laws.specs.{Conserved.LinesTotalWhatIsDue, Taken.NextIsTaken, Taken.TakesNext, Tenancy.NoUnitIsShared, Upheld.BooksAreUpheld, Closing.ClosingsNameTheirPairs, InPlace.book_before, InPlace.rows_by, InPlace.IsInPlace, InPlace.OfEachAct, Upheld.Closes, Upheld.NamesItsRecords, Upheld.closings_of, Upheld.FollowFrom, Upheld.HasRentsDone, Upheld.AnswersAgain}
-use Rattle.office_laws.proofs.{Inversion.accepted, Inversion.passes, Makes.lines_from, Makes.lines_name_month, Reached.acts_appended, Reached.act_made, Reached.books_are_kept, Reached.batches_follow, Reached.plan_there, Grown.plan-more, Known.unplanned, Replies.still_there, Replies.replies_stay, Replies.repeats_are_answered, InPlace.acts_are_in_place, InPlace.of_each_act, Conserved.next_closed, RentsDone.rents_are_done_at_closings, InOrder.households_are_in_order}
+use Rattle.office_laws.specs.{Conserved.LinesTotalWhatIsDue, Taken.NextIsTaken, Taken.TakesNext, Tenancy.NoUnitIsShared, Upheld.BooksAreUpheld, Closing.ClosingsNameTheirPairs, InPlace.book_before, InPlace.rows_by, InPlace.IsInPlace, Upheld.NamesItsRecords, Upheld.closings_of, Upheld.FollowFrom, Upheld.HasRentsDone, Upheld.AnswersAgain}
+use Rattle.office_laws.proofs.{Inversion.accepted, Inversion.passes, Makes.lines_name_month, Reached.acts_appended, Reached.act_made, Reached.books_are_kept, Reached.batches_follow, Reached.plan_there, Grown.plan-more, Known.unplanned, Replies.still_there, Replies.replies_stay, Replies.repeats_are_answered, InPlace.acts_are_in_place, InPlace.of_each_act, Conserved.next_closed, RentsDone.rents_are_done_at_closings, InOrder.households_are_in_order}
 
 -- ---- lines
 

@@ -1,10 +1,10 @@
 -- What every book of an office upholds, of all that it holds.
 use Rattle.std.specs.Prelude.{◌≡◌, ◌≤◌, ◌<◌, ◌+◌, ⊤, ℕ, pos, Some, IfSome, List, [], length, slice_index_or, filter_map, All, Contains}
-use Rattle.record_history.specs.{declared.records.Record.Record, Records.as_of}
+use Rattle.record_history.specs.{Records.as_of}
 use Rattle.voucher_core.specs.{declared.line.Line.Line, Lines.paid, Naming.NamesItsPair}
-use Rattle.book_rows.specs.{declared.rows.ActRow.ActRow, declared.closings.CloseAct.CloseAct, declared.command.Command.Command, Book.Book, Book.appended}
+use Rattle.book_rows.specs.{declared.rows.ActRow.ActRow, declared.command.Command.Command, Book.Book, Book.appended}
 use Rattle.command_forms.specs.Commands.{command_in}
-use Rattle.office_step.specs.{declared.call.Call.Call, declared.call.Capacity.Capacity, declared.known.Closed.Closed, Acts.Act, Acts.acts_of, Acts.closing_of, Known.Known, Known.known_of, Known.own_in, Made.last_close, Reply.done_of, Step.step, Step.again, Step.IsReached}
+use Rattle.office_step.specs.{declared.call.Call.Call, declared.call.Capacity.Capacity, declared.known.Closed.Closed, Acts.acts_of, Acts.closing_of, Known.Known, Known.known_of, Known.own_in, Made.last_close, Reply.done_of, Step.step, Step.again, Step.IsReached}
 use Rattle.office_laws.specs.{Closing.HasItsRents, Conserved.due_for, InPlace.book_before, InPlace.rows_by, InPlace.OfEachAct, Replies.IsOf, Taken.TakesNext, Tenancy.IsInOrder, Tenancy.AreApart}
 
 -- ---- lines

@@ -3,7 +3,7 @@ ghost use Rattle.office_laws.specs.Kept.{BooksAreKept, BatchesFollow};
 ghost use Rattle.office_laws.specs.History.{RowsCameByActs};
 ghost use Rattle.office_laws.specs.InPlace.{ActsAreInPlace};
 ghost use Rattle.office_laws.specs.Upheld.{BooksAreUpheld};
-ghost use Rattle.office_laws.specs.Replay.{ActsGiveTheBook, RedoneIsAppended};
+ghost use Rattle.office_laws.specs.Replay.{ActsGiveTheBook, AppendedIsReplayed, ReplayedIsAppended, RowsAreOfTheSession};
 ghost use Rattle.office_laws.specs.Replies.{RepliesStay, RepeatsAreAnswered, FirstRepliesAreGivenAgain};
 ghost use Rattle.office_laws.specs.Tenancy.{HouseholdsAreInOrder, NoUnitIsShared};
 ghost use Rattle.office_laws.specs.Taken.{NextIsTaken};
@@ -77,11 +77,13 @@ pub fn rows_came_by_acts()
     ensures { RowsCameByActs }
 {}
 
-/// A book is what its acts give when they are done again from nothing, and what doing an act again appends is appended. It
-/// does nothing.
+/// A book is what its acts give when they are done again from nothing; what was appended is given again, and the other way
+/// round; and the rows of a call have its session. It does nothing.
 pub fn acts_give_the_book()
     ensures whole { ActsGiveTheBook }
-    ensures each { RedoneIsAppended }
+    ensures each { AppendedIsReplayed }
+    ensures back { ReplayedIsAppended }
+    ensures session { RowsAreOfTheSession }
 {}
 
 /// The refusal of a call is the one of the least number that stands: each test refuses under the number of its place. It
