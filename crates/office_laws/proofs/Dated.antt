@@ -4,7 +4,7 @@ use Rattle.office_step.specs.Refusals as test
 use Rattle.office_step.specs.Against.{last_day, last_day_lived, day_range_in}
 use Rattle.office_laws.proofs.{Inversion.passes, Known.by_acts, Own.owned, Tried.find_holds}
 
-in_range : (first last day : ℕ) → test.day_range first last day ≡ None → (first ≤ day) × (day ≤ last)
+pub in_range : (first last day : ℕ) → test.day_range first last day ≡ None → (first ≤ day) × (day ≤ last)
 in_range first last day none = grind (arith, common_steps, nat_tests, none)
 
 abbrev BeginsInTime : Record → Type 0

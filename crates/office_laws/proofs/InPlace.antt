@@ -92,10 +92,10 @@ acts_are_in_place capacity _ (reached_more {book} {rows} reached appends) row th
 -- ---- what holds of each act that is appended
 
 -- what holds of each act when it is appended holds of each act of a book
-pub of_each_act : (Holds : Known → ActRow → Command → Type 0) (capacity : Capacity) →
-    ((book : Book) (rows : Batch) → IsReached capacity book → (appends : IsAppended capacity book rows) → Holds (known_of book) rows.act appends.call.command) →
+pub of_each_act : (Holds : Known → Batch → Command → Type 0) (capacity : Capacity) →
+    ((book : Book) (rows : Batch) → IsReached capacity book → (appends : IsAppended capacity book rows) → Holds (known_of book) rows appends.call.command) →
     (book : Book) → IsReached capacity book → OfEachAct book Holds
 of_each_act Holds capacity each book reached row asked there read =
     let place : IsInPlace capacity book row = acts_are_in_place capacity book reached row there in
-    subst (Holds (known_of (book_before book row.n)) row) (same_Some place.appends.call.command asked (sym place.appends.read ∙ read))
+    subst (Holds (known_of (book_before book row.n)) (rows_by book row)) (same_Some place.appends.call.command asked (sym place.appends.read ∙ read))
     (each (book_before book row.n) (rows_by book row) place.reached place.appends)

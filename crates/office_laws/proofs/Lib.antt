@@ -14,6 +14,8 @@ pub mod Own
 pub mod Tried
 pub mod InOrder
 pub mod Dated
+pub mod Lived
+pub mod Terms
 pub mod Unit
 pub mod Conserved
 pub mod RentsStand

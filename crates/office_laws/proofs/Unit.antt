@@ -2,12 +2,12 @@
 use Rattle.office_laws.proofs.Words.{◌≡◌, refl, subst, ℕ, ◌≤◌, arith, Bool, true, false, List, [], ◌∷◌, ◌++◌, Option, Some, None, IfSome, IsSomeAnd, filter, if◌then◌else◌, option_and_then, nat_le, and_parts, leb-true, nat_tests, append-nil, All-contains, Contains-push, filter-append, pair_comes_before, IsLatest, latest-is, pairs_order, Record, comes_before, later, latest, NumbersRise, may_begin, is_transfer, is_move_out, record_before, is_in_order, first_out_of_order, unit_kept, occupied_unit_on, common_steps}
 use Rattle.tenancy_rules.proofs.OrderLaws.{in_order, same_record, neither, followed}
 
-abbrev has_begun : ℕ → Record → Bool
+abbrev pub has_begun : ℕ → Record → Bool
 has_begun day r = nat_le r.from day
 
 -- ---- one record more
 
-latest-more : (live : List Record) (r : Record) (day : ℕ) →
+pub latest-more : (live : List Record) (r : Record) (day : ℕ) →
     latest (filter (has_begun day) (live ++ r ∷ [])) ≡
     (if nat_le r.from day then later (latest (filter (has_begun day) live)) r else latest (filter (has_begun day) live))
 latest-more live r day = grind (arith, common_steps, append-nil, filter-append (has_begun day) live (r ∷ []))

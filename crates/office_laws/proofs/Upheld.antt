@@ -4,8 +4,8 @@ use Rattle.std.proofs.Common.{subst₂}
 use Rattle.std.proofs.lemmas.List.Elements.{All-contains_itself}
 use Rattle.list_laws.proofs.Filters.{All-passing}
 use Rattle.voucher_core.specs.Naming.{NamesItsPair, NameTheirPairs}
-use Rattle.office_laws.specs.{Conserved.LinesTotalWhatIsDue, Taken.NextIsTaken, Taken.TakesNext, Tenancy.NoUnitIsShared, Upheld.BooksAreUpheld, Closing.ClosingsNameTheirPairs, InPlace.book_before, InPlace.rows_by, InPlace.IsInPlace, Upheld.NamesItsRecords, Upheld.closings_of, Upheld.FollowFrom, Upheld.HasRentsDone, Upheld.AnswersAgain}
-use Rattle.office_laws.proofs.{Inversion.accepted, Inversion.passes, Makes.lines_name_month, Reached.acts_appended, Reached.act_made, Reached.books_are_kept, Reached.batches_follow, Reached.plan_there, Grown.plan-more, Known.unplanned, Replies.still_there, Replies.replies_stay, Replies.repeats_are_answered, InPlace.acts_are_in_place, InPlace.of_each_act, Conserved.next_closed, RentsDone.rents_are_done_at_closings, InOrder.households_are_in_order}
+use Rattle.office_laws.specs.{Conserved.LinesTotalWhatIsDue, Taken.NextIsTaken, Taken.TakesNext, Tenancy.NoUnitIsShared, Terms.MeetsTerms, Upheld.BooksAreUpheld, Closing.ClosingsNameTheirPairs, InPlace.book_before, InPlace.rows_by, InPlace.IsInPlace, Upheld.NamesItsRecords, Upheld.closings_of, Upheld.FollowFrom, Upheld.HasRentsDone, Upheld.AnswersAgain}
+use Rattle.office_laws.proofs.{Inversion.accepted, Inversion.passes, Makes.lines_name_month, Reached.acts_appended, Reached.act_made, Reached.books_are_kept, Reached.batches_follow, Reached.plan_there, Grown.plan-more, Known.unplanned, Replies.still_there, Replies.replies_stay, Replies.repeats_are_answered, InPlace.acts_are_in_place, InPlace.of_each_act, Conserved.next_closed, RentsDone.rents_are_done_at_closings, InOrder.households_are_in_order, Terms.acts_meet_their_terms}
 
 -- ---- lines
 
@@ -135,9 +135,10 @@ books_are_upheld came pairs totals apart taken capacity book reached = record {
   total = totals capacity book reached;
   named = lines_named came pairs capacity book reached;
   closings = closed_in_turn capacity book reached;
-  rents = of_each_act (λ known row asked. HasRentsDone known asked) capacity (rents_done capacity) book reached;
+  rents = of_each_act (λ known rows asked. HasRentsDone known asked) capacity (rents_done capacity) book reached;
   order = households_are_in_order capacity book reached;
   apart = apart capacity book reached;
-  next = of_each_act (λ known row asked. TakesNext known asked) capacity (taken capacity) book reached;
+  next = of_each_act (λ known rows asked. TakesNext known asked) capacity (taken capacity) book reached;
+  terms = of_each_act MeetsTerms capacity (acts_meet_their_terms capacity) book reached;
   replies = answers_again capacity book reached;
 }

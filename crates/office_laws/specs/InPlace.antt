@@ -31,7 +31,8 @@ pub record IsInPlace (capacity : Capacity) (book : Book) (row : ActRow) : Type 0
 abbrev pub ActsAreInPlace : Type 0
 ActsAreInPlace = (capacity : Capacity) (book : Book) → IsReached capacity book → (row : ActRow) → Contains book.acts row → IsInPlace capacity book row
 
--- it holds of each act of the book, of what was known before it and of its command
-abbrev pub OfEachAct : Book → (Known → ActRow → Command → Type 0) → Type 0
+-- it holds of each act of the book: of what was known before it, of the rows that it made and of its command
+abbrev pub OfEachAct : Book → (Known → Batch → Command → Type 0) → Type 0
 OfEachAct book Holds =
-    (row : ActRow) (asked : Command) → Contains book.acts row → command_in row.body ≡ Some asked → Holds (known_of (book_before book row.n)) row asked
+    (row : ActRow) (asked : Command) → Contains book.acts row → command_in row.body ≡ Some asked →
+    Holds (known_of (book_before book row.n)) (rows_by book row) asked

@@ -7,6 +7,7 @@ pub mod Replies
 pub mod AtHand
 pub mod Tenancy
 pub mod Taken
+pub mod Terms
 pub mod Conserved
 pub mod Closing
 pub mod Upheld

@@ -5,7 +5,7 @@ use Rattle.voucher_core.specs.{declared.line.Line.Line, Lines.paid, Naming.Names
 use Rattle.book_rows.specs.{declared.rows.ActRow.ActRow, declared.command.Command.Command, Book.Book, Book.appended}
 use Rattle.command_forms.specs.Commands.{command_in}
 use Rattle.office_step.specs.{declared.call.Call.Call, declared.call.Capacity.Capacity, declared.known.Closed.Closed, Acts.acts_of, Acts.closing_of, Known.Known, Known.known_of, Known.own_in, Made.last_close, Reply.done_of, Step.step, Step.again, Step.IsReached}
-use Rattle.office_laws.specs.{Closing.HasItsRents, Conserved.due_for, InPlace.book_before, InPlace.rows_by, InPlace.OfEachAct, Replies.IsOf, Taken.TakesNext, Tenancy.IsInOrder, Tenancy.AreApart}
+use Rattle.office_laws.specs.{Closing.HasItsRents, Conserved.due_for, InPlace.book_before, InPlace.rows_by, InPlace.OfEachAct, Replies.IsOf, Taken.TakesNext, Tenancy.IsInOrder, Tenancy.AreApart, Terms.MeetsTerms}
 
 -- ---- lines
 
@@ -58,10 +58,11 @@ pub record IsUpheld (capacity : Capacity) (book : Book) : Type 0 where
       paid household month book.lines ≡ pos (due_for (known_of book).plan (known_of book).closing (own_in (known_of book) household) month)
   pub named : All (NamesItsRecords book) book.lines
   pub closings : IfSome (known_of book).plan (λ plan. FollowFrom plan.first (closings_of book))
-  pub rents : OfEachAct book (λ known row asked. HasRentsDone known asked)
+  pub rents : OfEachAct book (λ known rows asked. HasRentsDone known asked)
   pub order : All IsInOrder (known_of book).households
   pub apart : AreApart (known_of book)
-  pub next : OfEachAct book (λ known row asked. TakesNext known asked)
+  pub next : OfEachAct book (λ known rows asked. TakesNext known asked)
+  pub terms : OfEachAct book MeetsTerms
   pub replies : (row : ActRow) → Contains book.acts row → AnswersAgain capacity book row
 
 abbrev pub BooksAreUpheld : Type 0

@@ -7,6 +7,7 @@ ghost use Rattle.office_laws.specs.Replay.{ActsGiveTheBook, AppendedIsReplayed, 
 ghost use Rattle.office_laws.specs.Replies.{RepliesStay, RepeatsAreAnswered, FirstRepliesAreGivenAgain};
 ghost use Rattle.office_laws.specs.Tenancy.{HouseholdsAreInOrder, NoUnitIsShared};
 ghost use Rattle.office_laws.specs.Taken.{NextIsTaken};
+ghost use Rattle.office_laws.specs.Terms.{ActsMeetTheirTerms};
 ghost use Rattle.office_laws.specs.Conserved.{LinesAreSettled, LinesTotalWhatIsDue};
 ghost use Rattle.office_laws.specs.Closing.{KnownAsOfStays, ClosingsNameTheirPairs, RentsAreDoneAtClosings};
 ghost use Rattle.office_laws.specs.After.{KnownAfter};
@@ -57,6 +58,13 @@ pub fn next_is_taken()
     ensures { NextIsTaken }
 {}
 
+/// An act of a household saw all of its records; a change came about, was told and worked on in that order by the act's day;
+/// an admission and a resumed certification bring assistance; a correction keeps kind, unit and dates; and a household that
+/// moves out is paid through its last day, and no longer. It does nothing.
+pub fn acts_meet_their_terms()
+    ensures { ActsMeetTheirTerms }
+{}
+
 /// After any acts the lines of every household and month total what was certified for it at the last closing. It does
 /// nothing.
 pub fn lines_total_what_is_due()
@@ -100,7 +108,8 @@ pub fn acts_are_in_place()
 
 /// What every book of an office upholds: its lines total what is certified and name their records; its closings follow each
 /// other, each with rents done; its households' records are in order, and no two have one unit; each admission and each
-/// transfer took the candidate who was next; and each act's call gets its first reply again. It does nothing.
+/// transfer took the candidate who was next; each act met its terms; and its call gets its first reply again. It does
+/// nothing.
 pub fn books_are_upheld()
     ensures { BooksAreUpheld }
 {

@@ -9,8 +9,8 @@ pub use at_hand::{
     within_room,
 };
 pub use laws::{
-    acts_are_in_place, acts_give_the_book, appended_is_accepted, batches_follow, books_are_kept, books_are_upheld,
-    closings_are_in_order, households_are_in_order, known_after_each_act, lines_total_what_is_due,
-    next_is_taken, no_unit_is_shared, refusals_stand_in_order, repeats_are_answered,
-    rows_came_by_acts,
+    acts_are_in_place, acts_give_the_book, acts_meet_their_terms, appended_is_accepted,
+    batches_follow, books_are_kept, books_are_upheld, closings_are_in_order,
+    households_are_in_order, known_after_each_act, lines_total_what_is_due, next_is_taken,
+    no_unit_is_shared, refusals_stand_in_order, repeats_are_answered, rows_came_by_acts,
 };

@@ -1,9 +1,10 @@
 -- On no day do two households have one unit.
-use Rattle.office_laws.proofs.Words.{Book, Capacity, IsReached, ◌≡◌, ◌≢◌, ◌∙◌, sym, refl, ℕ, ◌<◌, ◌≤◌, inl, inr, arith, true, false, not, List, [], ◌∷◌, ◌++◌, Some, length, AllPairs, ◌==◌, All-filter, AllPairs-filter, Record, is_withdrawal, is_live, live_records, records_of, without, occupied_unit_on, Command, Known, known_of, own_in, change_by, record_of, IsOneOf, IsInOrder, Passed, filter_all, records_cases, option_map_none, rise, nat_tests}
+use Rattle.office_laws.proofs.Words.{Book, Capacity, IsReached, ◌≡◌, ◌≢◌, ◌∙◌, sym, ℕ, ◌≤◌, inl, inr, arith, List, [], ◌∷◌, ◌++◌, Some, length, Record, live_records, records_of, occupied_unit_on, Command, Known, known_of, own_in, change_by, record_of, IsOneOf, IsInOrder, Passed, records_cases, option_map_none}
 use Rattle.std.proofs.lemmas.Bool.{cases_lt}
 use Rattle.office_step.specs.Against.{last_day}
 use Rattle.tenancy_rules.proofs.UseLaws.{no_unit_has_two}
 use Rattle.office_laws.proofs.{Dated.begin_in_time, Dated.unit_past, Inversion.passes, Known.next, Known.by_acts, Own.owned, Unit.moved_out_had, Unit.kept_had}
+use Rattle.office_laws.proofs.Lived.{lived, lives_more, rises}
 use Rattle.office_laws.proofs.Tried.{Placed, taken_by_none, moved_out, kept, tried}
 use Rattle.office_laws.proofs.InOrder.{own_in_order, in_order_more, live_changed}
 use Rattle.office_laws.proofs.laws.no_unit_is_shared.Goals as goal
@@ -25,24 +26,6 @@ has_there households household day unit has = elim (records_cases households hou
 
 module _ (known : Known) (most today : ℕ) (asked : Command) (r : Record) (free : Passed known most today asked)
     (is : record_of known asked ≡ Some r) (own : IsInOrder (own_in known r.household)) where
-  abbrev lived : List Record
-  lived = live_records (own_in known r.household)
-
-  -- records are numbered from 1
-  nothing_dropped : without 0 lived ≡ lived
-  nothing_dropped =
-      filter_all (λ (held : Record). not (held.number == 0)) lived
-      (All-filter (is_live (own_in known r.household)) (λ held. not (held.number == 0) ≡ true) (own_in known r.household)
-      (λ k d within. grind (arith, nat_tests, own.numbered.number k d within)))
-
-  lives_more : is_withdrawal r.kind ≡ false → r.corrects ≡ 0 → live_records (own_in known r.household ++ r ∷ []) ≡ lived ++ r ∷ []
-  lives_more kind zero = rw (live_changed known most today asked r free is own, kind, zero, nothing_dropped) refl
-
-  rises : AllPairs (λ (held next : Record). held.number < next.number) lived
-  rises =
-      AllPairs-filter (λ (held next : Record). held.number < next.number) (is_live (own_in known r.household)) (own_in known r.household)
-      (rise (own_in known r.household) own.numbered)
-
   -- the household comes to no unit that another has
   own_apart : Apart (own_in known) → (other day unit : ℕ) → r.household ≢ other → day ≤ 80353 →
       Has day unit (own_in known r.household ++ r ∷ []) → Has day unit (own_in known other) → ⊥
@@ -56,11 +39,11 @@ module _ (known : Known) (most today : ℕ) (asked : Command) (r : Record) (free
           no_unit_has_two known.households r.household (change_by r) (option_map_none _ _ none) other day unit
           there.least there.most (λ same. differs (sym same)) by (rw (live_changed known most today asked r free is own) at on) taken
       by_placed (moved_out kind moves zero) =
-          apart r.household other day unit differs by (moved_out_had lived r day unit moves (rw (lives_more kind zero) at on)) taken
+          apart r.household other day unit differs by (moved_out_had (lived known most today asked r free is own) r day unit moves (rw (lives_more known most today asked r free is own kind zero) at on)) taken
       by_placed (kept kind later_one transfers zero) =
           apart r.household other day unit differs by
-          (kept_had lived r rises (rw (lives_more kind zero) at (in_order_more known most today asked r free is own).live)
-          later_one transfers day unit (rw (lives_more kind zero) at on)) taken
+          (kept_had (lived known most today asked r free is own) r (rises known most today asked r free is own) (rw (lives_more known most today asked r free is own kind zero) at (in_order_more known most today asked r free is own).live)
+          later_one transfers day unit (rw (lives_more known most today asked r free is own kind zero) at on)) taken
 
 -- ---- one act more
 
