@@ -1,7 +1,6 @@
 -- Acts that are done again, one after another.
-use Rattle.book_replay.proofs.Words.{◌≡◌, ◌∙◌, sym, ap, refl, subst, ℕ, ◌+◌, arith, List, [], ◌∷◌, Option, Some, None, length, drop, slice_get, option_to_list, length-drop, option_or, option_map, pointwise, pointwise_decides, drop_all, take_all, take_more, length-take, slice_get_within, get_or_from_slice_get, ActRow, Batch, Book, empty_book, appended, same_act, same_record, same_line, act_equal, Capacity, appends, step, is_fit_call, IsAppended, IsReached, reached_empty, reached_more, fault_in, call_of, rows_in, replayed, difference, records_by, lines_by, with_rows, fault_from, AppendedIsAccepted, IsReplayed, ReplayBegins, ReplayGoesOn, ReplayStops, ReplayEnds, ReplayedIsGiven, ValidIsReached, option_and_then_some, cond_some, unless_none, option_map_none}
+use Rattle.book_replay.proofs.Words.{◌≡◌, ◌∙◌, sym, ap, refl, ℕ, ◌+◌, arith, List, [], ◌∷◌, Option, Some, None, length, drop, slice_get, option_to_list, length-drop, option_or, option_map, pointwise, pointwise_decides, drop_all, take_all, take_more, length-take, slice_get_within, get_or_from_slice_get, ActRow, Batch, Book, empty_book, appended, same_act, same_record, same_line, act_equal, Capacity, IsAppended, IsReached, reached_empty, reached_more, fault_in, replayed, difference, records_by, lines_by, with_rows, fault_from, AppendedIsAccepted, IsReplayed, ReplayBegins, ReplayGoesOn, ReplayStops, ReplayEnds, ReplayedIsGiven, ValidIsReached, unless_none, option_map_none}
 use Rattle.book_rows.specs.declared.rows.Table.{Table}
-use Rattle.command_forms.specs.Commands.{command_in}
 use Rattle.book_replay.proofs.{Gathered.act_more, Gathered.gathered_all, Compared.past, Compared.drop_at, Reached.records_decide, Reached.lines_decide}
 use Rattle.office_step.proofs.Passed.{or_none}
 use Rattle.office_laws.proofs.Replay.{replayed_is_appended}

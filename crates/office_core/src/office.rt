@@ -1,4 +1,5 @@
 use crate::Step;
+use book_replay::office_laws::{books_are_upheld, within_room};
 use book_rows::Tables;
 use office_answers::office_register::Register;
 use office_answers::office_step::{Capacity, Closed};
@@ -41,7 +42,8 @@ impl Model for Office {
 }
 
 impl Office {
-    ghost use Rattle.std.specs.Prelude.{◌≡◌, ◌≤◌, IfOk, option_copied};
+    ghost use Rattle.std.specs.Prelude.{◌≡◌, ◌≤◌, IfOk, length, option_copied};
+    ghost use Rattle.book_replay.specs.Below.office_laws.Upheld.{IsUpheld};
     ghost use Rattle.book_rows.specs.Book.{book_of, empty_book};
     ghost use Rattle.office_answers.specs.Below.office_step.Acts.{at_number};
     ghost use Rattle.office_answers.specs.Below.office_step.Known.{known_of};
@@ -72,7 +74,11 @@ impl Office {
     pub fn tables(&self) -> &Tables
         ensures book { book_of result.now ≡ self.now.book }
         ensures reached { IsReached self.now.capacity self.now.book }
+        ensures upheld { IsUpheld self.now.capacity self.now.book }
+        ensures few { length self.now.book.acts ≤ 100000 }
     {
+        books_are_upheld();
+        within_room();
         &self.tables
     }
 
@@ -80,7 +86,11 @@ impl Office {
     pub fn into_tables(self) -> Tables
         ensures book { book_of result ≡ self.book }
         ensures reached { IsReached self.capacity self.book }
+        ensures upheld { IsUpheld self.capacity self.book }
+        ensures few { length self.book.acts ≤ 100000 }
     {
+        books_are_upheld();
+        within_room();
         self.tables
     }
 
@@ -116,7 +126,7 @@ impl Office {
 
     /// The number of households.
     pub fn households(&self) -> u32
-        ensures { result ≡ Rattle.std.specs.Prelude.length (known_of self.now.book).households }
+        ensures { result ≡ length (known_of self.now.book).households }
     {
         self.register.households()
     }

@@ -1,4 +1,5 @@
 use crate::{Judged, Judgment, Office, Step};
+use book_replay::office_laws::books_are_upheld;
 use book_replay::{Given, call_of, replay_is_kept};
 use book_rows::{ActRow, Batch, Table, Tables};
 use office_answers::office_step::{Call, Capacity, Fault};
@@ -21,6 +22,7 @@ impl Office {
     ghost use Rattle.std.specs.Prelude.{true};
     ghost use Rattle.office_answers.specs.Below.office_step.Step.{step as step_of, is_fit_call};
     ghost use Rattle.office_answers.specs.Below.office_step.Valid.{rows_in, replayed, difference, first_fault, with_rows};
+    ghost use Rattle.book_replay.specs.Below.office_laws.Upheld.{IsUpheld};
     ghost use Rattle.office_core.specs.Planned.{IsPlannedFor};
     ghost use Rattle.office_core.specs.Office.{HasRoomFor};
     ghost use Rattle.office_core.specs.Opening.{IsNamed};
@@ -33,9 +35,11 @@ impl Office {
         ensures book { IfOk result (λ office. office.book ≡ book_of tables.now) }
         ensures capacity { IfOk result (λ office. office.capacity ≡ capacity) }
         ensures valid { IfOk result (λ office. first_fault capacity (book_of tables.now) ≡ None) }
+        ensures upheld { IfOk result (λ office. IsUpheld capacity (book_of tables.now)) }
         ensures bad { IfErr result (IsNamed (first_fault capacity (book_of tables.now))) }
     {
         replay_is_kept();
+        books_are_upheld();
         let given = Given::new(tables);
         let Ok(mut office) = Office::new(alloc, capacity) else {
             return Err(OpenFault::NoMemory);
