@@ -1,13 +1,12 @@
 ghost use Rattle.std.specs.Prelude.{◌≡◌, true, IfOk};
-ghost use Rattle.serde_json.specs.View.{view, members_view};
+ghost use Rattle.serde_json.specs.View.{view};
 ghost use Rattle.json_form.specs.Gives.{Gives};
 ghost use Rattle.book_rows.specs.Fit.{is_fit};
-ghost use Rattle.command_forms.specs.Applicants.{apply_at, apply_members, remove_at, remove_members, start_at, start_members, admit_at, admit_members};
+ghost use Rattle.command_forms.specs.Applicants.{apply_at, remove_at, start_at, admit_at};
 
 use crate::forms::Name;
 use book_rows::{AdmitAct, ApplyAct, Command, RemoveAct, StartAct};
-use json_form::{ArrayUpTo, FormFault, Members, Within, field, field_by, number_field};
-use plain_data::NoMemory;
+use json_form::{ArrayUpTo, FormFault, Within, field, field_by, number_field};
 use serde_json::Value;
 use std::alloc::Global;
 
@@ -36,19 +35,6 @@ pub fn apply_of(alloc: Global, value: &Value) -> Result<Command, FormFault>
     }))
 }
 
-#[tactic(auto, unfolding(command_forms::specs::Applicants::apply_members))]
-pub fn apply_members(alloc: Global, apply: &ApplyAct) -> Result<Members, NoMemory>
-    ensures { IfOk result (λ all. members_view all.members.entries ≡ apply_members apply.now) }
-{
-    Members::new(alloc)
-        .with("accessible", &apply.accessible)?
-        .with("annual", &apply.annual)?
-        .with("name", &apply.name)?
-        .with("persons", &apply.persons)?
-        .with("preferences", &apply.preferences)?
-        .with("size", &apply.size)
-}
-
 #[tactic(auto, unfolding(command_forms::specs::Applicants::remove_at))]
 pub fn remove_of(alloc: Global, value: &Value) -> Result<Command, FormFault>
     ensures exact { Gives (λ asked. asked) result (remove_at (view value.now)) }
@@ -56,13 +42,6 @@ pub fn remove_of(alloc: Global, value: &Value) -> Result<Command, FormFault>
 {
     let applicant = field(alloc, value, "applicant")?;
     Ok(Command::Remove(RemoveAct { applicant }))
-}
-
-#[tactic(auto, unfolding(command_forms::specs::Applicants::remove_members))]
-pub fn remove_members(alloc: Global, remove: &RemoveAct) -> Result<Members, NoMemory>
-    ensures { IfOk result (λ all. members_view all.members.entries ≡ remove_members remove.now) }
-{
-    Members::new(alloc).with("applicant", &remove.applicant)
 }
 
 #[tactic(auto, unfolding(command_forms::specs::Applicants::start_at))]
@@ -82,17 +61,6 @@ pub fn start_of(alloc: Global, value: &Value) -> Result<Command, FormFault>
     }))
 }
 
-#[tactic(auto, unfolding(command_forms::specs::Applicants::start_members))]
-pub fn start_members(alloc: Global, start: &StartAct) -> Result<Members, NoMemory>
-    ensures { IfOk result (λ all. members_view all.members.entries ≡ start_members start.now) }
-{
-    Members::new(alloc)
-        .with("facts", &start.facts)?
-        .with("from", &start.from)?
-        .with("name", &start.name)?
-        .with("unit", &start.unit)
-}
-
 #[tactic(auto, unfolding(command_forms::specs::Applicants::admit_at))]
 pub fn admit_of(alloc: Global, value: &Value) -> Result<Command, FormFault>
     ensures exact { Gives (λ asked. asked) result (admit_at (view value.now)) }
@@ -108,15 +76,4 @@ pub fn admit_of(alloc: Global, value: &Value) -> Result<Command, FormFault>
         from,
         facts,
     }))
-}
-
-#[tactic(auto, unfolding(command_forms::specs::Applicants::admit_members))]
-pub fn admit_members(alloc: Global, admit: &AdmitAct) -> Result<Members, NoMemory>
-    ensures { IfOk result (λ all. members_view all.members.entries ≡ admit_members admit.now) }
-{
-    Members::new(alloc)
-        .with("applicant", &admit.applicant)?
-        .with("facts", &admit.facts)?
-        .with("from", &admit.from)?
-        .with("unit", &admit.unit)
 }

@@ -5,9 +5,9 @@ ghost use Rattle.book_rows.specs.declared.command.Command.{Command};
 ghost use Rattle.command_forms.specs.Holdable.{IsHoldable};
 ghost use Rattle.command_forms.specs.Commands.{command_at, accepted, command_from, body_of, command_in};
 
-use crate::command::{command_of_value, exact_of};
+use crate::command::command_of_value;
 use book_rows::Command;
-use command_forms::held_command;
+use command_body::body_of_command;
 use json_form::{FormFault, value_of_bytes};
 use plain_data::{NoMemory, Text};
 use serde_json::Value;
@@ -30,22 +30,6 @@ impl From<NoMemory> for BodyFault {
     fn from(_error: NoMemory) -> BodyFault {
         BodyFault::NoMemory
     }
-}
-
-/// The text of a command: compact JSON, with the members of each object in the byte order of their names.
-pub fn body_of_command(alloc: Global, asked: &Command) -> Result<Text, NoMemory>
-    ensures body { IfOk result (λ body. body ≡ body_of asked.now) }
-    ensures read_again { IfOk result (λ body. is_fit asked.now ≡ true → command_in body ≡ Some asked.now) }
-{
-    held_command(asked);
-    let body = text_of_command(alloc, asked)?;
-    Ok(body)
-}
-
-fn text_of_command(alloc: Global, asked: &Command) -> Result<Text, NoMemory>
-    ensures { IfOk result (λ body. body ≡ body_of asked.now) }
-{
-    exact_of(alloc, asked)?.text(alloc)
 }
 
 /// The command whose text this is.

@@ -1,27 +1,16 @@
 ghost use Rattle.std.specs.Prelude.{◌≡◌, true, map, IfOk};
-ghost use Rattle.serde_json.specs.View.{view, members_view};
+ghost use Rattle.serde_json.specs.View.{view};
 ghost use Rattle.json_form.specs.Gives.{Gives};
 ghost use Rattle.json_form.specs.Written.{names_of};
 ghost use Rattle.book_rows.specs.Fit.{is_fit};
-ghost use Rattle.command_forms.specs.Kinds.{word_of};
-ghost use Rattle.command_forms.specs.Commands.{fields_at, field_members, command_at, command_members, command_data};
+ghost use Rattle.command_forms.specs.Commands.{fields_at, command_at, command_members};
 
-use crate::applicants::{
-    admit_members, admit_of, apply_members, apply_of, remove_members, remove_of, start_members,
-    start_of,
-};
-use crate::changes::{
-    ask_transfer_members, ask_transfer_of, change_word, household_members, household_names,
-    household_of,
-};
-use crate::property::{
-    limits_members, limits_of, plan_members, plan_of, rents_members, rents_of, unit_members,
-    unit_of,
-};
+use crate::applicants::{admit_of, apply_of, remove_of, start_of};
+use crate::changes::{ask_transfer_of, household_names, household_of};
+use crate::property::{limits_of, plan_of, rents_of, unit_of};
 use book_rows::{CloseAct, Command};
 use command_forms::Kind;
-use json_form::{Exact, FormFault, Members, closed, field, object};
-use plain_data::NoMemory;
+use json_form::{FormFault, closed, field, object};
 use serde_json::Value;
 use std::alloc::Global;
 
@@ -97,51 +86,5 @@ fn names_of(asked: &Command) -> &'static [&'static str]
         Command::AskTransfer(_) => &["accessible", "household", "kind", "wanted"],
         Command::Household(act) => household_names(act),
         Command::Close(_) => &["kind", "month"],
-    }
-}
-
-/// Writes the command as a value.
-#[tactic(auto, unfolding(command_forms::specs::Commands::command_members))]
-pub fn exact_of(alloc: Global, asked: &Command) -> Result<Exact, NoMemory>
-    ensures { IfOk result (λ exact. view exact.value ≡ command_data asked.now) }
-{
-    let members = members_of(alloc, asked)?.with("kind", &word_of(asked))?;
-    Ok(members.done())
-}
-
-fn members_of(alloc: Global, asked: &Command) -> Result<Members, NoMemory>
-    ensures { IfOk result (λ all. members_view all.members.entries ≡ field_members asked.now) }
-{
-    match asked {
-        Command::Plan(plan) => plan_members(alloc, plan),
-        Command::Unit(unit) => unit_members(alloc, unit),
-        Command::Rents(rents) => rents_members(alloc, rents),
-        Command::Limits(limits) => limits_members(alloc, limits),
-        Command::Apply(apply) => apply_members(alloc, apply),
-        Command::Remove(remove) => remove_members(alloc, remove),
-        Command::Start(start) => start_members(alloc, start),
-        Command::Admit(admit) => admit_members(alloc, admit),
-        Command::AskTransfer(ask) => ask_transfer_members(alloc, ask),
-        Command::Household(act) => household_members(alloc, act),
-        Command::Close(close) => Members::new(alloc).with("month", &close.month),
-    }
-}
-
-/// The word for the kind of a command.
-fn word_of(asked: &Command) -> &'static str
-    ensures { result.now ≡ word_of asked.now }
-{
-    match asked {
-        Command::Plan(_) => "plan",
-        Command::Unit(_) => "unit",
-        Command::Rents(_) => "rents",
-        Command::Limits(_) => "limits",
-        Command::Apply(_) => "apply",
-        Command::Remove(_) => "remove",
-        Command::Start(_) => "start",
-        Command::Admit(_) => "admit",
-        Command::AskTransfer(_) => "ask_transfer",
-        Command::Household(act) => change_word(&act.change),
-        Command::Close(_) => "close",
     }
 }

@@ -3,12 +3,12 @@
 ghost use Rattle.std.specs.Prelude.{◌≡◌, true, IfOk};
 ghost use Rattle.json_form.specs.Gives.{Gives};
 ghost use Rattle.book_rows.specs.Fit.{is_name, is_within, is_bound};
-ghost use Rattle.command_forms.specs.Fields.{name_at, month_within, bound_of, bound_at, bound_data};
+ghost use Rattle.command_forms.specs.Fields.{name_at, month_within, bound_of, bound_at};
 
 use book_rows::is_name;
 use days_core::Month;
-use json_form::{ArrayOf, Exact, Form, FormFault, Formed, Within, Writer, Written, text};
-use plain_data::{NoMemory, Text};
+use json_form::{ArrayOf, Form, FormFault, Formed, Within, text};
+use plain_data::Text;
 use rent_table::Bound;
 use serde_json::Value;
 use std::alloc::Global;
@@ -93,15 +93,5 @@ fn bound_of(alloc: Global, least: u32, most: u32) -> Result<Bound, FormFault>
         Ok(Bound { least, most })
     } else {
         Err(FormFault::here(alloc).under(alloc, "[1]"))
-    }
-}
-
-impl Writer for Persons {
-    type Row = Bound;
-
-    ghost written = { λ _. bound_data };
-
-    fn write(&self, alloc: Global, bound: &Bound) -> Result<Exact, NoMemory> {
-        [bound.least, bound.most].to_value(alloc)
     }
 }

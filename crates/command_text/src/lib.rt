@@ -1,4 +1,4 @@
-//! The texts of commands: a command is read of JSON and written as it, and so is the text that stands for it in a book.
+//! Commands are read: of their values in JSON, and of the texts that stand for them in a book.
 #![tactic(auto)]
 
 mod applicants;
@@ -8,5 +8,6 @@ mod command;
 mod forms;
 mod property;
 
-pub use body::{BodyFault, body_of_command, command_of_body};
+pub use body::{BodyFault, command_of_body};
 pub use command::command_of_value;
+pub use command_body::body_of_command;

@@ -1,16 +1,13 @@
 ghost use Rattle.std.specs.Prelude.{◌≡◌, true, IfOk};
-ghost use Rattle.serde_json.specs.View.{view, members_view};
+ghost use Rattle.serde_json.specs.View.{view};
 ghost use Rattle.json_form.specs.Gives.{Gives};
 ghost use Rattle.book_rows.specs.Fit.{is_fit};
-ghost use Rattle.command_forms.specs.Property.{plan_at, plan_members, unit_at, unit_members, rents_at, rents_members, limits_act_at, limits_members};
+ghost use Rattle.command_forms.specs.Property.{plan_at, unit_at, rents_at, limits_act_at};
 
 use crate::forms::{MonthWithin, Name, Persons};
 use book_rows::{Command, LimitsAct, RentsAct, UnitAct};
 use days_core::Rents;
-use json_form::{
-    ArrayOf, ArrayUpTo, FormFault, Members, Within, array_by, field, field_by, number_field,
-};
-use plain_data::NoMemory;
+use json_form::{ArrayOf, ArrayUpTo, FormFault, Within, field, field_by, number_field};
 use rent_table::Plan;
 use serde_json::Value;
 use std::alloc::Global;
@@ -50,22 +47,6 @@ pub fn plan_of(alloc: Global, value: &Value) -> Result<Command, FormFault>
     }))
 }
 
-#[tactic(auto, unfolding(command_forms::specs::Property::plan_members))]
-pub fn plan_members(alloc: Global, plan: &Plan) -> Result<Members, NoMemory>
-    ensures { IfOk result (λ all. members_view all.members.entries ≡ plan_members plan.now) }
-{
-    Members::new(alloc)
-        .with_value("bounds", array_by(alloc, &plan.bounds, &Persons)?)?
-        .with("early", &plan.early)?
-        .with("expected", &plan.expected)?
-        .with("first", &plan.first)?
-        .with("fiscal_month", &plan.fiscal_month)?
-        .with("method", &plan.method)?
-        .with("passbook", &plan.passbook)?
-        .with("ranks", &plan.ranks)?
-        .with("report_days", &plan.report_days)
-}
-
 #[tactic(auto, unfolding(command_forms::specs::Property::unit_at))]
 pub fn unit_of(alloc: Global, value: &Value) -> Result<Command, FormFault>
     ensures exact { Gives (λ asked. asked) result (unit_at (view value.now)) }
@@ -83,17 +64,6 @@ pub fn unit_of(alloc: Global, value: &Value) -> Result<Command, FormFault>
     }))
 }
 
-#[tactic(auto, unfolding(command_forms::specs::Property::unit_members))]
-pub fn unit_members(alloc: Global, unit: &UnitAct) -> Result<Members, NoMemory>
-    ensures { IfOk result (λ all. members_view all.members.entries ≡ unit_members unit.now) }
-{
-    Members::new(alloc)
-        .with("accessible", &unit.accessible)?
-        .with("bedrooms", &unit.bedrooms)?
-        .with("group", &unit.group)?
-        .with("name", &unit.name)
-}
-
 #[tactic(auto, unfolding(command_forms::specs::Property::rents_at))]
 pub fn rents_of(alloc: Global, value: &Value) -> Result<Command, FormFault>
     ensures exact { Gives (λ asked. asked) result (rents_at (view value.now)) }
@@ -108,17 +78,6 @@ pub fn rents_of(alloc: Global, value: &Value) -> Result<Command, FormFault>
         utility,
     };
     Ok(Command::Rents(RentsAct { group, from, rents }))
-}
-
-#[tactic(auto, unfolding(command_forms::specs::Property::rents_members))]
-pub fn rents_members(alloc: Global, rents: &RentsAct) -> Result<Members, NoMemory>
-    ensures { IfOk result (λ all. members_view all.members.entries ≡ rents_members rents.now) }
-{
-    Members::new(alloc)
-        .with("contract_rent", &rents.rents.contract_rent)?
-        .with("from", &rents.from)?
-        .with("group", &rents.group)?
-        .with("utility", &rents.rents.utility)
 }
 
 #[tactic(auto, unfolding(command_forms::specs::Property::limits_act_at))]
@@ -142,15 +101,4 @@ pub fn limits_of(alloc: Global, value: &Value) -> Result<Command, FormFault>
         very_low,
         extremely_low,
     }))
-}
-
-#[tactic(auto, unfolding(command_forms::specs::Property::limits_members))]
-pub fn limits_members(alloc: Global, limits: &LimitsAct) -> Result<Members, NoMemory>
-    ensures { IfOk result (λ all. members_view all.members.entries ≡ limits_members limits.now) }
-{
-    Members::new(alloc)
-        .with("extremely_low", &limits.extremely_low)?
-        .with("from", &limits.from)?
-        .with("low", &limits.low)?
-        .with("very_low", &limits.very_low)
 }

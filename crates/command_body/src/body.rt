@@ -1,0 +1,25 @@
+ghost use Rattle.std.specs.Prelude.{◌≡◌, true, Some, IfOk};
+ghost use Rattle.book_rows.specs.Fit.{is_fit};
+ghost use Rattle.command_forms.specs.Commands.{body_of, command_in};
+
+use crate::command::exact_of;
+use book_rows::Command;
+use command_forms::held_command;
+use plain_data::{NoMemory, Text};
+use std::alloc::Global;
+
+/// The text of a command: compact JSON, with the members of each object in the byte order of their names.
+pub fn body_of_command(alloc: Global, asked: &Command) -> Result<Text, NoMemory>
+    ensures body { IfOk result (λ body. body ≡ body_of asked.now) }
+    ensures read_again { IfOk result (λ body. is_fit asked.now ≡ true → command_in body ≡ Some asked.now) }
+{
+    held_command(asked);
+    let body = text_of_command(alloc, asked)?;
+    Ok(body)
+}
+
+fn text_of_command(alloc: Global, asked: &Command) -> Result<Text, NoMemory>
+    ensures { IfOk result (λ body. body ≡ body_of asked.now) }
+{
+    exact_of(alloc, asked)?.text(alloc)
+}
