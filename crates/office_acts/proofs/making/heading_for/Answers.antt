@@ -1,3 +1,4 @@
+use Rattle.std.proofs.Common.{rules}
 use Rattle.office_acts.proofs.Ready.{interim_ready, resume_ready, correct_ready}
 use Rattle.office_acts.proofs.making.heading_for.Goals as goal
 
@@ -18,3 +19,6 @@ returns-in_ok-target-in-Correct-clause-ready c =
     rw (c.in-Correct.is, c.correction_heading.ensures)
     (correct_ready c.args.register.now.known c.args.household c.in_ok-target-in-Correct.target.now c.in-Correct.correct
     c.in_ok-target-in-Correct.ensures.dates (rw c.in-Correct.is at c.requires.in_range) (rw c.in-Correct.is at c.requires.facts))
+
+pub returns-in_ok-target-in-Correct-clause-value : goal.returns-in_ok-target-in-Correct-clause-value
+returns-in_ok-target-in-Correct-clause-value c = search rules
