@@ -2,8 +2,7 @@
 use Rattle.std.specs.Prelude.{◌<◌, ◌≤◌, List, AllPairs}
 use Rattle.record_history.specs.declared.records.Record.{Record}
 use Rattle.voucher_core.specs.declared.line.Line.{Line}
-use Rattle.book_rows.specs.declared.rows.{ActRow.ActRow, Batch.Batch}
-use Rattle.book_rows.specs.Book.{Book, empty_book, appended, IsBatch, IsBefore}
+use Rattle.book_rows.specs.{declared.rows.ActRow.ActRow, declared.rows.Batch.Batch, Book.Book, Book.empty_book, Book.appended, Book.IsBatch, Book.IsBefore}
 
 -- each act has a greater number than those before it
 abbrev pub ActsRise : List ActRow → Type 0

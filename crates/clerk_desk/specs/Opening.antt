@@ -3,8 +3,7 @@ use Rattle.std.specs.Prelude.{◌≡◌, ⊤, ℕ, Some, None, Result, Ok, Err}
 use Rattle.office_io.specs.Outside.{Faulted}
 use Rattle.book_rows.specs.Book.{Book, book_of}
 use Rattle.keeper_core.specs.{declared.keeper.Loaded.Loaded, Keeping.BadRow}
-use Rattle.office_core.specs.Below.office_step.{declared.call.Capacity.Capacity, declared.fault.Fault.Fault, Valid.first_fault}
-use Rattle.office_core.specs.Office.{Holding}
+use Rattle.office_core.specs.{Below.office_step.declared.call.Capacity.Capacity, Below.office_step.declared.fault.Fault.Fault, Below.office_step.Valid.first_fault, Office.Holding}
 use Rattle.clerk_desk.specs.declared.opening.DeskFault.{DeskFault}
 
 -- the keeper tells no other book than this one, and no bad row

@@ -2,9 +2,7 @@
 use Rattle.std.specs.Prelude.{◌≡◌, ◌⊎◌, ℕ}
 use Rattle.office_io.specs.Outside.{Faulted}
 use Rattle.book_rows.specs.{declared.rows.Batch.Batch, Book.Book, Book.appended}
-use Rattle.office_core.specs.Below.office_answers.declared.reply.Reply.{Reply}
-use Rattle.office_core.specs.Below.office_step.{declared.call.Capacity.Capacity, Reply.done_of}
-use Rattle.office_core.specs.Below.office_step.Step.{Outcome, again, refused, appends, IsAppended}
+use Rattle.office_core.specs.Below.{office_answers.declared.reply.Reply.Reply, office_step.declared.call.Capacity.Capacity, office_step.Reply.done_of, office_step.Step.Outcome, office_step.Step.again, office_step.Step.refused, office_step.Step.appends, office_step.Step.IsAppended}
 
 -- the reply to a call of which the office does this
 abbrev pub reply_of : Book → Outcome → Reply

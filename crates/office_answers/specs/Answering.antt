@@ -1,6 +1,5 @@
 -- What an office answers to a question.
-use Rattle.std.specs.Prelude.{ℕ, Option, Result, Err, List}
-use Rattle.std.specs.Option.{option_map_or}
+use Rattle.std.specs.{Prelude.ℕ, Prelude.Option, Prelude.Result, Prelude.Err, Prelude.List, Option.option_map_or}
 use Rattle.rent_table.specs.{declared.plan.Plan.Plan, declared.rows.Unit.Unit as UnitRow, Table.unit_at, Table.limits_on}
 use Rattle.wait_list.specs.{declared.ask.Candidate.Candidate, Next.next_candidate}
 use Rattle.voucher_core.specs.declared.line.Line.{Line}
@@ -10,15 +9,13 @@ use Rattle.office_answers.specs.{declared.question.Question.Question, declared.a
 
 -- who is next for the unit on the day
 abbrev pub next_in : Known → Plan → ℕ → UnitRow → Option Candidate
-next_in known plan day unit =
-    next_candidate (asked_of plan unit day (limits_on known.limits day) known.requests known.households) known.waiting
+next_in known plan day unit = next_candidate (asked_of plan unit day (limits_on known.limits day) known.requests known.households) known.waiting
 
 abbrev pub next_answer : Known → ℕ → ℕ → Result Answer Refusal
 next_answer known unit day =
     option_map_or
     (λ plan. answered (λ row. Answer.Next (next_in known plan day row)) (unit_at known.units unit) (Refusal.NoSuch Named.Unit unit))
-    known.plan
-    (Err Refusal.NoPlan)
+    known.plan (Err Refusal.NoPlan)
 
 -- by what is known, and by all lines
 abbrev pub answer_by : Known → List Line → Question → Result Answer Refusal

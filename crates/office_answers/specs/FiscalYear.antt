@@ -13,8 +13,7 @@ fiscal_month_in_year plan month = 12 * (month / 12) + (plan.fiscal_month - 1)
 -- the month with which the fiscal year of a month begins: the fiscal month of its own year or of the year before, and
 -- 1880-01 where that is earlier
 abbrev pub first_fiscal_month : Plan → ℕ → ℕ
-first_fiscal_month plan month =
-    if nat_le (fiscal_month_in_year plan month) month then fiscal_month_in_year plan month else fiscal_month_in_year plan month - 12
+first_fiscal_month plan month = if nat_le (fiscal_month_in_year plan month) month then fiscal_month_in_year plan month else fiscal_month_in_year plan month - 12
 
 -- the first day of the fiscal year of the day
 abbrev pub first_fiscal_day : Plan → ℕ → ℕ
@@ -31,5 +30,4 @@ admissions_by plan day targets = record {
 }
 
 abbrev pub targets_answer : Known → ℕ → Result Answer Refusal
-targets_answer known day =
-    answered (λ plan. Answer.Targets (admissions_by plan day (targets_of plan day known.households))) known.plan Refusal.NoPlan
+targets_answer known day = answered (λ plan. Answer.Targets (admissions_by plan day (targets_of plan day known.households))) known.plan Refusal.NoPlan

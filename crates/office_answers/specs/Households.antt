@@ -26,5 +26,4 @@ household_answer known household = unless (no_household known household) (Ok (An
 
 -- a record of a household that there is, whether or not it counts
 abbrev pub record_answer : Known → ℕ → ℕ → Result Answer Refusal
-record_answer known household number =
-    unless (no_household known household) (answered Answer.Record (record_at (own_in known household) number) (Refusal.NoSuch Named.Record number))
+record_answer known household number = unless (no_household known household) (answered Answer.Record (record_at (own_in known household) number) (Refusal.NoSuch Named.Record number))

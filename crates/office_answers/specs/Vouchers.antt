@@ -32,8 +32,7 @@ voucher_of month lines = record {
 
 -- the voucher of a month that is closed
 abbrev pub voucher_answer : Known → List Line → ℕ → Result Answer Refusal
-voucher_answer known lines month =
-    Ok (Answer.Voucher (if is_closed known.plan known.closing month then Some (voucher_of month lines) else None))
+voucher_answer known lines month = Ok (Answer.Voucher (if is_closed known.plan known.closing month then Some (voucher_of month lines) else None))
 
 -- what all lines pay a household that there is for the month
 abbrev pub paid_answer : Known → List Line → ℕ → ℕ → Result Answer Refusal

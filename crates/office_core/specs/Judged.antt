@@ -1,8 +1,7 @@
 -- What the answer to a call says of the office's step.
 use Rattle.std.specs.Prelude.{◌≡◌, ⊤, Result, Ok, Err}
 use Rattle.book_rows.specs.Book.{Book}
-use Rattle.office_answers.specs.Below.office_step.declared.call.Capacity.{Capacity}
-use Rattle.office_answers.specs.Below.office_step.Step.{Outcome, again, refused, appends}
+use Rattle.office_answers.specs.Below.office_step.{declared.call.Capacity.Capacity, Step.Outcome, Step.again, Step.refused, Step.appends}
 use Rattle.office_core.specs.{declared.judged.Judged.Judged, declared.judged.Judgment.Judgment, Planned.IsPlannedFor}
 
 -- the answer is what the office does; want of memory says nothing
