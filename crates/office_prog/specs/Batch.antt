@@ -5,6 +5,7 @@ use Rattle.office_io.specs.Outside.{Faulted}
 use Rattle.book_rows.specs.{declared.rows.Table.Table, Book.Book}
 use Rattle.keeper_core.specs.Keeping.{BadRow, Keeps}
 use Rattle.batch_command.specs.Below.office_step.{declared.call.Capacity.Capacity, declared.fault.Fault.Fault, Step.IsReached, Valid.first_fault}
+use Rattle.batch_command.specs.Below.office_laws.Upheld.{IsUpheld}
 use Rattle.batch_command.specs.Below.clerk_desk.{declared.opening.DeskFault.DeskFault, Opening.IsUnopened}
 use Rattle.batch_command.specs.{declared.ending.Ending.Ending, Batch.Counts, Batch.Ran, Batch.Blames}
 use Rattle.office_prog.specs.Answer.{Answer, Ends}
@@ -29,14 +30,16 @@ status_of Ending.StoreFault = 5
 status_of Ending.NoMemory = 7
 status_of Ending.TooLong = 9
 
--- An office's book was opened and the lines were answered on it. The book after them is an office's too. Where the keeper
--- tells a book now, that is the one after them, and it told the one before them. It tells no bad row.
+-- An office's book was opened and the lines were answered on it. The book after them is an office's too, and upholds what
+-- every such book does. Where the keeper tells a book now, that is the one after them, and it told the one before them. It
+-- tells no bad row.
 pub record Serves (shows : ℕ → Type 0) (holds holds_now : Book → Type 0) (bad_now : BadRow → Type 0) (old new : Door) (status : ℕ) : Type 0 where
   pub start : Book
   pub after : Book
   pub ending : Ending
   pub valid : first_fault largest start ≡ None
   pub reached : IsReached largest after
+  pub upheld : IsUpheld largest after
   pub kept : (book : Book) → holds_now book → (book ≡ after) × holds start
   pub no_bad_row : (row : BadRow) → bad_now row → ⊥
   pub ran : Ran largest shows start after old.left new.left old.held new.held ending

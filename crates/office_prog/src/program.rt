@@ -1,10 +1,10 @@
-ghost use Rattle.std.specs.Prelude.{◌≡◌, ◌≢◌, ◌≤◌, ℕ, List, length, Some, None, IfSome};
+ghost use Rattle.std.specs.Prelude.{◌≡◌, ◌≢◌, ◌≤◌, ℕ, false, List, length, Some, None, IfSome};
 ghost use Rattle.std.specs.Io.KnownBytes.{Consumes};
 ghost use Rattle.office_io.specs.Outside.{Faulted};
 ghost use Rattle.office_io.specs.Transfer.{Takes};
 ghost use Rattle.assess_command.specs.Assess.{assessed};
 ghost use Rattle.office_prog.specs.Answer.{Ends};
-ghost use Rattle.office_prog.specs.Words.{subcommand_in};
+ghost use Rattle.office_prog.specs.Words.{subcommand_in, asks_keeper};
 ghost use Rattle.office_prog.specs.declared.words.Subcommand.TheVariants as subcommand;
 ghost use Rattle.office_prog.specs.Run.{usage, input_limit, assess_answer, answer_of};
 ghost use Rattle.office_prog.specs.Batch.{Batches, Door};
@@ -37,8 +37,8 @@ pub fn run<K: Keeper, S: Source, W: Sink, C: Clock>(
         Ends usage (W.held sink.old) (W.held sink.new) (W.faults sink.old) (W.faults sink.new) result }
     ensures unread { subcommand_in words.now ≡ None → source.new ≡ source.old }
 
-    // `batch` alone asks the keeper.
-    ensures unkept { subcommand_in words.now ≢ Some subcommand.Batch → keeper.new ≡ keeper.old }
+    // Only what asks the keeper changes it.
+    ensures unkept { asks_keeper (subcommand_in words.now) ≡ false → keeper.new ≡ keeper.old }
 
     // `assess` answers the bytes that it took, which are the whole input or one byte more than its limit.
     ensures assess { subcommand_in words.now ≡ Some subcommand.Assess → result ≢ 3 → result ≢ 7 →
