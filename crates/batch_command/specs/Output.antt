@@ -2,9 +2,9 @@
 use Rattle.std.specs.Prelude.{ℕ, ◌||◌, if◌then◌else◌, Bool, unwrap_or, List, [], ◌∷◌, ◌++◌, Result, Ok, Err, fold, bytes_eq}
 use Rattle.book_rows.specs.Book.{Book}
 use Rattle.clerk_desk.specs.Below.office_step.{declared.call.Capacity.Capacity, declared.refusal.Refusal.Refusal, Step.Outcome, Step.step}
-use Rattle.clerk_desk.specs.Below.office_answers.{declared.answer.Answer.Answer, Answering.answer_to, declared.reply.Reply.Reply}
-use Rattle.json_front.specs.{declared.line.BatchLine.BatchLine, Lines.line_from, Replies.reply_text, Replies.bad_form_text, Answers.answer_text}
-use Rattle.clerk_desk.specs.Serving.{reply_of, book_after}
+use Rattle.clerk_desk.specs.{Below.office_answers.declared.answer.Answer.Answer, Below.office_answers.Answering.answer_to, Below.office_answers.declared.reply.Reply.Reply, Serving.reply_of, Serving.book_after}
+use Rattle.json_front.specs.{declared.line.BatchLine.BatchLine, Lines.line_from}
+use Rattle.reply_text.specs.{Replies.reply_text, Replies.bad_form_text, Answers.answer_text}
 
 -- a line of the input, and the day that the clock showed for it
 pub record Given : Type 0 where

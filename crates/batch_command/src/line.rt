@@ -14,10 +14,11 @@ use clerk_desk::office_core::{Call, Office};
 use clerk_desk::serve;
 use days_core::Day;
 use json_form::FormFault;
-use json_front::{BatchLine, line_of_bytes, text_of_answer, text_of_bad_form, text_of_reply};
+use json_front::{BatchLine, line_of_bytes};
 use keeper_core::Keeper;
 use office_io::{Clock, Sink, write_whole};
 use plain_data::{NoMemory, Text};
+use reply_text::{text_of_answer, text_of_bad_form, text_of_reply};
 use std::alloc::Global;
 
 /// Every act of a batch has this session.

@@ -1,9 +1,9 @@
 use days_core::Rents;
-use json_front::{text_of_answer, text_of_asked};
 use office_answers::{Admissions, Answer, Asked, DueDay, HouseholdSummary, Voucher};
 use office_step::Refusal;
 use plain_data::{Listed, Text};
 use record_history::{Dates, Kind, Record};
+use reply_text::{text_of_answer, text_of_asked};
 use sample_office::{day, month, written};
 use std::alloc::Global;
 use std::test::Fail;

@@ -1,7 +1,7 @@
 use days_core::Day;
-use json_front::{text_of_bad_form, text_of_reply};
 use office_answers::Reply;
 use office_step::{Done, Made, Named, Refusal};
+use reply_text::{text_of_bad_form, text_of_reply};
 use sample_office::{day, month, written};
 use std::alloc::Global;
 use std::test::Fail;

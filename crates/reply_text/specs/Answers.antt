@@ -1,13 +1,11 @@
 -- How answers are written in JSON.
-use Rattle.std.specs.Prelude.{ℕ, ℤ, List, Option, Some, None, codes}
-use Rattle.serde_json.specs.Data.{Data, null, boolean, string, object, member, no_members}
-use Rattle.serde_json.specs.Written.{compact_text}
+use Rattle.std.specs.Prelude.{ℕ, List, Option, Some, None, codes}
+use Rattle.serde_json.specs.{Data.Data, Data.null, Data.boolean, Data.string, Data.object, Data.member, Data.no_members, Written.compact_text}
 use Rattle.json_form.specs.Written.{number_data, amount_data, day_data, month_data, text_data, or_null, array_data}
 use Rattle.record_history.specs.declared.records.{Kind.Kind, Dates.Dates, Record.Record}
 use Rattle.voucher_core.specs.declared.line.Line.{Line}
-use Rattle.wait_list.specs.declared.ask.Candidate.{Candidate}
 use Rattle.office_answers.specs.declared.answer.{HouseholdSummary.HouseholdSummary, Voucher.Voucher, DueDay.DueDay, Admissions.Admissions, Answer.Answer, Asked.Asked}
-use Rattle.json_front.specs.{Values.candidate_data, Refusals.refusal_data, Refusals.failure_data}
+use Rattle.reply_text.specs.Refusals.{candidate_data, refusal_data, failure_data}
 
 -- ---- households and records
 
@@ -30,10 +28,8 @@ kind_word Kind.TM = codes "TM"
 kind_word Kind.WD = codes "WD"
 
 abbrev pub dates_data : Dates → Data
-dates_data dates = object (
-    member (codes "done") (day_data dates.done) (
-    member (codes "event") (day_data dates.event) (
-    member (codes "notice") (day_data dates.notice) no_members)))
+dates_data dates =
+    object (member (codes "done") (day_data dates.done) (member (codes "event") (day_data dates.event) (member (codes "notice") (day_data dates.notice) no_members)))
 
 -- all its fields
 abbrev pub record_data : Record → Data
@@ -81,9 +77,7 @@ voucher_data None = object (member (codes "voucher") null no_members)
 -- ---- the other answers
 
 abbrev pub due_day_data : DueDay → Data
-due_day_data due = object (
-    member (codes "due") (day_data due.day) (
-    member (codes "household") (number_data due.household) no_members))
+due_day_data due = object (member (codes "due") (day_data due.day) (member (codes "household") (number_data due.household) no_members))
 
 abbrev pub targets_data : Admissions → Data
 targets_data targets = object (

@@ -1,10 +1,11 @@
 ghost use Rattle.std.specs.Prelude.{◌≡◌, IfOk};
 ghost use Rattle.serde_json.specs.View.{view};
-ghost use Rattle.json_front.specs.Answers.{household_data, due_day_data, targets_data, answer_data, answer_text, asked_data, asked_text};
+ghost use Rattle.reply_text.specs.Answers.{household_data, due_day_data, targets_data, answer_data, answer_text, asked_data, asked_text};
 
+use crate::members::one;
 use crate::record::record_value;
 use crate::refusal::{failure_value, refusal_value};
-use crate::values::next_value;
+use crate::values::next_member;
 use crate::voucher::voucher_value;
 use json_form::{Exact, Members, Writer, array_by};
 use office_answers::{Admissions, Answer, Asked, DueDay, HouseholdSummary};
@@ -31,12 +32,9 @@ fn answer_value(alloc: Global, answer: &Answer) -> Result<Exact, NoMemory>
     match answer {
         Answer::Household(summary) => household_value(alloc, summary),
         Answer::Record(held) => record_value(alloc, held),
-        Answer::Next(next) => {
-            let next = next_value(alloc, *next)?;
-            Ok(Members::new(alloc).with_value("next", next)?.done())
-        }
+        Answer::Next(next) => Ok(next_member(alloc, *next)?.done()),
         Answer::Voucher(voucher) => voucher_value(alloc, voucher),
-        Answer::Paid(paid) => Ok(Members::new(alloc).with("paid", paid)?.done()),
+        Answer::Paid(paid) => Ok(one(alloc, "paid", paid)?.done()),
         Answer::Due(due) => {
             let due = array_by(alloc, due.as_slice(), &DueDays)?;
             Ok(Members::new(alloc).with_value("due", due)?.done())

@@ -1,7 +1,7 @@
 ghost use Rattle.std.specs.Prelude.{◌≡◌, IfOk};
 ghost use Rattle.serde_json.specs.View.{view};
 ghost use Rattle.json_form.specs.Written.{or_null};
-ghost use Rattle.json_front.specs.Answers.{kind_word, dates_data, record_data};
+ghost use Rattle.reply_text.specs.Answers.{kind_word, dates_data, record_data};
 
 use json_form::{Exact, Members};
 use plain_data::NoMemory;
@@ -12,7 +12,6 @@ use std::alloc::Global;
 pub fn record_value(alloc: Global, held: &Record) -> Result<Exact, NoMemory>
     ensures { IfOk result (λ exact. view exact.value ≡ record_data held.now) }
 {
-    let dates = dates_value(alloc, held.dates)?;
     // From the last name to the first, so that each is put before all others and no proof has to look through them.
     let members = Members::new(alloc)
         .with("utility", &held.rents.utility)?
@@ -25,7 +24,7 @@ pub fn record_value(alloc: Global, held: &Record) -> Result<Exact, NoMemory>
         .with("household", &held.household)?
         .with("from", &held.from)?
         .with("extremely", &held.extremely)?
-        .with_value("dates", dates)?
+        .with_value("dates", dates_value(alloc, held.dates)?)?
         .with("corrects", &held.corrects)?
         .with("contract_rent", &held.rents.contract_rent)?
         .with("assistance", &held.assistance)?

@@ -1,6 +1,6 @@
-ghost use Rattle.std.specs.Prelude.{◌≡◌, IfOk};
+ghost use Rattle.std.specs.Prelude.{◌≡◌, Some, IfOk};
 ghost use Rattle.serde_json.specs.View.{view};
-ghost use Rattle.json_front.specs.Answers.{line_data, voucher_data};
+ghost use Rattle.reply_text.specs.Answers.{line_data, voucher_data};
 
 use json_form::{Exact, Members, Writer, array_by};
 use office_answers::Voucher;
@@ -13,22 +13,26 @@ pub fn voucher_value(alloc: Global, voucher: &Option<Voucher>) -> Result<Exact, 
     ensures { IfOk result (λ exact. view exact.value ≡ voucher_data voucher.now) }
 {
     match voucher {
-        Some(voucher) => {
-            let lines = array_by(alloc, voucher.lines.as_slice(), &Lines)?;
-            let members = Members::new(alloc)
-                .with("adjustments", &voucher.adjustments)?
-                .with_value("lines", lines)?
-                .with("month", &voucher.month)?
-                .with("requested", &voucher.requested)?
-                .with("total", &voucher.total)?;
-            Ok(members.done())
-        }
+        Some(voucher) => closed_value(alloc, voucher),
         None => Ok(
             Members::new(alloc)
                 .with_value("voucher", Exact::null())?
                 .done(),
         ),
     }
+}
+
+fn closed_value(alloc: Global, voucher: &Voucher) -> Result<Exact, NoMemory>
+    ensures { IfOk result (λ exact. view exact.value ≡ voucher_data (Some voucher.now)) }
+{
+    let lines = array_by(alloc, voucher.lines.as_slice(), &Lines)?;
+    let members = Members::new(alloc)
+        .with_value("lines", lines)?
+        .with("adjustments", &voucher.adjustments)?
+        .with("month", &voucher.month)?
+        .with("requested", &voucher.requested)?
+        .with("total", &voucher.total)?;
+    Ok(members.done())
 }
 
 #[derive(Drop)]

@@ -1,7 +1,8 @@
 ghost use Rattle.std.specs.Prelude.{◌≡◌, IfOk};
 ghost use Rattle.serde_json.specs.View.{view};
-ghost use Rattle.json_front.specs.Replies.{made_data, done_data, reply_data, reply_text, bad_form_text};
+ghost use Rattle.reply_text.specs.Replies.{made_data, done_data, reply_data, reply_text, bad_form_text};
 
+use crate::members::{one, two};
 use crate::refusal::{failure_value, refusal_value};
 use json_form::{Exact, Members, bad_form};
 use office_answers::Reply;
@@ -48,20 +49,16 @@ fn done_value(alloc: Global, done: &Done) -> Result<Exact, NoMemory>
 fn made_value(alloc: Global, made: &Made) -> Result<Exact, NoMemory>
     ensures { IfOk result (λ exact. view exact.value ≡ made_data made.now) }
 {
-    let none = Members::new(alloc);
     match made {
         Made::Nothing => Ok(Exact::null()),
-        Made::Unit(unit) => Ok(none.with("unit", unit)?.done()),
-        Made::Applicant(applicant) => Ok(none.with("applicant", applicant)?.done()),
+        Made::Unit(unit) => Ok(one(alloc, "unit", unit)?.done()),
+        Made::Applicant(applicant) => Ok(one(alloc, "applicant", applicant)?.done()),
         Made::Closed {
             amount,
             lines,
             month,
         } => {
-            let members = none
-                .with("amount", amount)?
-                .with("lines", lines)?
-                .with("month", month)?;
+            let members = two(alloc, "month", month, "lines", lines)?.with("amount", amount)?;
             Ok(members.done())
         }
         Made::Certified {
@@ -72,13 +69,11 @@ fn made_value(alloc: Global, made: &Made) -> Result<Exact, NoMemory>
             tenant_rent,
             ttp,
         } => {
-            let members = none
-                .with("assistance", assistance)?
-                .with("household", household)?
-                .with("record", target)?
+            let members = two(alloc, "ttp", ttp, "tenant_rent", tenant_rent)?
                 .with("reimbursement", reimbursement)?
-                .with("tenant_rent", tenant_rent)?
-                .with("ttp", ttp)?;
+                .with("record", target)?
+                .with("household", household)?
+                .with("assistance", assistance)?;
             Ok(members.done())
         }
     }

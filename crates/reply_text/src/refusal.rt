@@ -1,9 +1,10 @@
 ghost use Rattle.std.specs.Prelude.{◌≡◌, IfOk};
 ghost use Rattle.serde_json.specs.View.{view, members_view};
 ghost use Rattle.office_answers.specs.Below.office_step.Numbers.{number_of, name_of};
-ghost use Rattle.json_front.specs.Refusals.{refusal_members, named_word, refusal_data, failure_data};
+ghost use Rattle.reply_text.specs.Refusals.{refusal_members, named_word, refusal_data, failure_data};
 
-use crate::values::next_value;
+use crate::members::{one, two};
+use crate::values::next_member;
 use json_form::{Exact, Members, refused};
 use office_answers::office_step::{Named, Refusal};
 use plain_data::NoMemory;
@@ -30,48 +31,38 @@ pub fn failure_value(alloc: Global, kind: &str) -> Result<Exact, NoMemory>
 fn members_of(alloc: Global, why: &Refusal) -> Result<Members, NoMemory>
     ensures { IfOk result (λ all. members_view all.members.entries ≡ refusal_members why.now) }
 {
-    let none = Members::new(alloc);
     match why {
-        Refusal::RequestReused { act } => none.with("act", act),
-        Refusal::NoPlan => Ok(none),
-        Refusal::PlanGiven { act } => none.with("act", act),
-        Refusal::BookFull { acts } => none.with("acts", acts),
-        Refusal::NoSuch { what, id } => none.with("id", id)?.with("what", &named_word(*what)),
-        Refusal::Stale { newest } => none.with("newest", newest),
-        Refusal::Unseen { newest } => none.with("newest", newest),
-        Refusal::FactsRule { rule } => none.with("rule", &u32::from(*rule)),
-        Refusal::DayRange { first, last } => none.with("first", first)?.with("last", last),
-        Refusal::NoRent { group, day } => none.with("group", group)?.with("day", day),
-        Refusal::NoLimits { day } => none.with("day", day),
-        Refusal::NotLive { target } => none.with("record", target),
-        Refusal::WrongDay { right } => none.with("right", right),
-        Refusal::Disorder { target } => none.with("record", target),
-        Refusal::NameTaken { unit } => none.with("unit", unit),
-        Refusal::SizeMisfit { unit, size } => none.with("unit", unit)?.with("size", size),
-        Refusal::UnitTaken { household, day } => {
-            none.with("household", household)?.with("day", day)
-        }
-        Refusal::NotNext { next } => none.with_value("next", next_value(alloc, *next)?),
-        Refusal::Ineligible { limit, annual } => {
-            none.with("limit", limit)?.with("annual", annual)
-        }
-        Refusal::NoAssistance { ttp, gross } => none.with("ttp", ttp)?.with("gross", gross),
-        Refusal::WrongMonth { next } => none.with("next", next),
+        Refusal::RequestReused { act } => one(alloc, "act", act),
+        Refusal::NoPlan => Ok(Members::new(alloc)),
+        Refusal::PlanGiven { act } => one(alloc, "act", act),
+        Refusal::BookFull { acts } => one(alloc, "acts", acts),
+        Refusal::NoSuch { what, id } => two(alloc, "id", id, "what", &named_word(*what)),
+        Refusal::Stale { newest } => one(alloc, "newest", newest),
+        Refusal::Unseen { newest } => one(alloc, "newest", newest),
+        Refusal::FactsRule { rule } => one(alloc, "rule", &u32::from(*rule)),
+        Refusal::DayRange { first, last } => two(alloc, "first", first, "last", last),
+        Refusal::NoRent { group, day } => two(alloc, "group", group, "day", day),
+        Refusal::NoLimits { day } => one(alloc, "day", day),
+        Refusal::NotLive { target } => one(alloc, "record", target),
+        Refusal::WrongDay { right } => one(alloc, "right", right),
+        Refusal::Disorder { target } => one(alloc, "record", target),
+        Refusal::NameTaken { unit } => one(alloc, "unit", unit),
+        Refusal::SizeMisfit { unit, size } => two(alloc, "unit", unit, "size", size),
+        Refusal::UnitTaken { household, day } => two(alloc, "household", household, "day", day),
+        Refusal::NotNext { next } => next_member(alloc, *next),
+        Refusal::Ineligible { limit, annual } => two(alloc, "limit", limit, "annual", annual),
+        Refusal::NoAssistance { ttp, gross } => two(alloc, "ttp", ttp, "gross", gross),
+        Refusal::WrongMonth { next } => one(alloc, "next", next),
         Refusal::RentDue {
             household,
             target,
             day,
-        } => none
-            .with("household", household)?
-            .with("record", target)?
-            .with("day", day),
+        } => two(alloc, "household", household, "record", target)?.with("day", day),
         Refusal::Overdue {
             household,
             anniversary,
-        } => none
-            .with("household", household)?
-            .with("anniversary", anniversary),
-        Refusal::LinesFull { lines, more } => none.with("lines", lines)?.with("more", more),
+        } => two(alloc, "household", household, "anniversary", anniversary),
+        Refusal::LinesFull { lines, more } => two(alloc, "lines", lines, "more", more),
     }
 }
 
