@@ -1,5 +1,10 @@
 -- Admissions and transfers take the next candidate.
 use Rattle.office_laws.proofs.Words.{nat_tests, common_steps, arith, Refusal, ◌≡◌, refl, ℕ, false, Option, Some, None, is_some, if◌then◌else◌, Plan, unit_at, Command, Known, known_of, no_unit, not_next, HouseholdChange, MoveIn, Passed, or_none, is_plan, no_such_in, move_in_for, of_move_in, out_of_turn, Candidate}
+use Rattle.std.proofs.Common.{subst}
+use Rattle.rent_table.specs.Table.{limits_on}
+use Rattle.wait_list.specs.{Next.Asked, Next.next_candidate, RightfulNext.IsRightAnswer}
+use Rattle.wait_list.proofs.PlainNext.{next_is_plain}
+use Rattle.office_step.specs.Candidates.{asked_of, targets_of}
 use Rattle.office_step.specs.Refusals as test
 use Rattle.office_laws.specs.Taken.{TakesNextBy, IsNextFor, TakesNext}
 use Rattle.office_laws.proofs.{Inversion.passes, Reached.plan_there}
@@ -17,12 +22,16 @@ next_for : (known : Known) (mover : MoveIn) → (plan : Plan) × (known.plan ≡
     of_move_in known (Some mover) (out_of_turn known) ≡ None → IsNextFor known mover.unit mover.from mover.candidate
 next_for known mover (plan, is_plan) there none =
     let unit = some_there (unit_at known.units mover.unit) _ there in
+    let asked : Asked = asked_of plan unit.0 mover.from (limits_on known.limits mover.from) known.requests known.households in
+    let next : next_candidate asked known.waiting ≡ Some mover.candidate = is_the_next _ mover.candidate (rw (is_plan, unit.1) at none) in
     record {
       plan = plan;
       row = unit.0;
       is_plan = is_plan;
       is_unit = unit.1;
-      is_next = is_the_next _ mover.candidate (rw (is_plan, unit.1) at none);
+      is_next = next;
+      rightly = subst (IsRightAnswer (targets_of plan mover.from known.households) asked known.waiting) next
+          (next_is_plain (targets_of plan mover.from known.households) asked known.waiting refl);
     }
 
 takes_next : (known : Known) (most today : ℕ) (asked : Command) → (is_plan asked ≡ false → (plan : Plan) × (known.plan ≡ Some plan)) →
