@@ -30,6 +30,12 @@ long_line bytes long = by_front long.front long.whole long.endless long.long
         let most : length (b ∷ front) ≤ length first.line = first.long in
         (first.line, first.others, ap lines_of whole ∙ first.lines, omega arith)
 
+-- where a reader that holds some bytes has none left, its source has none
+pub none_behind : (held : List ℕ) (left : Option (List ℕ)) → IsAtEnd (prepend_known held left) → IsAtEnd left
+none_behind held None ended = tt
+none_behind [] (Some x) ended = ended
+none_behind (b ∷ held) (Some x) ended = absurd (cc)
+
 -- a front of the lines was taken
 abbrev pub IsFront : List ℕ → List (List ℕ) → Type 0
 IsFront input lines = (rest : List (List ℕ)) × (lines_of input ≡ lines ++ rest)
@@ -54,18 +60,19 @@ module _ (left known : Option (List ℕ)) (lines : List (List ℕ)) (taken : Con
   is_front = by_taken left known (joined lines) (λ input. IsFront input lines) taken (λ rest there. (lines_of rest, lines_of-joined lines rest endless))
 
   -- nothing is left
-  pub follows_done : (now left_now : Option (List ℕ)) → Keeps known now → IsAtEnd now → IfSome left (λ input. Follows input left_now lines Ending.Done)
-  follows_done now left_now kept ended =
-      Consumes-whole left now (joined lines) (λ input. lines ≡ lines_of input) (Consumes-kept left known now (joined lines) taken kept) ended
-      (sym (simp append-nil at (lines_of-joined lines [] endless)))
+  pub follows_done : (now left_now : Option (List ℕ)) → Keeps known now → IsAtEnd now → IsAtEnd left_now →
+      IfSome left (λ input. Follows input left_now lines Ending.Done)
+  follows_done now left_now kept ended at_end =
+      Consumes-whole left now (joined lines) (λ input. (lines ≡ lines_of input) × IsAtEnd left_now) (Consumes-kept left known now (joined lines) taken kept) ended
+      (sym (simp append-nil at (lines_of-joined lines [] endless)), at_end)
 
   -- the last line was taken
   last_taken : (last : List ℕ) → IsEndless last → 0 < length last → lines_of (joined lines ++ last) ≡ lines ++ last ∷ []
   last_taken last one some = lines_of-joined lines last endless ∙ rw (lines_of-alone last one some) refl
 
-  pub follows_last : (now left_now : Option (List ℕ)) (last : List ℕ) → IsEndless last → 0 < length last → Consumes known now last → IsAtEnd now
-      → IfSome left (λ input. Follows input left_now (lines ++ last ∷ []) Ending.Done)
-  follows_last now left_now last one some consumed ended =
+  pub follows_last : (now : Option (List ℕ)) (last : List ℕ) → IsEndless last → 0 < length last → Consumes known now last → IsAtEnd now
+      → IfSome left (λ input. lines ++ last ∷ [] ≡ lines_of input)
+  follows_last now last one some consumed ended =
       Consumes-whole left now (joined lines ++ last) (λ input. lines ++ last ∷ [] ≡ lines_of input) (Consumes-trans left known now (joined lines) last taken consumed) ended
       (sym (last_taken last one some))
 

@@ -2,7 +2,7 @@
 use Rattle.std.proofs.Common.{◌≡◌, ◌≤◌, ◌<◌, ◌+◌, ◌⊎◌, inl, inr, ℕ, List, [], ◌∷◌, ◌++◌, None, Some, IfSome, length, refl, subst, ◌∙◌, arith, length-append}
 use Rattle.std.specs.Prelude.{Option, All, unwrap_or}
 use Rattle.std.specs.Io.KnownBytes.{Appends, Consumes, Keeps, IsAtEnd, prepend_known}
-use Rattle.std.proofs.{KnownBytes.Appends-trans, KnownBytes.Appends-kept, KnownBytes.Consumes-trans, lemmas.List.map-append, lemmas.List.length-map, lemmas.List.Elements.All-push, lemmas.List.Elements.All-map, lemmas.List.Elements.All-weaker}
+use Rattle.std.proofs.{KnownBytes.Appends-trans, KnownBytes.Appends-kept, KnownBytes.Consumes-trans, lemmas.Option.IfSome_then, lemmas.List.map-append, lemmas.List.length-map, lemmas.List.Elements.All-push, lemmas.List.Elements.All-map, lemmas.List.Elements.All-weaker}
 use Rattle.office_io.specs.Transfer.{AppendsPart}
 use Rattle.line_input.specs.{declared.reader.Next.Next, Lines.IsEndless, Lines.lines_of, Reading.Reading, Reading.Comes}
 use Rattle.book_rows.specs.Book.{Book}
@@ -10,7 +10,7 @@ use Rattle.clerk_desk.specs.Below.office_step.declared.call.Capacity.{Capacity}
 use Rattle.batch_command.specs.{declared.ending.Ending.Ending, Output.Given, Output.told_of, Output.batch_output, Line.AnswersLine}
 use Rattle.batch_command.specs.Batch.{line_limit, most_lines, lines_in, ending_of, Follows, Writes, WritesPart, Ran}
 use Rattle.batch_command.proofs.SoFar.{IsTaken, SoFar, book-more, written-more, joined-more}
-use Rattle.batch_command.proofs.Ends.{IsFront, is_front, is_front_last, follows_done, follows_last, follows_failed, follows_long, follows_more, follows_more_last}
+use Rattle.batch_command.proofs.Ends.{none_behind, IsFront, is_front, is_front_last, follows_done, follows_last, follows_failed, follows_long, follows_more, follows_more_last}
 
 -- a line came
 abbrev pub IsLine : Next → Type 0
@@ -71,7 +71,8 @@ module _ {capacity : Capacity} {shows : ℕ → Type 0} {old : Book} {left held 
         → Comes line_limit known known_now reading what → known_now ≡ prepend_known reading.rest left_now
         → Ran capacity shows old new left left_now held held_now (ending_of what)
     ran_without {known_now} {left_now} reading Next.End many comes is =
-        stop left_now Ending.Done (follows_done left known (lines_in given) so_far.consumed endless known_now left_now comes.0 comes.1) so_far.written
+        stop left_now Ending.Done (follows_done left known (lines_in given) so_far.consumed endless known_now left_now comes.0 comes.1
+        (none_behind reading.rest left_now (subst IsAtEnd is comes.1))) so_far.written
     ran_without {known_now} {left_now} reading Next.TooLong many comes is =
         stop left_now Ending.TooLong (follows_long left known (lines_in given) so_far.consumed endless known_now left_now comes.0 comes.1) so_far.written
     ran_without {known_now} {left_now} reading Next.Line many comes is =
@@ -126,17 +127,17 @@ module _ {capacity : Capacity} {shows : ℕ → Type 0} {old : Book} {left held 
         (rw (joined-more given g) (Consumes-trans left known known_now _ _ so_far.consumed consumed)) (endless_lines shows (given ++ g ∷ []) (All-push (IsTaken shows) given g so_far.taken taken))) answers
 
     -- the batch ends with its last line, or within it
-    pub ran_last : (known_now left_now : Option (List ℕ)) (found : Option Ending) → 0 < length g.line → Consumes known known_now g.line → IsAtEnd known_now
+    pub ran_last : (known_now left_now : Option (List ℕ)) (found : Option Ending) → 0 < length g.line → Consumes known known_now g.line → IsAtEnd known_now → IsAtEnd left_now
         → AnswersLine (told_of capacity mid g) mid new held_mid held_now found → Ran capacity shows old new left left_now held held_now (unwrap_or found Ending.Done)
-    ran_last known_now left_now found some consumed ended answers = by_end found answers
+    ran_last known_now left_now found some consumed ended at_end answers = by_end found answers
       where
         follows : IfSome left (λ input. lines_in (given ++ g ∷ []) ≡ lines_of input)
         follows =
             rw (lines_in-more given g)
-            (follows_last left known (lines_in given) so_far.consumed (endless_lines shows given so_far.taken) known_now left_now g.line taken.endless some consumed ended)
+            (follows_last left known (lines_in given) so_far.consumed (endless_lines shows given so_far.taken) known_now g.line taken.endless some consumed ended)
 
         by_end : (found : Option Ending) → AnswersLine (told_of capacity mid g) mid new held_mid held_now found
             → Ran capacity shows old new left left_now held held_now (unwrap_or found Ending.Done)
         by_end None answers =
-            with_line left_now Ending.Done follows answers.0 (written-more capacity old mid held held_mid held_now given g so_far.book so_far.written answers.1)
+            with_line left_now Ending.Done (IfSome_then left follows (λ input all. (all, at_end))) answers.0 (written-more capacity old mid held held_mid held_now given g so_far.book so_far.written answers.1)
         by_end (Some end) answers = ran_within left_now end (is_front_last left (lines_in (given ++ g ∷ [])) follows) answers

@@ -1,6 +1,7 @@
 -- The turns of the loop over the lines, by what the reader and the line's answer say.
 use Rattle.std.proofs.Common.{◌≡◌, ◌<◌, ◌+◌, ℕ, List, [], ◌∷◌, ◌++◌, None, Some, length, subst, arith, length-append}
 use Rattle.std.specs.Prelude.{Option, unwrap_or}
+use Rattle.std.specs.Io.KnownBytes.{IsAtEnd}
 use Rattle.line_input.specs.declared.reader.Next.{Next}
 use Rattle.line_input.specs.Reading.{Reading, Comes}
 use Rattle.book_rows.specs.Book.{Book}
@@ -43,10 +44,10 @@ module _ (capacity own : Capacity) (shows : ℕ → Type 0) (old mid new : Book)
       ran_line so_far (omega arith) (record { line = reading.line; day = a.0 }) (record { endless = comes.0; short = comes.1; shown = a.1 }) known_now left_now end comes.2 a.2
 
   -- the batch ends with its last line
-  pub ends_with : (left_now : Option (List ℕ)) (found : Option Ending) (end : Ending) → count < most_lines → Comes line_limit known known_now reading Next.Last
+  pub ends_with : (left_now : Option (List ℕ)) (found : Option Ending) (end : Ending) → count < most_lines → Comes line_limit known known_now reading Next.Last → IsAtEnd left_now
       → AnsweredOn shows own mid new line held_mid held_now found → end ≡ unwrap_or found Ending.Done → Ran capacity shows old new left left_now held held_now end
-  ends_with left_now found end few comes answered is =
+  ends_with left_now found end few comes at_end answered is =
       let a : AnsweredOn shows capacity mid new reading.line held_mid held_now found =
       same_line shows capacity own mid new line reading.line held_mid held_now found same is_line answered in
       rw is (ran_last so_far (omega arith) (record { line = reading.line; day = a.0 }) (record { endless = comes.0; short = comes.1; shown = a.1 }) known_now left_now found
-      comes.2 comes.3 comes.4 a.2)
+      comes.2 comes.3 comes.4 at_end a.2)

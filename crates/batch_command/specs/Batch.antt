@@ -1,6 +1,6 @@
 -- Which lines a batch answers, what of the answers is written, and how it ends.
 use Rattle.std.specs.Prelude.{◌≡◌, ◌≤◌, ◌<◌, ◌⊎◌, ℕ, Option, Some, IfSome, List, [], ◌∷◌, ◌++◌, All, map, length, take}
-use Rattle.std.specs.Io.KnownBytes.{Appends, Consumes}
+use Rattle.std.specs.Io.KnownBytes.{Appends, Consumes, IsAtEnd}
 use Rattle.office_io.specs.Outside.{Faulted}
 use Rattle.line_input.specs.{declared.reader.Next.Next, Lines.lines_of, Lines.ended_lines}
 use Rattle.book_rows.specs.Book.{Book}
@@ -28,10 +28,10 @@ ending_of Next.NoMemory = Ending.NoMemory
 abbrev pub lines_in : List Given → List (List ℕ)
 lines_in given = map (λ g. g.line) given
 
--- The lines are those of the input: all of them; or those before the first that is too long or one too many; or those whose
--- end was read before the source failed; or a front of them.
+-- The lines are those of the input: all of them, and the source is at its end; or those before the first that is too long or
+-- one too many; or those whose end was read before the source failed; or a front of them.
 abbrev pub Follows : List ℕ → Option (List ℕ) → List (List ℕ) → Ending → Type 0
-Follows input left lines Ending.Done = lines ≡ lines_of input
+Follows input left lines Ending.Done = (lines ≡ lines_of input) × IsAtEnd left
 Follows input left lines Ending.TooLong =
     (line : List ℕ) × (rest : List (List ℕ)) × (lines_of input ≡ lines ++ line ∷ rest) × ((length lines ≡ most_lines) ⊎ (line_limit < length line))
 Follows input left lines Ending.ReadFault = (read : List ℕ) × Consumes (Some input) left read × (lines ≡ ended_lines read)

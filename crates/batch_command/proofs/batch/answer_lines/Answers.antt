@@ -1,5 +1,5 @@
 use Rattle.std.proofs.Common.{[], refl, arith, rules}
-use Rattle.batch_command.proofs.{SoFar.so_far_start, Runs.ran_without, Steps.goes_on, Steps.ends_within, Steps.ends_with}
+use Rattle.batch_command.proofs.{Ends.none_behind, SoFar.so_far_start, Runs.ran_without, Steps.goes_on, Steps.ends_within, Steps.ends_with}
 use Rattle.line_input.specs.declared.reader.Next.{Next}
 use Rattle.batch_command.proofs.batch.answer_lines.Goals as goal
 
@@ -37,7 +37,8 @@ returns-in-Some-clause-ran g c =
 pub returns-in-Last-clause-ran : goal.returns-in-Last-clause-ran
 returns-in-Last-clause-ran g c =
     ends_with _ _ _ _ _ _ _ _ _ _ _ _ c.loop.invariant.answered.0 c.next.new.self _ c.loop.counter c.loop.invariant.capacity c.line-in-Last.ensures
-    c.loop.invariant.answered.1 c.loop.invariant.answered.2 _ _ _ (search rules) c.in-Last.ensures.comes c.answer_line-in-Last.ensures.answered c.unwrap_or.ensures
+    c.loop.invariant.answered.1 c.loop.invariant.answered.2 _ _ _ (search rules) c.in-Last.ensures.comes
+    (none_behind _ _ c.in-Last.ensures.comes.4) c.answer_line-in-Last.ensures.answered c.unwrap_or.ensures
 
 pub returns-in-End-clause-ran : goal.returns-in-End-clause-ran
 returns-in-End-clause-ran g c =
