@@ -2,7 +2,7 @@
 use Rattle.std.proofs.Common.{◌≡◌, ◌∙◌, sym, ap, refl, subst, subst₂, ℕ, zero, suc, ◌<◌, ◌≤◌, ◌-◌, ◌⊎◌, inl, inr, arith, List, [], ◌∷◌, ◌++◌, Some, length, length-append, append_assoc, map, slice_get, All, AllPairs, Contains, get_or, get_or-append-add, ◌+◌}
 use Rattle.std.specs.List.{flat_map}
 use Rattle.std.proofs.{lemmas.Bool.cases_lt, Math.ListN.get_or-map, Math.ListN.length-map}
-use Rattle.std.proofs.lemmas.List.{get_or_append_left, get_or-append_right, get_or_past, get_or_push}
+use Rattle.std.proofs.lemmas.List.{Elements.All-map, Kept.AllPairs-cons, get_or_append_left, get_or-append_right, get_or_past, get_or_push}
 
 -- the element at a place is among all, or the one given for none
 pub All-place : {X : Type 0} (P : X → Type 0) (xs : List X) (place : ℕ) (d : X) → All P xs → P d → P (get_or xs place d)
@@ -82,3 +82,10 @@ AllPairs-append {X} R xs ys lefts rights across = λ i j d before within. by_pla
     by_places i j d before within (inr right) (inr past) =
         subst₂ R (sym (at_right i d past)) (sym (at_right j d right))
         (rights (i - length xs) (j - length xs) d (omega (arith, before, past)) (omega (arith, within, right, length-append xs ys)))
+
+pub AllPairs-map : {X Y : Type 0} (R : Y → Y → Type 0) (f : X → Y) (xs : List X) → AllPairs (λ x later. R (f x) (f later)) xs → AllPairs R (map f xs)
+AllPairs-map R f [] pairs = λ i j d before within. absurd (omega arith)
+AllPairs-map R f (x ∷ xs) pairs =
+    AllPairs-cons R (f x) (map f xs)
+    (All-map (R (f x)) f xs (λ k d within. pairs zero (suc k) d (omega arith) (omega arith)))
+    (AllPairs-map R f xs (λ i j d before within. pairs (suc i) (suc j) d (omega arith) (omega arith)))

@@ -1,8 +1,9 @@
 -- What a filter keeps.
 use Rattle.std.proofs.Common.{◌≡◌, ◌≤◌, Bool, true, false, List, [], ◌∷◌, length, refl, ap, arith}
-use Rattle.std.specs.Prelude.{◌&&◌, filter, All, if◌then◌else◌}
-use Rattle.std.proofs.lemmas.List.Elements.{All-nil, All-cons, All-head, All-tail}
+use Rattle.std.specs.Prelude.{◌&&◌, filter, All, Contains, if◌then◌else◌}
+use Rattle.std.proofs.lemmas.List.Elements.{All-nil, All-cons, All-head, All-tail, All-filter, All-contains, All-contains_itself, filter_passes}
 use Rattle.std.proofs.lemmas.{List.Sums.length-filter, List.Sums.count_by-le-length, Grind.common_steps}
+use Rattle.list_laws.proofs.Elements.{All-both}
 
 -- nothing is kept where nothing passes
 pub filter_none : {X : Type 0} (p : X → Bool) (xs : List X) → All (λ x. p x ≡ false) xs → filter p xs ≡ []
@@ -40,3 +41,14 @@ All-passing p P (x ∷ xs) kept = by_test (p x) refl kept (All-passing p P xs)
     by_test true is kept rest =
         All-cons (λ x. p x ≡ true → P x) x xs (λ _. All-head P x (filter p xs) kept) (rest (All-tail P x (filter p xs) kept))
     by_test false is kept rest = All-cons (λ x. p x ≡ true → P x) x xs (λ passed. absurd (cc)) (rest kept)
+
+-- an element that passes is kept
+pub Contains-filter : {X : Type 0} (p : X → Bool) (xs : List X) (x : X) → Contains xs x → p x ≡ true → Contains (filter p xs) x
+Contains-filter p xs x held =
+    All-contains (λ y. p y ≡ true → Contains (filter p xs) y) xs x (All-passing p (Contains (filter p xs)) xs (All-contains_itself (filter p xs))) held
+
+-- and what is kept is one that passes
+pub filter-contains : {X : Type 0} (p : X → Bool) (xs : List X) (x : X) → Contains (filter p xs) x → Contains xs x × (p x ≡ true)
+filter-contains p xs x kept =
+    All-contains (λ y. Contains xs y × (p y ≡ true)) (filter p xs) x
+    (All-both (Contains xs) (λ y. p y ≡ true) (filter p xs) (All-filter p (Contains xs) xs (All-contains_itself xs)) (filter_passes p xs)) kept

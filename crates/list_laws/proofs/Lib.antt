@@ -4,4 +4,5 @@ pub mod FilterMaps
 pub mod Filters
 pub mod Finds
 pub mod Options
+pub mod Pieces
 pub mod Ranges

@@ -1,24 +1,11 @@
 -- A list that was sorted by its days, and that keeps the order of the items of one day, is that list day after day.
-use Rattle.std.proofs.Common.{◌≡◌, ◌∙◌, ◌⊎◌, inl, inr, sym, ap, ap₂, refl, ℕ, zero, suc, ◌+◌, ◌<◌, ◌≤◌, arith, Bool, true, false, List, [], ◌∷◌, ◌++◌, filter, All, cond, get_or, ltb}
+use Rattle.std.proofs.Common.{◌≡◌, ◌∙◌, ◌⊎◌, inl, inr, sym, ap, ap₂, refl, ℕ, zero, suc, ◌+◌, ◌<◌, ◌≤◌, arith, Bool, true, false, List, [], ◌∷◌, ◌++◌, filter, All, get_or, ltb}
 use Rattle.std.specs.Prelude.{◌==◌}
 use Rattle.std.specs.{List.range_with_len, List.flat_map, Ordering.nat_cmp, Ordering.is_lt}
 use Rattle.std.specs.List.Sorted.{IsSortedByKey, IsStableByKey, IsNonDecreasingBy, ties}
 use Rattle.std.proofs.lemmas.Bool.{cases_order, lt-ltb, le-ltb, eq-eqb, ne_eqb}
-use Rattle.std.proofs.lemmas.List.{Concat.flat_map-append, append-nil, Elements.All-head, Elements.All-tail, Elements.filter_agree, Sorted.IsNonDecreasingBy-from_sort}
-use Rattle.voucher_core.proofs.Totals.{range-more}
-
--- nothing is kept where nothing passes, and everything where everything does
-filter_none : {X : Type 0} (p : X → Bool) (xs : List X) → All (λ x. p x ≡ false) xs → filter p xs ≡ []
-filter_none p [] none = refl
-filter_none p (x ∷ xs) none =
-    ap (λ (b : Bool). cond b (x ∷ filter p xs) (filter p xs)) (All-head (λ x. p x ≡ false) x xs none)
-    ∙ filter_none p xs (All-tail (λ x. p x ≡ false) x xs none)
-
-filter_all : {X : Type 0} (p : X → Bool) (xs : List X) → All (λ x. p x ≡ true) xs → filter p xs ≡ xs
-filter_all p [] all = refl
-filter_all {X} p (x ∷ xs) all =
-    ap (λ (b : Bool). cond b (x ∷ filter p xs) (filter p xs)) (All-head (λ x. p x ≡ true) x xs all)
-    ∙ ap (λ (rest : List X). x ∷ rest) (filter_all p xs (All-tail (λ x. p x ≡ true) x xs all))
+use Rattle.std.proofs.lemmas.List.{Concat.flat_map-append, append-nil, Elements.filter_agree, Sorted.IsNonDecreasingBy-from_sort}
+use Rattle.list_laws.proofs.{Filters.filter_none, Filters.filter_all, Ranges.range-more}
 
 flat_map-same : {X : Type 0} (f g : ℕ → List X) → ((k : ℕ) → f k ≡ g k) → (ks : List ℕ) → flat_map f ks ≡ flat_map g ks
 flat_map-same f g same [] = refl

@@ -1,25 +1,14 @@
 -- What is due of so many households, and of one more.
-use Rattle.std.proofs.Common.{◌≡◌, ◌∙◌, sym, ap, refl, ℕ, suc, ◌+◌, ◌≤◌, List, [], ◌∷◌, ◌++◌, Option, Some, None, arith, All, append-nil}
+use Rattle.std.proofs.Common.{◌≡◌, ◌∙◌, sym, ap, add-one, ℕ, ◌+◌, ◌≤◌, List, [], ◌∷◌, ◌++◌, Option, Some, None, arith, All, append-nil}
 use Rattle.std.specs.{Prelude.option_to_list, List.range_with_len, List.filter_map}
-use Rattle.std.proofs.lemmas.List.Elements.{filter_map-append, All-push}
+use Rattle.std.proofs.lemmas.List.Elements.{All-push}
 use Rattle.record_history.specs.declared.records.Record.{Record}
-use Rattle.voucher_core.proofs.Totals.{range-more}
+use Rattle.list_laws.proofs.{FilterMaps.filter_map_more, Ranges.range_more}
 use Rattle.office_answers.specs.{declared.answer.DueDay.DueDay, DueList.horizon, DueList.due_of}
-
-one_of : {X : Type 0} (found : Option X) (f : ℕ → Option X) (place : ℕ) → f place ≡ found → filter_map f (place ∷ []) ≡ option_to_list found
-one_of None f place is = rw is refl
-one_of (Some x) f place is = rw is refl
 
 one_more : {X : Type 0} (f : ℕ → Option X) (place : ℕ) →
     filter_map f (range_with_len 1 (place + 1)) ≡ filter_map f (range_with_len 1 place) ++ option_to_list (f (place + 1))
-one_more {X} f place =
-    let long : place + 1 ≡ suc place = omega arith in
-    let next : 1 + place ≡ place + 1 = omega arith in
-    ap (λ (n : ℕ). filter_map f (range_with_len 1 n)) long
-    ∙ ap (filter_map f) (range-more 1 place)
-    ∙ ap (λ (n : ℕ). filter_map f (range_with_len 1 place ++ n ∷ [])) next
-    ∙ filter_map-append f (range_with_len 1 place) ((place + 1) ∷ [])
-    ∙ ap (λ (xs : List X). filter_map f (range_with_len 1 place) ++ xs) (one_of (f (place + 1)) f (place + 1) refl)
+one_more f place = rw (add-one, range_more 1 place (place + 1) (omega arith)) (filter_map_more f (range_with_len 1 place) (place + 1))
 
 -- these are due of so many households, all of them soon enough
 pub record AreDue (households : List (List Record)) (day place : ℕ) (dues : List DueDay) : Type 0 where

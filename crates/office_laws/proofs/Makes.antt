@@ -1,6 +1,7 @@
 -- The record of an act names it and a household that is there, or the next; and its lines name it.
 use Rattle.office_laws.proofs.Words.{◌≡◌, ℕ, zero, suc, ◌+◌, ◌<◌, arith, List, [], ◌∷◌, Option, Some, None, length, All, slice_index_or, All-nil, All-append, Record, as_of, Plan, Line, month_lines, known_before, lines_for, adjustment_lines, closing_lines, placed, Command, Known, own_in, record_of, last_close, lines_of, option_map_or, made_is_headed, all_earlier, refl, names_given, no_such, or_none, household_there, IsHeaded, of_household, IsOneOf, next_under}
-use Rattle.voucher_core.proofs.Paid.{each_line, all_pieces, all_placed}
+use Rattle.list_laws.proofs.Pieces.{all_pieces}
+use Rattle.voucher_core.proofs.Paid.{each_line, all_placed}
 
 pub record_names_act : (known : Known) (asked : Command) (r : Record) → record_of known asked ≡ Some r → r.act ≡ known.count + 1
 record_names_act known asked r is = (next_under known _ r (made_is_headed known asked r is).under).act

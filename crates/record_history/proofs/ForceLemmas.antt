@@ -3,7 +3,8 @@ use Rattle.std.proofs.Common.{◌≡◌, ◌≢◌, ◌∙◌, sym, ap, refl, �
 use Rattle.std.specs.Prelude.{◌↔◌, ◌&&◌, ◌==◌, not, nat_le, Contains}
 use Rattle.std.specs.List.{list_any}
 use Rattle.std.proofs.lemmas.{Bool.false≢true, Bool.ne_eqb, Bool.eq-eqb, Bool.le-leb, Bool.leb-true, Grind.common_steps, List.Elements.All-contains, List.Elements.All-contains_itself, List.Folds.list_any_none, List.Folds.list_any_at, List.get_or_default}
-use Rattle.row_choice.proofs.{LatestLemmas.filter-filter, StandsLemmas.IsLast, StandsLemmas.latest-last, StandsLemmas.last-latest, StandsLemmas.latest-none, StandsLemmas.none-latest, StandsLemmas.Contains-filter, StandsLemmas.filter-contains}
+use Rattle.list_laws.proofs.Filters.{Contains-filter, filter-contains}
+use Rattle.row_choice.proofs.{LatestLemmas.filter-filter, StandsLemmas.IsLast, StandsLemmas.latest-last, StandsLemmas.last-latest, StandsLemmas.latest-none, StandsLemmas.none-latest}
 use Rattle.record_history.specs.{declared.records.Kind.Kind, declared.records.Record.Record, Held.AreNumbered}
 use Rattle.record_history.specs.Records.{as_of, is_withdrawal, in_force}
 use Rattle.record_history.specs.Law.{is_candidate, CountsOn, IsOneInForce}

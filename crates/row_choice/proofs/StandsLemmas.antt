@@ -2,21 +2,10 @@
 use Rattle.std.proofs.Common.{◌≡◌, sym, ℕ, ◌≤◌, Bool, true, false, List, arith, refl}
 use Rattle.std.specs.Prelude.{◌↔◌, Option, Some, None, filter, Contains, IsSomeAnd}
 use Rattle.std.proofs.lemmas.{Bool.Decides.nat_tests}
-use Rattle.std.proofs.lemmas.List.Elements.{All-filter, All-contains, All-contains_itself, filter_passes}
+use Rattle.std.proofs.lemmas.List.Elements.{All-contains}
 use Rattle.row_choice.specs.Latest.{comes_before, latest, IsLatest}
 use Rattle.row_choice.proofs.LatestLemmas.{latest-is, pairs_order}
-use Rattle.list_laws.proofs.{Elements.All-both, Filters.All-passing}
-
--- an element that passes is kept
-pub Contains-filter : {X : Type 0} (p : X → Bool) (xs : List X) (x : X) → Contains xs x → p x ≡ true → Contains (filter p xs) x
-Contains-filter p xs x held =
-    All-contains (λ y. p y ≡ true → Contains (filter p xs) y) xs x (All-passing p (Contains (filter p xs)) xs (All-contains_itself (filter p xs))) held
-
--- and what is kept is one that passes
-pub filter-contains : {X : Type 0} (p : X → Bool) (xs : List X) (x : X) → Contains (filter p xs) x → Contains xs x × (p x ≡ true)
-filter-contains p xs x kept =
-    All-contains (λ y. Contains xs y × (p y ≡ true)) (filter p xs) x
-    (All-both (Contains xs) (λ y. p y ≡ true) (filter p xs) (All-filter p (Contains xs) xs (All-contains_itself xs)) (filter_passes p xs)) kept
+use Rattle.list_laws.proofs.Filters.{Contains-filter, filter-contains}
 
 -- The row counts, none that counts has a greater first number, and none with the same one a greater second number.
 pub record IsLast {Row : Type 0} (first second : Row → ℕ) (Counts : Row → Type 0) (row : Row) : Type 0 where

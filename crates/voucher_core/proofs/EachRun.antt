@@ -1,48 +1,9 @@
 -- The lines of a closing tell each run, once.
 use Rattle.voucher_core.proofs.Words.{◌≡◌, ◌≢◌, ◌⊎◌, inl, inr, ℕ, zero, suc, ◌+◌, ◌-◌, ◌<◌, ◌≤◌, List, [], ◌∷◌, length, Bool, true, Option, Some, None, pos, ◌-ℤ◌, refl, ap, sym, ◌∙◌, arith, All, Any, AllPairs, Contains, All-nil, All-map, AllPairs-cons, AllPairs-filter, AllPairs-append, Contains-append_left, Contains-append_right, Contains-get_or, Contains-map, get_or, filter, map, not, ◌==◌, ne_eqb, eq-eqb, cond_both, false_from_ne_true, cases_lt, range_with_len, flat_map, int_eq, Decides-int_eq, days_in, first_of, last_of, first_of-suc, days_in_bounds, Record, AreNumbered, as_of, number_on, Stretch, Change, Line, day_at, changes, difference, line_of, month_lines, known_before, lines_for, adjustment_lines, closing_lines, placed, shares_of, old_on, new_on, IsLongestRun, IsPaidFor, TellsRun, ComesBefore, LinesTellEachRun}
-use Rattle.voucher_core.proofs.{Paid.all_pieces, Paid.each_passing, Paid.each_line, Settled.all_months, Settled.all_for, Settled.all_closing}
+use Rattle.list_laws.proofs.{Elements.AllPairs-map, Filters.Contains-filter, Pieces.all_pieces, Pieces.Contains-pieces, Pieces.AllPairs-pieces}
+use Rattle.voucher_core.proofs.{Paid.each_passing, Paid.each_line, Settled.all_months, Settled.all_for, Settled.all_closing}
 use Rattle.voucher_core.proofs.{Named.changes_of_days, Named.leads, Named.leads_before, Named.line_amount, Named.changes_are_longest, Gathered.length-placed}
 use Rattle.voucher_core.proofs.LongestRuns.{ascending, each_longest, found}
-
--- Lists ----
-
-Contains-filter : {X : Type 0} (p : X → Bool) (xs : List X) (x : X) → p x ≡ true → Contains xs x → Contains (filter p xs) x
-Contains-filter p [] x passes (k, within, at) = absurd (omega arith)
-Contains-filter p (y ∷ ys) x passes (zero, within, at) = (let first : p y ≡ true = cc in rw first (0, omega arith, at))
-Contains-filter {X} p (y ∷ ys) x passes (suc k, within, at) =
-    let rest = Contains-filter p ys x passes (k, omega arith, at) in
-    cond_both (p y) _ _ (λ (zs : List X). Contains zs x) (λ _. Contains-append_right (y ∷ []) (filter p ys) x rest) (λ _. rest)
-
--- what is in one piece is among all
-Contains-pieces : (f : ℕ → List Line) (a n k : ℕ) (l : Line) → a ≤ k → k < a + n → Contains (f k) l → Contains (flat_map f (range_with_len a n)) l
-Contains-pieces f a zero k l low high there = absurd (omega arith)
-Contains-pieces f a (suc n) k l low high there = by_place (cases_lt a k) (λ past. Contains-pieces f (a + 1) n k l past (omega arith) there)
-  where
-    by_place : (a < k) ⊎ (k ≤ a) → (a + 1 ≤ k → Contains (flat_map f (range_with_len (a + 1) n)) l) → Contains (flat_map f (range_with_len a (suc n))) l
-    by_place (inl later) rest = Contains-append_right (f a) _ l (rest (omega arith))
-    by_place (inr here) rest = let same : k ≡ a = omega arith in Contains-append_left (f a) _ l (rw same at there)
-
-AllPairs-map : {X Y : Type 0} (R : Y → Y → Type 0) (f : X → Y) (xs : List X) → AllPairs (λ x later. R (f x) (f later)) xs → AllPairs R (map f xs)
-AllPairs-map R f [] pairs = λ i j d before within. absurd (omega arith)
-AllPairs-map R f (x ∷ xs) pairs =
-    AllPairs-cons R (f x) (map f xs)
-    (All-map (R (f x)) f xs (λ k d within. pairs zero (suc k) d (omega arith) (omega arith)))
-    (AllPairs-map R f xs (λ i j d before within. pairs (suc i) (suc j) d (omega arith) (omega arith)))
-
--- pieces in the order of their numbers, each in order
-module _ (number : Line → ℕ) (P : Line → Type 0) (f : ℕ → List Line) (own : (k : ℕ) → All (λ l. (number l ≡ k) × P l) (f k))
-    (order : (l m : Line) → P l → P m → number l < number m → ComesBefore l m) (each : (k : ℕ) → AllPairs ComesBefore (f k))
-  where
-    later : (a n : ℕ) → All (λ l. (a ≤ number l) × P l) (flat_map f (range_with_len a n))
-    later a n =
-        all_pieces (λ (l : Line). (a ≤ number l) × P l) f a n
-        (λ k low high i d within. (omega (arith, low, (own k i d within).0), (own k i d within).1))
-
-    AllPairs-pieces : (a n : ℕ) → AllPairs ComesBefore (flat_map f (range_with_len a n))
-    AllPairs-pieces a zero = λ i j d before within. absurd (omega arith)
-    AllPairs-pieces a (suc n) =
-        AllPairs-append ComesBefore (f a) (flat_map f (range_with_len (a + 1) n)) (each a) (AllPairs-pieces (a + 1) n)
-        (λ k l d first second. order _ _ (own a k d first).1 (later (a + 1) n l d second).1 (omega (arith, (own a k d first).0, (later (a + 1) n l d second).0)))
 
 -- Places ----
 
@@ -139,9 +100,9 @@ module _ (own : ℕ → List Record) (count closed first_month last_close act : 
       told l is of_month =
           Contains-pieces (λ (h : ℕ). month_lines act closed h month (known_before before (own h)) (as_of act (own h))) 1 count l.household (record l { place = 0 })
           is.is_household.0 (omega (arith, is.is_household.1))
-          (Contains-filter (λ (m : Line). not (int_eq m.amount (pos 0))) (map (line_of act closed l.household month) (runs_of l.household)) (record l { place = 0 }) passes
+          (Contains-filter (λ (m : Line). not (int_eq m.amount (pos 0))) (map (line_of act closed l.household month) (runs_of l.household)) (record l { place = 0 })
           (of_run (found _ _ 1 (days_in month) (l.first + 1 - first_of month) (l.last + 1 - first_of month) l.old l.new at_places 1 (runs_of l.household) (omega arith) (omega (arith, at_places.from))
-          (changes_are_longest (own l.household) before act month (numbered l.household)))))
+          (changes_are_longest (own l.household) before act month (numbered l.household)))) passes)
         where
           passes : not (int_eq l.amount (pos 0)) ≡ true
           passes = rw (false_from_ne_true (int_eq l.amount (pos 0)) (λ zero. is.not_for_nothing ((Decides-int_eq l.amount (pos 0)).0 zero))) refl
@@ -167,7 +128,7 @@ module _ (own : ℕ → List Record) (count closed first_month last_close act : 
 
     pub month_in_order : AllPairs ComesBefore (lines_for own count act closed before month)
     month_in_order =
-        AllPairs-pieces (λ (l : Line). l.household) (λ (l : Line). l.for_month ≡ month)
+        AllPairs-pieces (λ (l : Line). l.household) (λ (l : Line). l.for_month ≡ month) ComesBefore
         (λ (h : ℕ). month_lines act closed h month (known_before before (own h)) (as_of act (own h)))
         (λ h. each_line (λ (l : Line). (l.household ≡ h) × (l.for_month ≡ month)) act closed h month (known_before before (own h)) (as_of act (own h)) (λ run. (refl, refl)))
         (λ l m first second lower. inr (first ∙ sym second, inl lower))
@@ -216,7 +177,7 @@ module _ (own : ℕ → List Record) (count closed first_month last_close act : 
   closing_in_order =
       AllPairs-append ComesBefore (adjustment_lines own count act closed first_month last_close) (lines_for own count act closed None closed)
       (adjusted (AllPairs ComesBefore) (λ i j d before within. absurd (omega arith))
-      (λ _. AllPairs-pieces (λ (l : Line). l.for_month) (λ (l : Line). Unit {0}) (lines_for own count act closed (Some last_close))
+      (λ _. AllPairs-pieces (λ (l : Line). l.for_month) (λ (l : Line). Unit {0}) ComesBefore (lines_for own count act closed (Some last_close))
       (λ m. all_for own count act closed (Some last_close) m (λ (k : ℕ). (k ≡ m) × Unit {0}) (refl, tt))
       (λ l m _ _ lower. inl lower) (month_in_order (Some last_close)) first_month (closed - first_month)))
       (month_in_order None closed)

@@ -1,6 +1,7 @@
 -- Each line of a closing names its pair.
 use Rattle.voucher_core.proofs.Words.{common_steps, ◌≡◌, ℕ, ◌+◌, ◌-◌, ◌<◌, ◌≤◌, List, [], ◌∷◌, get_or, pos, ◌-ℤ◌, true, Option, Some, None, refl, arith, All, IfSome, find, not, ◌==◌, ne_eqb, eq-eqb, Decides-int_eq, first_of-suc, Record, as_of, in_force, AreNumbered, int_eq, days_in, first_of, Stretch, Change, Line, assistance_on, day_at, change_on, is_same_change, changes, difference, line_of, month_lines, known_before, lines_for, adjustment_lines, closing_lines, placed, IsOfItsDays, Cover, IsOther, of_their_days, option_map_or, number_on, in_force_is, assistance_of, shares_of, NamesItsPair, NameTheirPairs, LinesNameTheirPairs, IsOtherPair, CoverByPairs, ChangesAreLongest, NumberTellsAssistance, is_same_pair, NumbersMakeTheRuns, Decides, same_from_decides, with_day, newest_first, reverse, ap, ◌∙◌, zero, suc, cond_both, Bool, find_first, find_fails}
-use Rattle.voucher_core.proofs.{Covered.exact_change, Covered.exact_numbers, Covered.change_at, Covered.month_covered, Paid.all_pieces, Paid.each_passing, Settled.all_earlier, Settled.all_months, Settled.all_for, Settled.all_closing}
+use Rattle.list_laws.proofs.Pieces.{all_pieces}
+use Rattle.voucher_core.proofs.{Covered.exact_change, Covered.exact_numbers, Covered.change_at, Covered.month_covered, Paid.each_passing, Settled.all_earlier, Settled.all_months, Settled.all_for, Settled.all_closing}
 
 -- Numbers lead to records ----
 

@@ -74,13 +74,6 @@ module _ (P : Line → Type 0) where
       All P (month_lines act closed household month old new)
   each_line act closed household month old new each = each_passing act closed household month old new (λ k d within passes. each (get_or (changes old new month) k d))
 
-  -- what is true of each piece is true of all lines
-  pub all_pieces : (f : ℕ → List Line) (a n : ℕ) → ((k : ℕ) → a ≤ k → k < a + n → All P (f k)) → All P (flat_map f (range_with_len a n))
-  all_pieces f a zero each = All-nil P
-  all_pieces f a (suc n) each =
-      All-append P (f a) (flat_map f (range_with_len (a + 1) n)) (each a (omega arith) (omega arith))
-      (all_pieces f (a + 1) n (λ k low high. each k (omega (arith, low)) (omega (arith, high))))
-
   -- what is true of a line at each place is true of lines with their places
   pub all_placed : ((l : Line) (place : ℕ) → P l → P (record l { place = place })) → (place : ℕ) (lines : List Line) → All P lines → All P (placed place lines)
   all_placed moves place [] all = All-nil P

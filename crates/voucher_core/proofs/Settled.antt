@@ -1,7 +1,8 @@
 -- The law of one closing.
 use Rattle.voucher_core.proofs.Words.{◌≡◌, ◌≢◌, ◌⊎◌, inl, inr, ℕ, ◌+◌, ◌-◌, ◌<◌, ◌≤◌, List, [], ◌++◌, pos, ◌+ℤ◌, ◌-ℤ◌, false, ◌∙◌, arith, All, nat_le, nat_lt, ◌&&◌, true, Option, Some, None, ◌==◌, range_with_len, ints, nat_tests, cases_lt, eqb-true, lt-leb, All-append, All-nil, filter-append, append-nil, sum_by-le, days_in, Record, as_of, day_share, Line, certified_amount, month_lines, known_before, lines_for, adjustment_lines, closing_lines, placed, paid, filter_none, cond_both, common_steps, ClosingSettles, NothingIsSettled, SettledPaysNoOther, CertifiedStays, SettledStays}
+use Rattle.list_laws.proofs.Pieces.{all_pieces}
 use Rattle.voucher_core.proofs.DayShares.{share_at}
-use Rattle.voucher_core.proofs.Paid.{paid-append, paid-placed, paid_elsewhere, paid_by_one, paid_month, paid_other, each_line, all_pieces, all_placed}
+use Rattle.voucher_core.proofs.Paid.{paid-append, paid-placed, paid_elsewhere, paid_by_one, paid_month, paid_other, each_line, all_placed}
 
 no_share : (place days : ℕ) → day_share 0 place days ≤ 0
 no_share place days = grind arith
