@@ -1,3 +1,4 @@
 pub mod Ends
 pub mod Comes
 pub mod Passed
+pub mod Whole
