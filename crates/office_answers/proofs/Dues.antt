@@ -1,5 +1,5 @@
 -- What is due of so many households, and of one more.
-use Rattle.std.proofs.Common.{◌≡◌, ◌∙◌, sym, ap, add-one, ℕ, ◌+◌, ◌≤◌, List, [], ◌∷◌, ◌++◌, Option, Some, None, arith, All, append-nil}
+use Rattle.std.proofs.Common.{◌≡◌, ◌∙◌, sym, ap, add-one, ℕ, suc, ◌+◌, ◌≤◌, List, [], ◌∷◌, ◌++◌, Option, Some, None, arith, All, append-nil}
 use Rattle.std.specs.{Prelude.option_to_list, List.range_with_len, List.filter_map}
 use Rattle.std.proofs.lemmas.List.Elements.{All-push}
 use Rattle.record_history.specs.declared.records.Record.{Record}
@@ -8,7 +8,7 @@ use Rattle.office_answers.specs.{declared.answer.DueDay.DueDay, DueList.horizon,
 
 one_more : {X : Type 0} (f : ℕ → Option X) (place : ℕ) →
     filter_map f (range_with_len 1 (place + 1)) ≡ filter_map f (range_with_len 1 place) ++ option_to_list (f (place + 1))
-one_more f place = rw (add-one, range_more 1 place (place + 1) (omega arith)) (filter_map_more f (range_with_len 1 place) (place + 1))
+one_more f place = rw add-one (ap (filter_map f) (range_more 1 place (suc place) (omega arith)) ∙ filter_map_more f (range_with_len 1 place) (suc place))
 
 -- these are due of so many households, all of them soon enough
 pub record AreDue (households : List (List Record)) (day place : ℕ) (dues : List DueDay) : Type 0 where

@@ -1,3 +1,4 @@
 pub mod Below
 pub mod ByDay
 pub mod Dues
+pub mod Whole

@@ -1,19 +1,14 @@
 -- How far the office is with the admissions of a fiscal year (24 CFR 5.653; the counts are own rules).
-use Rattle.std.specs.Prelude.{ℕ, ◌+◌, ◌-◌, ◌*◌, ◌/◌, nat_le, if◌then◌else◌, Result}
+use Rattle.std.specs.Prelude.{ℕ, ◌+◌, ◌-◌, ◌*◌, Result}
 use Rattle.days_core.specs.Calendar.{month_of, first_of}
 use Rattle.rent_table.specs.declared.plan.Plan.{Plan}
 use Rattle.wait_list.specs.{declared.targets.Targets.Targets, Target.is_target_open}
-use Rattle.office_acts.specs.Below.office_step.{declared.refusal.Refusal.Refusal, Known.Known, Candidates.targets_of}
+use Rattle.office_acts.specs.Below.office_step.{declared.refusal.Refusal.Refusal, Known.Known, Candidates.fiscal_year, Candidates.targets_of}
 use Rattle.office_answers.specs.{declared.answer.Answer.Answer, declared.answer.Admissions.Admissions, Answered.answered}
 
--- the plan's fiscal month in the year of a month
-abbrev pub fiscal_month_in_year : Plan → ℕ → ℕ
-fiscal_month_in_year plan month = 12 * (month / 12) + (plan.fiscal_month - 1)
-
--- the month with which the fiscal year of a month begins: the fiscal month of its own year or of the year before, and
--- 1880-01 where that is earlier
+-- the month with which the fiscal year of a month begins, and 1880-01 where that is earlier
 abbrev pub first_fiscal_month : Plan → ℕ → ℕ
-first_fiscal_month plan month = if nat_le (fiscal_month_in_year plan month) month then fiscal_month_in_year plan month else fiscal_month_in_year plan month - 12
+first_fiscal_month plan month = 12 * fiscal_year plan month + plan.fiscal_month - 13
 
 -- the first day of the fiscal year of the day
 abbrev pub first_fiscal_day : Plan → ℕ → ℕ

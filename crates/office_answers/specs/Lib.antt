@@ -5,3 +5,4 @@ pub mod Vouchers
 pub mod DueList
 pub mod FiscalYear
 pub mod Answering
+pub mod Laws

@@ -11,23 +11,23 @@ is_closed (Some plan) (Some closing) month = nat_le plan.first month && nat_le m
 is_closed _ _ month = false
 
 -- the lines of the closing of the month, in their order
-abbrev pub closing_lines : ℕ → List Line → List Line
-closing_lines month lines = filter (λ line. line.month == month) lines
+abbrev pub lines_of_closing : ℕ → List Line → List Line
+lines_of_closing month lines = filter (λ line. line.month == month) lines
 
 -- those of them that are for the month itself, and those that change earlier months
 abbrev pub own_lines : ℕ → List Line → List Line
-own_lines month lines = filter (λ line. line.for_month == month) (closing_lines month lines)
+own_lines month lines = filter (λ line. line.for_month == month) (lines_of_closing month lines)
 
 abbrev pub adjusting_lines : ℕ → List Line → List Line
-adjusting_lines month lines = filter (λ line. not (line.for_month == month)) (closing_lines month lines)
+adjusting_lines month lines = filter (λ line. not (line.for_month == month)) (lines_of_closing month lines)
 
 abbrev pub voucher_of : ℕ → List Line → Voucher
 voucher_of month lines = record {
   month = month;
-  lines = closing_lines month lines;
+  lines = lines_of_closing month lines;
   requested = total (own_lines month lines);
   adjustments = total (adjusting_lines month lines);
-  total = total (closing_lines month lines);
+  total = total (lines_of_closing month lines);
 }
 
 -- the voucher of a month that is closed

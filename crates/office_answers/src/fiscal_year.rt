@@ -2,7 +2,7 @@
 
 ghost use Rattle.std.specs.Prelude.{◌≡◌, ◌≤◌};
 ghost use Rattle.wait_list.specs.Target.{is_target_open};
-ghost use Rattle.office_answers.specs.FiscalYear.{fiscal_month_in_year, first_fiscal_month, first_fiscal_day, targets_answer};
+ghost use Rattle.office_answers.specs.FiscalYear.{first_fiscal_month, first_fiscal_day, targets_answer};
 
 use crate::{Admissions, Answer};
 use days_core::{Day, Month, first_of, month_of};
@@ -47,20 +47,7 @@ fn first_fiscal_month(plan: &Plan, month: Month) -> Month
     requires { plan.now.fiscal_month ≤ 12 }
     ensures { result ≡ first_fiscal_month plan.now month }
 {
-    let in_year = fiscal_month_in_year(plan, month);
-    let first = if in_year <= month.number() {
-        in_year
-    } else {
-        in_year.saturating_sub(12)
-    };
+    let year = (month.number() + 13 - plan.fiscal_month) / 12;
+    let first = (12 * year + plan.fiscal_month).saturating_sub(13);
     Month::from_number(first).unwrap()
-}
-
-/// The number of the plan's fiscal month in the year of the month.
-fn fiscal_month_in_year(plan: &Plan, month: Month) -> u32
-    requires { plan.now.fiscal_month ≤ 12 }
-    ensures value { result ≡ fiscal_month_in_year plan.now month }
-    ensures most { result ≤ 3839 }
-{
-    12 * (month.number() / 12) + plan.fiscal_month.saturating_sub(1)
 }

@@ -6,6 +6,7 @@ mod answering;
 mod due;
 mod fiscal_year;
 mod households;
+mod laws;
 mod next;
 mod question;
 mod reply;
@@ -13,6 +14,7 @@ mod vouchers;
 
 pub use answer::{Admissions, Answer, Asked, DueDay, HouseholdSummary, Voucher};
 pub use answering::answer_to;
+pub use laws::{due_list_is_whole, vouchers_total};
 pub use office_acts;
 pub use office_acts::{office_refusals, office_register, office_step};
 pub use question::Question;

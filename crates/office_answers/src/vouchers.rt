@@ -3,7 +3,7 @@
 ghost use Rattle.std.specs.Prelude.{◌≡◌, ◌≤◌, ◌==◌, not, length, filter, option_copied, IfOk};
 ghost use Rattle.voucher_core.specs.Lines.{is_for};
 ghost use Rattle.office_answers.specs.Answered.{Answers};
-ghost use Rattle.office_answers.specs.Vouchers.{is_closed, closing_lines, own_lines, adjusting_lines, voucher_of, voucher_answer, paid_answer};
+ghost use Rattle.office_answers.specs.Vouchers.{is_closed, lines_of_closing, own_lines, adjusting_lines, voucher_of, voucher_answer, paid_answer};
 
 use crate::{Answer, Asked, Voucher};
 use days_core::Month;
@@ -44,7 +44,7 @@ fn voucher_of(alloc: Global, lines: &[Line], month: Month) -> Result<Voucher, No
     requires { length lines.now ≤ 4000000 }
     ensures { IfOk result (λ voucher. voucher ≡ voucher_of month lines.now) }
 {
-    let lines = closing_lines(alloc, lines, month)?;
+    let lines = lines_of_closing(alloc, lines, month)?;
     let requested = total(&own_lines(alloc, &lines, month)?);
     let adjustments = total(&adjusting_lines(alloc, &lines, month)?);
     let total = total(&lines);
@@ -58,8 +58,8 @@ fn voucher_of(alloc: Global, lines: &[Line], month: Month) -> Result<Voucher, No
 }
 
 /// The lines of the closing of the month.
-fn closing_lines(alloc: Global, lines: &[Line], month: Month) -> Result<Vec<Line>, NoMemory>
-    ensures lines { IfOk result (λ closing. closing.items ≡ closing_lines month lines.now) }
+fn lines_of_closing(alloc: Global, lines: &[Line], month: Month) -> Result<Vec<Line>, NoMemory>
+    ensures lines { IfOk result (λ closing. closing.items ≡ lines_of_closing month lines.now) }
     ensures few { IfOk result (λ closing. length closing.items ≤ length lines.now) }
 {
     let closing = lines
