@@ -1,5 +1,5 @@
 -- A book: what an office has accepted, and what each act appends to it.
-use Rattle.std.specs.Prelude.{◌≡◌, ◌≤◌, ◌<◌, ℕ, ◌+◌, ◌-◌, List, [], ◌∷◌, ◌++◌, All, length, slice_index_or, option_to_list, IfSome, vec_len, vec_capacity}
+use Rattle.std.specs.Prelude.{◌≡◌, ◌≤◌, ◌<◌, ℕ, ◌+◌, ◌-◌, ◌==◌, ◌&&◌, Bool, List, [], ◌∷◌, ◌++◌, All, length, slice_index_or, option_to_list, IfSome, vec_len, vec_capacity}
 use Rattle.record_history.specs.declared.records.Record.{Record}
 use Rattle.voucher_core.specs.declared.line.Line.{Line}
 use Rattle.book_rows.specs.declared.{rows.ActRow.ActRow, rows.Batch.Batch, tables.Tables.Tables}
@@ -9,6 +9,10 @@ pub record Book : Type 0 where
   pub acts : List ActRow
   pub records : List Record
   pub lines : List Line
+
+-- the act is of that clerk and the clerk's own number of a request
+abbrev pub is_request_of : ℕ → ℕ → ActRow → Bool
+is_request_of clerk request act = act.clerk == clerk && act.request == request
 
 -- the rows that tables hold
 abbrev pub book_of : Tables → Book

@@ -17,12 +17,12 @@ abbrev pub LinesNeverFall : List Line → Type 0
 LinesNeverFall lines = AllPairs (λ line next. line.act ≤ next.act) lines
 
 -- the rows of a book stand in the order of their acts
-pub record IsInOrder (book : Book) : Type 0 where
+pub record RowsAreInOrder (book : Book) : Type 0 where
   pub acts : ActsRise book.acts
   pub records : RecordsRise book.records
   pub lines : LinesNeverFall book.lines
 
 -- an empty book is in order, and stays so by the rows of a later act
 pub record BookStaysInOrder : Type 0 where
-  pub empty : IsInOrder empty_book
-  pub appended : (book : Book) (batch : Batch) → IsInOrder book → IsBefore book batch.act.n → IsBatch batch → IsInOrder (appended book batch)
+  pub empty : RowsAreInOrder empty_book
+  pub appended : (book : Book) (batch : Batch) → RowsAreInOrder book → IsBefore book batch.act.n → IsBatch batch → RowsAreInOrder (appended book batch)

@@ -1,21 +1,17 @@
 -- Acts by their requests.
-use Rattle.std.specs.Prelude.{◌≡◌, ℕ, ◌==◌, ◌&&◌, Bool, false, None, List, [], ◌∷◌, ◌++◌, AllPairs, find}
-use Rattle.book_rows.specs.declared.rows.ActRow.{ActRow}
+use Rattle.std.specs.Prelude.{◌≡◌, ℕ, false, None, List, [], ◌∷◌, ◌++◌, AllPairs, find}
+use Rattle.book_rows.specs.{declared.rows.ActRow.ActRow, Book.is_request_of}
 use Rattle.row_index.specs.Index.{request_key}
 
 -- the key by which an index has the act
 abbrev pub act_key : ActRow → ℕ
 act_key act = request_key act.clerk act.request
 
--- the act is of that clerk and the clerk's own number of a request
-abbrev pub is_of_request : ℕ → ℕ → ActRow → Bool
-is_of_request clerk request act = act.clerk == clerk && act.request == request
-
 -- no two acts are of the same request
 abbrev pub HaveOwnRequests : List ActRow → Type 0
-HaveOwnRequests acts = AllPairs (λ act other. is_of_request act.clerk act.request other ≡ false) acts
+HaveOwnRequests acts = AllPairs (λ act other. is_request_of act.clerk act.request other ≡ false) acts
 
 -- an act of a request that no act is of leaves each its own request
 abbrev pub RequestsStayOwn : Type 0
 RequestsStayOwn = (acts : List ActRow) (act : ActRow) → HaveOwnRequests acts →
-    find (is_of_request act.clerk act.request) acts ≡ None → HaveOwnRequests (acts ++ act ∷ [])
+    find (is_request_of act.clerk act.request) acts ≡ None → HaveOwnRequests (acts ++ act ∷ [])

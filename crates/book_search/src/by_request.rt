@@ -1,7 +1,8 @@
 ghost use Rattle.std.specs.Prelude.{◌≡◌, ◌==◌, ◌&&◌, not, bytes_eq, find, slice_get};
 ghost use Rattle.std.specs.Option.{option_copied};
 ghost use Rattle.row_index.specs.Index.{index_of, request_key};
-ghost use Rattle.book_search.specs.Requests.{act_key, is_of_request, HaveOwnRequests};
+ghost use Rattle.book_rows.specs.Book.{is_request_of};
+ghost use Rattle.book_search.specs.Requests.{act_key, HaveOwnRequests};
 
 use book_rows::ActRow;
 use row_index::{RowIndex, index_finds};
@@ -21,7 +22,7 @@ pub fn act_of_request<'a>(
     request: u32,
 ) -> Option<&'a ActRow>
     requires { index.now.entries ≡ index_of act_key acts.now }
-    ensures { option_copied result ≡ find (is_of_request clerk request) acts.now }
+    ensures { option_copied result ≡ find (is_request_of clerk request) acts.now }
 {
     let Some(act) = act_of_key(acts, index, act_key(clerk, request)) else {
         return None;
@@ -43,7 +44,7 @@ pub fn act_of_same_body<'a>(
 ) -> Option<&'a ActRow>
     requires own { HaveOwnRequests acts.now }
     requires index { index.now.entries ≡ index_of act_key acts.now }
-    ensures { option_copied result ≡ find (λ act. is_of_request clerk request act && bytes_eq act.body body.now) acts.now }
+    ensures { option_copied result ≡ find (λ act. is_request_of clerk request act && bytes_eq act.body body.now) acts.now }
 {
     let Some(act) = act_of_request(acts, index, clerk, request) else {
         return None;
@@ -65,7 +66,7 @@ pub fn act_of_other_body<'a>(
 ) -> Option<&'a ActRow>
     requires own { HaveOwnRequests acts.now }
     requires index { index.now.entries ≡ index_of act_key acts.now }
-    ensures { option_copied result ≡ find (λ act. is_of_request clerk request act && not (bytes_eq act.body body.now)) acts.now }
+    ensures { option_copied result ≡ find (λ act. is_request_of clerk request act && not (bytes_eq act.body body.now)) acts.now }
 {
     let Some(act) = act_of_request(acts, index, clerk, request) else {
         return None;
@@ -90,7 +91,7 @@ fn act_of_key<'a>(acts: &'a [ActRow], index: &RowIndex, key: u64) -> Option<&'a 
 
 // Whether the act is of that clerk and request, as its key says too.
 fn is_of_request(act: &ActRow, clerk: u32, request: u32) -> bool
-    ensures value { result ≡ is_of_request clerk request act.now }
+    ensures value { result ≡ is_request_of clerk request act.now }
     ensures key { result ≡ (act_key act.now == request_key clerk request) }
 {
     act_key(act.clerk, act.request) == act_key(clerk, request)
