@@ -32,7 +32,7 @@ replay_begins capacity tables = record { reached = reached_empty; acts = refl; r
 pub replay_goes_on : AppendedIsAccepted → ReplayGoesOn
 replay_goes_on accepted capacity tables count book row rows so_far is redone none =
     let own : HasRowsOf tables row rows = no_difference tables row rows none in
-    let more : IsAppended capacity book rows = replayed_is_appended capacity book row rows redone own.act in
+    let more : IsAppended capacity book rows = replayed_is_appended capacity book row rows redone in
     let within = slice_get_within tables.acts count row is in
     let whole = length-take count tables.acts in
     let number : row.n ≡ count + 1 =

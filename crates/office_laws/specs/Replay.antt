@@ -15,10 +15,10 @@ ActsGiveTheBook = (capacity : Capacity) (book : Book) → IsReached capacity boo
 abbrev pub AppendedIsReplayed : Type 0
 AppendedIsReplayed = (capacity : Capacity) (book : Book) (rows : Batch) → IsAppended capacity book rows → replayed capacity book rows.act ≡ Some rows
 
--- and what is given again with the act's own row is appended
+-- and what is given again is appended, whether or not it has the row that was done again
 abbrev pub ReplayedIsAppended : Type 0
 ReplayedIsAppended = (capacity : Capacity) (book : Book) (row : ActRow) (rows : Batch) →
-    replayed capacity book row ≡ Some rows → rows.act ≡ row → IsAppended capacity book rows
+    replayed capacity book row ≡ Some rows → IsAppended capacity book rows
 
 -- the rows of a call have its session and the next number
 abbrev pub RowsAreOfTheSession : Type 0
