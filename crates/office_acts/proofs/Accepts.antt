@@ -5,7 +5,7 @@ use Rattle.record_history.specs.declared.records.Record.{Record}
 use Rattle.book_rows.specs.{declared.command.Command.Command, Fit.is_fit}
 use Rattle.office_step.specs.{declared.refusal.Refusal.Refusal, Known.Known, Made.record_of, Against.refused_by}
 use Rattle.office_register.specs.Accepted.{IsAccepted}
-use Rattle.office_register.proofs.Next.{accepted_new, accepted_further}
+use Rattle.office_register.proofs.Next.{accepted_new, accepted_there}
 use Rattle.office_acts.specs.Judged.{judged_by, IsPlaced}
 
 module _ (known : Known) (most today : ℕ) (asked : Command) (few : most ≤ 100000) (lived : today ≤ 80353) (fit : is_fit asked ≡ true) where
@@ -21,9 +21,9 @@ module _ (known : Known) (most today : ℕ) (asked : Command) (few : most ≤ 10
 
 -- the record of an accepted act is of a household that there is, or of the next
 placed_as : (known : Known) (asked : Command) (made : Option Record) (r : Record) → IsAccepted known asked made → made ≡ Some r → IsPlaced known r
-placed_as known (Command.Start start) made r accepted is = omega (arith, accepted_new known (Command.Start start) _ made r refl accepted is)
-placed_as known (Command.Admit admit) made r accepted is = omega (arith, accepted_new known (Command.Admit admit) _ made r refl accepted is)
-placed_as known (Command.Household act) made r accepted is = omega (arith, accepted_further known act made r accepted is)
+placed_as known (Command.Start start) made r accepted is = omega (arith, accepted_new known (Command.Start start) _ made r refl refl accepted is)
+placed_as known (Command.Admit admit) made r accepted is = omega (arith, accepted_new known (Command.Admit admit) _ made r refl refl accepted is)
+placed_as known (Command.Household act) made r accepted is = omega (arith, accepted_there known act made r accepted is)
 placed_as known _ made r accepted is = let none = accepted.is_made in absurd (cc)
 
 pub placed : (known : Known) (asked : Command) (result : Result (Option Record) Refusal) →

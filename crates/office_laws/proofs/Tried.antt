@@ -1,5 +1,6 @@
 -- What was tried before an act made its record.
 use Rattle.office_laws.proofs.Words.{option_map, ◌≡◌, ◌∙◌, ap, same_Some, refl, ℕ, ◌+◌, ◌<◌, arith, true, false, [], Some, None, if◌then◌else◌, ◌==◌, Record, Kind, is_withdrawal, newest_number, AreNumbered, may_begin, is_transfer, is_move_out, Command, HouseholdChange, Heading, Known, own_in, record_at, change_by, correction_heading, withdrawal_heading, heading_for, heading_of, record_of, disorder, unit_taken, of_made, may_collide_in, Passed, under_own, IsHeaded, made_is_headed, of_household, records_past, none_above, HouseholdAct, new_heading, IsUnder, next_under, option_map_some}
+use Rattle.office_step.proofs.Earlier.{under_it, names_earlier}
 pub use Rattle.list_laws.proofs.Finds.{find_holds}
 
 -- the record is the household's first, or was judged among its records
@@ -33,30 +34,8 @@ first_tried known asked r kind unit from is own may counts free =
 
 -- ---- a further one
 
--- what the record has of its heading
-under_it : (known : Known) (own heading : Heading) (r : Record) → IsUnder known heading r → Some own ≡ Some heading →
-    (r.kind ≡ own.kind) × (r.corrects ≡ own.corrects)
-under_it known own heading r under same = rw (under.is, same_Some own heading same) (refl, refl)
-
 module _ (known : Known) (act : HouseholdAct) (r : Record) (is : record_of known (Command.Household act) ≡ Some r)
     (headed : IsHeaded known (Command.Household act) r) where
-  -- the target of a correction or a withdrawal is one of the household's records
-  target_smaller : (number : ℕ) (make : Record → Heading) → ((target : Record) → (make target).corrects ≡ target.number) →
-      option_map make (record_at (own_in known act.household) number) ≡ Some headed.heading → AreNumbered (own_in known r.household) → r.corrects < r.number
-  target_smaller number make names own numbered =
-      option_map_some make (record_at (own_in known act.household) number) headed.heading own (λ target found same.
-      (let next = next_under known headed.heading r headed.under in
-      let its : r.household ≡ act.household = next.household ∙ of_household known act.household act.change headed.heading headed.is_its in
-      let below = find_holds (λ (held : Record). held.number == number) (λ (held : Record). held.number < newest_number (own_in known r.household) + 1)
-      (own_in known r.household) target (rw its found) (none_above (own_in known r.household) numbered) in
-      omega (arith, (under_it known _ headed.heading r headed.under (ap (λ (h : Heading). Some h) same)).1, names target, next.number, below.0)))
-
-  smaller_by : (done : HouseholdChange) → heading_for known act.household done ≡ Some headed.heading → AreNumbered (own_in known r.household) → r.corrects < r.number
-  smaller_by (HouseholdChange.Correct correct) = target_smaller correct.target (λ target. correction_heading act.household target correct.from) (λ target. refl)
-  smaller_by (HouseholdChange.Withdraw withdraw) = target_smaller withdraw.target (λ target. withdrawal_heading act.household target) (λ target. refl)
-  smaller_by _ = λ own numbered.
-      omega (arith, (under_it known _ headed.heading r headed.under own).1, (next_under known headed.heading r headed.under).number)
-
   -- where a unit could come to be another household's, that was tried; other changes leave the household where it is, or end it
   placed_by : (done : HouseholdChange) → heading_for known act.household done ≡ Some headed.heading →
       (if may_collide_in done then of_made known (Command.Household act) (λ made. unit_taken known.households made.household (change_by made)) else None) ≡ None →
@@ -81,6 +60,6 @@ tried known most today (Command.Household act) r free is =
     let headed : IsHeaded known (Command.Household act) r = made_is_headed known (Command.Household act) r is in record {
       ordered = judged (rw is at free.disorder);
       placed = placed_by known act r is headed act.change headed.is_its free.unit_taken;
-      smaller = smaller_by known act r is headed act.change headed.is_its;
+      smaller = names_earlier known act r is;
     }
 tried known most today _ r free is = absurd (cc)

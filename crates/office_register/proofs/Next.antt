@@ -1,10 +1,11 @@
 -- That the record of an accepted act is the next of its household.
-use Rattle.office_register.proofs.Words.{◌≡◌, ◌∙◌, sym, ℕ, ◌≤◌, List, Option, Some, None, Bool, true, false, arith, length, is_some, Record, UnitRow, RentRow, StartAct, AdmitAct, Command, Known, HouseholdAct, no_applicant, no_unit, no_rent, no_plan, or_none, household_there, IsAccepted, IsNext, common_steps}
+use Rattle.office_register.proofs.Words.{◌≡◌, ◌∙◌, sym, refl, ℕ, ◌≤◌, ◌<◌, List, Option, Some, None, Bool, true, false, arith, length, is_some, Record, UnitRow, RentRow, StartAct, AdmitAct, Command, Known, HouseholdAct, no_applicant, no_unit, no_rent, no_plan, or_none, household_there, IsAccepted, IsNext, common_steps}
 use Rattle.facts_core.specs.declared.facts.Facts.{Facts}
 use Rattle.due_dates.specs.Stale.{unit_rents_on}
-use Rattle.office_step.specs.{declared.heading.Heading.Heading, Against.no_household, Against.no_such_in}
+use Rattle.office_step.specs.{declared.heading.Heading.Heading, Known.own_in, Against.no_household, Against.no_such_in}
 use Rattle.office_step.specs.Made.{record_of, rents_in_unit, made_of_facts, heading_of}
-use Rattle.office_step.proofs.Headed.{IsHeaded, made_is_headed, IsNextUnder, next_under, of_household, under_own}
+use Rattle.office_step.proofs.{Earlier.under_it, Earlier.names_earlier, Headed.IsHeaded, Headed.IsUnder, Headed.made_is_headed, Headed.IsNextUnder, Headed.next_under, Headed.of_household, Headed.under_own}
+use Rattle.record_history.specs.Held.{AreNumbered}
 use Rattle.office_register.proofs.Standing.{passes}
 
 -- ---- a household that there is
@@ -15,18 +16,32 @@ pub record IsFurther (known : Known) (r : Record) : Type 0 where
   pub there : r.household ≤ length known.households
   pub next : IsNext known r
 
-next_of : {known : Known} {heading : Heading} {r : Record} → IsNextUnder known heading r → IsNext known r
-next_of is = record { number = is.number; act = is.act }
+next_of : {known : Known} {heading : Heading} {r : Record} → IsNextUnder known heading r → r.corrects < r.number → IsNext known r
+next_of is earlier = record { number = is.number; act = is.act; earlier = earlier }
 
-pub accepted_further : (known : Known) (act : HouseholdAct) (made : Option Record) (r : Record) → IsAccepted known (Command.Household act) made → made ≡ Some r →
-    IsFurther known r
-accepted_further known act made r accepted is =
-    let headed : IsHeaded known (Command.Household act) r = made_is_headed known (Command.Household act) r (sym accepted.is_made ∙ is) in
-    let under : IsNextUnder known headed.heading r = next_under known headed.heading r headed.under in
-    let household : r.household ≡ act.household = under.household ∙ of_household known act.household act.change headed.heading headed.is_its in
-    let named : no_household known act.household ≡ None = (or_none (no_household known act.household) (no_such_in known act.household act.change) (passes accepted).no_such).0 in
-    let there = household_there (length known.households) act.household named in
-    record { first = omega (arith, household, there.0); there = omega (arith, household, there.1); next = next_of under }
+module _ (known : Known) (act : HouseholdAct) (made : Option Record) (r : Record) (accepted : IsAccepted known (Command.Household act) made) (is : made ≡ Some r) where
+  headed : IsHeaded known (Command.Household act) r
+  headed = made_is_headed known (Command.Household act) r (sym accepted.is_made ∙ is)
+
+  under : IsNextUnder known headed.heading r
+  under = next_under known headed.heading r headed.under
+
+  household_is : r.household ≡ act.household
+  household_is = under.household ∙ of_household known act.household act.change headed.heading headed.is_its
+
+  -- it is of a household that there is
+  pub accepted_there : (1 ≤ r.household) × (r.household ≤ length known.households)
+  accepted_there =
+      let named : no_household known act.household ≡ None = (or_none (no_household known act.household) (no_such_in known act.household act.change) (passes accepted).no_such).0 in
+      let there = household_there (length known.households) act.household named in
+      (omega (arith, household_is, there.0), omega (arith, household_is, there.1))
+
+  pub accepted_further : AreNumbered (own_in known act.household) → IsFurther known r
+  accepted_further numbered = record {
+    first = accepted_there.0;
+    there = accepted_there.1;
+    next = next_of under (names_earlier known act r (sym accepted.is_made ∙ is) (rw household_is numbered));
+  }
 
 -- ---- a new household
 
@@ -36,10 +51,12 @@ pub record IsOf (known : Known) (household : ℕ) (r : Record) : Type 0 where
   pub next : IsNext known r
 
 pub accepted_new : (known : Known) (asked : Command) (heading : Heading) (made : Option Record) (r : Record) → heading_of known asked ≡ Some heading →
-    IsAccepted known asked made → made ≡ Some r → IsOf known heading.household r
-accepted_new known asked heading made r own accepted is =
-    let under : IsNextUnder known heading r = next_under known heading r (under_own known asked r (sym accepted.is_made ∙ is) heading own) in
-    record { household_is = under.household; next = next_of under }
+    heading.corrects ≡ 0 → IsAccepted known asked made → made ≡ Some r → IsOf known heading.household r
+accepted_new known asked heading made r own corrects_none accepted is =
+    let own_heading : IsUnder known heading r = under_own known asked r (sym accepted.is_made ∙ is) heading own in
+    let under : IsNextUnder known heading r = next_under known heading r own_heading in
+    let none : r.corrects ≡ 0 = (under_it known heading heading r own_heading refl).1 ∙ corrects_none in
+    record { household_is = under.household; next = next_of under (omega (arith, none, under.number)) }
 
 rents_there : (units : List UnitRow) (rents : List RentRow) (unit day : ℕ) → no_unit units unit ≡ None → no_rent units rents unit day ≡ None →
     is_some (unit_rents_on units rents unit day) ≡ true

@@ -1,6 +1,7 @@
 -- Which acts may come next.
-use Rattle.std.specs.Prelude.{ℕ, ◌≡◌, ◌≤◌, ◌+◌, Bool, true, false, Option, None, List, [], ◌∷◌, ◌++◌, unwrap_or}
+use Rattle.std.specs.Prelude.{ℕ, ◌≡◌, ◌≤◌, ◌<◌, ◌+◌, Bool, true, false, Option, None, List, [], ◌∷◌, ◌++◌, unwrap_or}
 use Rattle.std.specs.Option.{option_map}
+use Rattle.days_core.specs.OfficeDays.{last_office_day}
 use Rattle.record_history.specs.{declared.records.Record.Record, Records.newest_number, Held.with_record}
 use Rattle.book_rows.specs.{declared.command.Command.Command, Fit.is_fit}
 use Rattle.office_step.specs.{declared.known.Application.Application, Acts.at_number, Known.Known, Known.own_in, After.next_act, Made.record_of, Against.refused_by}
@@ -11,7 +12,7 @@ pub record IsAccepted (known : Known) (asked : Command) (made : Option Record) :
   pub most : ℕ
   pub today : ℕ
   pub few : most ≤ 100000
-  pub lived : today ≤ 80353
+  pub lived : today ≤ last_office_day
   pub fit : is_fit asked ≡ true
   pub free : refused_by known most today asked ≡ None
   pub is_made : made ≡ record_of known asked
@@ -20,10 +21,11 @@ pub record IsAccepted (known : Known) (asked : Command) (made : Option Record) :
 abbrev pub applicant_name : List Application → ℕ → List ℕ
 applicant_name applications number = unwrap_or (option_map (λ application. application.apply.name) (at_number applications number)) []
 
--- the record is the next of its household, made by the next act
+-- the record is the next of its household, made by the next act, and corrects or withdraws an earlier one or none
 pub record IsNext (known : Known) (r : Record) : Type 0 where
   pub number : r.number ≡ newest_number (own_in known r.household) + 1
   pub act : r.act ≡ next_act known
+  pub earlier : r.corrects < r.number
 
 -- what is known with a household more, of that name and first record
 abbrev pub with_household : Known → List ℕ → Record → Known

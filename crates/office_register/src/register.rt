@@ -45,6 +45,7 @@ impl Model for Register {
 
 impl Register {
     ghost use Rattle.std.specs.Prelude.{◌≡◌, ◌≤◌, ◌<◌, ◌+◌, [], ◌∷◌, ◌++◌, ℕ, None, Some, length, true, All, IfSome, IfOk, OnOk, IsOk, is_some, option_copied, sum_by};
+    ghost use Rattle.days_core.specs.OfficeDays.{last_office_month};
     ghost use Rattle.record_history.specs.Held.{room_of, with_record, IsWithin};
     ghost use Rattle.wait_list.specs.Waiting.{without};
     ghost use Rattle.book_rows.specs.Book.{empty_book};
@@ -172,7 +173,7 @@ impl Register {
     /// The last closing.
     pub fn closing(&self) -> Option<Closed>
         ensures closing { result ≡ self.now.known.closing }
-        ensures month { IfSome result (λ closing. closing.month ≤ 2639) }
+        ensures month { IfSome result (λ closing. closing.month ≤ last_office_month) }
         ensures earlier { IfSome result (λ closing. closing.act ≤ self.now.known.count) }
     {
         self.closing
@@ -449,6 +450,8 @@ impl Register {
         requires dates { IfSome made HasDates }
         ensures { self.new.known ≡ known_after self.old.known (command.Household act.now) made }
     {
+        // That its records are numbered is known where they are read.
+        let _records = self.history.records(act.household);
         match made {
             Some(held) => self.hold(held),
             None => self.pass(),

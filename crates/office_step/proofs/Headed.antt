@@ -1,7 +1,7 @@
 -- The record of an act stands under the act's heading.
-use Rattle.std.proofs.Common.{◌≡◌, ◌∙◌, sym, ap, refl, subst, ℕ, ◌+◌, Bool, true, false, Option, Some, None}
-use Rattle.std.specs.Option.{option_map}
+use Rattle.std.proofs.Common.{◌≡◌, ◌∙◌, sym, ap, refl, subst, ℕ, ◌+◌, Bool, true, false, Some}
 use Rattle.std.proofs.lemmas.Option.{option_and_then_some, same_Some}
+use Rattle.list_laws.proofs.Options.{option_map_some}
 use Rattle.record_history.specs.{declared.records.Record.Record, Records.newest_number}
 use Rattle.facts_core.specs.declared.facts.Facts.{Facts}
 use Rattle.rent_table.specs.Table.{limits_on}
@@ -9,11 +9,6 @@ use Rattle.certified_figures.specs.{Figures.figures_of, Figures.carried_figures,
 use Rattle.book_rows.specs.declared.{command.Command.Command, household.HouseholdChange.HouseholdChange}
 use Rattle.office_step.specs.{declared.heading.Heading.Heading, Known.Known, Known.own_in, Households.record_at, Households.continued}
 use Rattle.office_step.specs.Made.{rents_in_unit, made_with, told_extremely_low, Basis, from_facts, carried, nothing, made_on, basis_of, heading_for, heading_of, correction_heading, withdrawal_heading, record_of}
-
-pub option_map_some : {A B : Type 0} (make : A → B) (given : Option A) (b : B) {R : Type 0} → option_map make given ≡ Some b →
-    ((a : A) → given ≡ Some a → make a ≡ b → R) → R
-option_map_some make None b is goes = absurd (cc)
-option_map_some make (Some a) b is goes = goes a refl (same_Some (make a) b is)
 
 -- the record under the heading, with some figures
 pub record IsUnder (known : Known) (heading : Heading) (r : Record) : Type 0 where

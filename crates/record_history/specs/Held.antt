@@ -1,7 +1,7 @@
 -- What a history holds: the records of each household, and the room for more.
-use Rattle.std.specs.Prelude.{ℕ, ◌+◌, ◌-◌, ◌==◌, ◌≤◌, ◌<◌, ◌≡◌, All, nat_le, nat_lt, if◌then◌else◌, List, [], ◌∷◌, ◌++◌, length, map, slice_index_or, slice_set, vec_items, vec_len, vec_capacity}
+use Rattle.std.specs.Prelude.{ℕ, ◌+◌, ◌-◌, ◌==◌, ◌≤◌, ◌<◌, ◌≡◌, All, AllPairs, nat_le, nat_lt, if◌then◌else◌, List, [], ◌∷◌, ◌++◌, length, map, slice_index_or, slice_set, vec_items, vec_len, vec_capacity}
 use Rattle.std.specs.Global.{Vec}
-use Rattle.days_core.specs.OfficeDays.{last_office_day}
+use Rattle.days_core.specs.{OfficeDays.last_office_day, RentBounds.most_gross_rent}
 use Rattle.record_history.specs.{declared.records.Record.Record, Records.newest_number}
 
 -- the records of household 1, 2 and so on in the order in which they came, and how many more fit for each and, last, for
@@ -55,17 +55,27 @@ pub record IsWithin (r : Record) : Type 0 where
   pub from : r.from ≤ last_office_day
   pub contract_rent : r.rents.contract_rent ≤ 99999
   pub utility : r.rents.utility ≤ 9999
-  pub assistance : r.assistance ≤ 109998
+  pub assistance : r.assistance ≤ most_gross_rent
 
 -- the records have the numbers 1, 2 and so on in the order in which they came
 pub record AreNumbered (records : List Record) : Type 0 where
   pub number : (place : ℕ) (d : Record) → place < length records → (slice_index_or records place d).number ≡ place + 1
   pub newest : newest_number records ≡ length records
 
+-- each record is of a later act than those before it
+abbrev pub ActsRise : List Record → Type 0
+ActsRise records = AllPairs (λ r next. r.act < next.act) records
+
+-- each record corrects or withdraws one that came before it, or none (number 0)
+abbrev pub NameEarlier : List Record → Type 0
+NameEarlier records = All (λ r. r.corrects < r.number) records
+
 -- what is true of the records of each household
 pub record AreKept (records : List Record) : Type 0 where
   pub within : All IsWithin records
   pub numbered : AreNumbered records
+  pub acts : ActsRise records
+  pub earlier : NameEarlier records
 
 -- what is true of the lists of all households, and of that of the household to come
 pub record AreSound (households : List (List Record)) (next : List Record) : Type 0 where

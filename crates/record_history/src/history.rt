@@ -30,9 +30,10 @@ impl Model for History {
 
 impl History {
     ghost use Rattle.std.specs.Prelude.{◌≡◌, ◌≤◌, ◌<◌, ◌+◌, ◌-◌, ◌==◌, [], ◌∷◌, ℕ, map, nat_eq, length, slice_set, find, option_copied, is_ok, if◌then◌else◌, All, IfOk, OnOk, IsOk, IfSome};
+    ghost use Rattle.days_core.specs.RentBounds.{most_gross_rent};
     ghost use Rattle.days_core.specs.OfficeDays.{last_office_day};
     ghost use Rattle.record_history.specs.Records.{as_of, is_live_as_of, in_force, in_force_as_of, newest_number, newest_act};
-    ghost use Rattle.record_history.specs.Held.{records_of, room_of, room_after, with_place, with_record, IsWithin, AreNumbered};
+    ghost use Rattle.record_history.specs.Held.{records_of, room_of, room_after, with_place, with_record, IsWithin, AreNumbered, ActsRise, NameEarlier};
     ghost use Rattle.record_history.specs.Stretch.{stretches};
     ghost use Rattle.record_history.specs.Runs.{number_on, run_of, CoverLongest};
 
@@ -57,15 +58,17 @@ impl History {
         reserve_at(&mut self.lists, &mut self.next, household as usize - 1)
     }
 
-    /// Holds a record more, for which there is room. It takes no memory.
+    /// Holds a record more, for which there is room: the next of its household, by a later act, which corrects or withdraws an
+    /// earlier one or none. It takes no memory.
     pub fn push(&mut self, held: Record)
         requires room { 1 ≤ room_of self.old.room held.household }
         requires number { held.number ≡ newest_number (records_of self.old.households held.household) + 1 }
         requires act { newest_act (records_of self.old.households held.household) < held.act }
+        requires earlier { held.corrects < held.number }
         requires from { held.from ≤ last_office_day }
         requires contract_rent { held.rents.contract_rent ≤ 99999 }
         requires utility { held.rents.utility ≤ 9999 }
-        requires assistance { held.assistance ≤ 109998 }
+        requires assistance { held.assistance ≤ most_gross_rent }
         ensures households { self.new.households ≡ with_record (with_place self.old.households (held.household - 1)) held }
         ensures room { self.new.room ≡ room_after self.old.households self.old.room held.household }
     {
@@ -91,6 +94,8 @@ impl History {
         ensures records { result.now ≡ records_of self.now.households household }
         ensures within { All IsWithin result.now }
         ensures numbered { AreNumbered result.now }
+        ensures acts { ActsRise result.now }
+        ensures earlier { NameEarlier result.now }
     {
         list_of(&self.lists, household)
     }

@@ -1,7 +1,7 @@
 ghost use Rattle.std.specs.Prelude.{◌≡◌, ◌≤◌, None};
 
 use crate::property::rents;
-use days_core::Day;
+use days_core::{Day, LAST_OFFICE_DAY};
 use record_history::{Dates, History, Kind, Record};
 use std::alloc::Global;
 
@@ -34,17 +34,17 @@ pub fn record(household: u32, number: u32, act: u32, kind: Kind, from: Day) -> R
     }
 }
 
-/// Holds a record, and says whether an office could have made it: the next of its household, by a later act, from a day
-/// through 2099, for amounts that a contract allows.
+/// Holds a record, and says whether an office could have made it: the next of its household, by a later act, which corrects
+/// an earlier one or none, from a day through 2099, for amounts that a contract allows.
 pub fn hold(history: &mut History, held: Record) -> bool {
     let household = held.household;
     if household == 0 || household - 1 > history.households() {
         return false;
     }
-    if held.number == 0 || history.newest(household) != held.number - 1 {
+    if held.number <= held.corrects || history.newest(household) != held.number - 1 {
         return false;
     }
-    if history.newest_act(household) >= held.act || held.from.number() > 80_353 {
+    if history.newest_act(household) >= held.act || held.from.number() > LAST_OFFICE_DAY {
         return false;
     }
     if held.rents.contract_rent > 99_999

@@ -21,7 +21,8 @@ lives_itself records held smaller own_smaller =
     by_kind : (withdraws : Bool) → (not withdraws && true) ≡ not withdraws
     by_kind withdraws = grind (arith, common_steps)
 
-pub change_is_what_lives : ChangeIsWhatLives
+pub change_is_what_lives : (records : List Record) (held : Record) → All (λ r. r.corrects < held.number) records → held.corrects < held.number →
+    ChangeIsWhatLives records held
 change_is_what_lives records held smaller own_smaller =
     let kept = filter_agree (is_live (records ++ held ∷ [])) (λ r. is_live records r && not (r.number == held.corrects)) (lives_on records held) records in
     rw (filter-append, kept, ← filter-filter (λ r. not (r.number == held.corrects)) (is_live records) records, lives_itself records held smaller own_smaller)

@@ -1,5 +1,6 @@
 -- What it comes to that records are in order, that no unit would have two households, and that a change is judged.
 use Rattle.std.specs.Prelude.{◌≡◌, ◌≢◌, ◌↔◌, ◌≤◌, ◌<◌, ℕ, true, false, if◌then◌else◌, List, [], ◌∷◌, ◌++◌, length, Some, None, All, Contains, IfSome}
+use Rattle.days_core.specs.OfficeDays.{last_office_day}
 use Rattle.record_history.specs.{declared.records.Record.Record, Records.is_withdrawal, Records.live_records, Records.comes_before, Held.records_of}
 use Rattle.tenancy_rules.specs.{declared.change.Change.Change, Changed.changed_records, Changed.NumbersRise, Occupancy.occupied_unit_on, Occupancy.first_double_use}
 use Rattle.tenancy_rules.specs.Order.{is_transfer, is_move_out, record_before, first_out_of_order}
@@ -19,7 +20,7 @@ NothingFollowsMoveOut = (records : List Record) → NumbersRise records → firs
 abbrev pub NoUnitHasTwo : Type 0
 NoUnitHasTwo = (households : List (List Record)) (household : ℕ) (change : Change) →
     first_double_use households household change ≡ None →
-    (other day unit : ℕ) → 1 ≤ other → other ≤ length households → other ≢ household → day ≤ 80353 →
+    (other day unit : ℕ) → 1 ≤ other → other ≤ length households → other ≢ household → day ≤ last_office_day →
     occupied_unit_on (changed_records (records_of households household) change) day ≡ Some unit →
     occupied_unit_on (live_records (records_of households other)) day ≢ Some unit
 
@@ -27,13 +28,13 @@ NoUnitHasTwo = (households : List (List Record)) (household : ℕ) (change : Cha
 abbrev pub DoubleUseHasTwo : Type 0
 DoubleUseHasTwo = (households : List (List Record)) (household : ℕ) (change : Change) (other day : ℕ) →
     first_double_use households household change ≡ Some (other, day) →
-    (other ≢ household) × (day ≤ 80353) × (unit : ℕ)
+    (other ≢ household) × (day ≤ last_office_day) × (unit : ℕ)
     × (occupied_unit_on (changed_records (records_of households household) change) day ≡ Some unit)
     × (occupied_unit_on (live_records (records_of households other)) day ≡ Some unit)
 
--- Once a record is held too, the records that live are those that were judged: without the one that it corrects or
--- withdraws, and with it where it is no withdrawal itself. (Each record corrects only one with a smaller number.)
-abbrev pub ChangeIsWhatLives : Type 0
-ChangeIsWhatLives = (records : List Record) (held : Record) → All (λ r. r.corrects < held.number) records → held.corrects < held.number →
+-- once a record is held too, the records that live are those that were judged: without the one that it corrects or
+-- withdraws, and with it where it is no withdrawal itself
+abbrev pub ChangeIsWhatLives : List Record → Record → Type 0
+ChangeIsWhatLives records held =
     live_records (records ++ held ∷ []) ≡
     changed_records records (record { drop = held.corrects; add = if is_withdrawal held.kind then None else Some held })

@@ -1,6 +1,10 @@
+ghost use Rattle.std.specs.Prelude.{◌≡◌, ◌<◌, ◌+◌};
+ghost use Rattle.record_history.specs.{Held.records_of, Records.newest_number};
 ghost use Rattle.tenancy_rules.specs.Law.{UnitsChangeByTransfer, NothingFollowsMoveOut, NoUnitHasTwo, DoubleUseHasTwo, ChangeIsWhatLives};
 ghost use Rattle.tenancy_rules.specs.OrderLaw.{OrderIsPlain, MoveOutIsLast, FaultIsFirst};
 ghost use Rattle.tenancy_rules.specs.UseLaw.{OccupancyIsPlain, DoubleUseIsFirst, NoDoubleUse};
+
+use record_history::{History, Record};
 
 /// Where no record is out of order, a household comes to another unit by a transfer alone, and no record comes after a
 /// move-out. It does nothing.
@@ -34,7 +38,12 @@ pub fn double_use_is_first()
     ensures none { NoDoubleUse }
 {}
 
-/// The records that are judged are those that live once the added one is held. It does nothing.
-pub fn change_is_what_lives()
-    ensures { ChangeIsWhatLives }
-{}
+/// The records that are judged are those that live once the added one is held, which is the next of its household and
+/// corrects or withdraws an earlier one or none. It does nothing.
+pub fn change_is_what_lives(history: &History, held: &Record)
+    requires number { held.now.number ≡ newest_number (records_of history.now.households held.now.household) + 1 }
+    requires earlier { held.now.corrects < held.now.number }
+    ensures { ChangeIsWhatLives (records_of history.now.households held.now.household) held.now }
+{
+    let _records = history.records(held.household);
+}

@@ -10,12 +10,12 @@ record_in-requires c =
 
 pub add_household-requires-clause-household : goal.add_household-requires-clause-household
 add_household-requires-clause-household c =
-    rw c.take_off.ensures.known (accepted_new c.args.self.now.known (Command.Admit c.args.admit) _ c.args.made c.record_in.result refl c.requires.accepted c.record_in.ensures).household_is
+    rw c.take_off.ensures.known (accepted_new c.args.self.now.known (Command.Admit c.args.admit) _ c.args.made c.record_in.result refl refl c.requires.accepted c.record_in.ensures).household_is
 
 pub add_household-requires-clause-next : goal.add_household-requires-clause-next
 add_household-requires-clause-next c =
-    let is = (accepted_new c.args.self.now.known (Command.Admit c.args.admit) _ c.args.made c.record_in.result refl c.requires.accepted c.record_in.ensures).next in
-    rw c.take_off.ensures.known (record { number = is.number; act = is.act })
+    let is = (accepted_new c.args.self.now.known (Command.Admit c.args.admit) _ c.args.made c.record_in.result refl refl c.requires.accepted c.record_in.ensures).next in
+    rw c.take_off.ensures.known (record { number = is.number; act = is.act; earlier = is.earlier })
 
 pub returns : goal.returns
 returns c =

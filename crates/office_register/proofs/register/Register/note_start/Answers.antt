@@ -12,11 +12,11 @@ add_household-requires-clause-few c = few c.requires.accepted
 
 pub add_household-requires-clause-household : goal.add_household-requires-clause-household
 add_household-requires-clause-household c =
-    (accepted_new c.args.self.now.known (Command.Start c.args.start) _ c.args.made c.record_in.result refl c.requires.accepted c.record_in.ensures).household_is
+    (accepted_new c.args.self.now.known (Command.Start c.args.start) _ c.args.made c.record_in.result refl refl c.requires.accepted c.record_in.ensures).household_is
 
 pub add_household-requires-clause-next : goal.add_household-requires-clause-next
 add_household-requires-clause-next c =
-    (accepted_new c.args.self.now.known (Command.Start c.args.start) _ c.args.made c.record_in.result refl c.requires.accepted c.record_in.ensures).next
+    (accepted_new c.args.self.now.known (Command.Start c.args.start) _ c.args.made c.record_in.result refl refl c.requires.accepted c.record_in.ensures).next
 
 pub returns : goal.returns
 returns c = rw (c.add_household.ensures, c.record_in.ensures) (simp unchanged)

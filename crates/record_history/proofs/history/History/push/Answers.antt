@@ -8,4 +8,4 @@ invariant_of-self c =
     let fits : c.args.held.household ≤ 4294967295 = search rules in
     rw c.push_at.ensures.lists
     (sound_push c.args.self.now (lists_in c.self.inside.lists.items) c.self.inside.next.items c.push_at.new.next.items c.args.held
-    (ap (λ (held : Held). held.households) c.self.view_is) c.self.invariant within fits c.push_at.ensures.next c.requires.room c.requires.number)
+    (ap (λ (held : Held). held.households) c.self.view_is) c.self.invariant within fits c.push_at.ensures.next c.requires.room c.requires.number c.requires.act c.requires.earlier)
