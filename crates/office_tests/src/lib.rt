@@ -11,3 +11,5 @@ mod offices;
 mod registers;
 #[cfg(test)]
 mod telling;
+#[cfg(test)]
+mod threads;

@@ -1,4 +1,5 @@
 ghost use Rattle.std.specs.Prelude.{◌≡◌, ◌≤◌, ◌<◌, ◌+◌, ◌^◌, length, true, IfOk, IfSome};
+ghost use Rattle.days_core.specs.OfficeDays.{last_office_month};
 ghost use Rattle.record_history.specs.Held.{IsWithin, room_of};
 ghost use Rattle.book_rows.specs.Fit.{is_fit};
 ghost use Rattle.office_core.specs.Below.office_step.Acts.{name_given};
@@ -122,7 +123,7 @@ fn replied(
     made: &Option<Record>,
 ) -> Made
     requires within { IfSome made.now IsWithin }
-    requires month { ClosesBy 2639 asked.now }
+    requires month { ClosesBy last_office_month asked.now }
     ensures { office.new.register ≡ office.old.register }
 {
     let lines = lines_made(rt, alloc, &office.register, asked);
@@ -131,7 +132,7 @@ fn replied(
 }
 
 fn lines_made(rt: &impl Abort, alloc: Global, register: &Register, asked: &Command) -> Vec<Line>
-    requires { ClosesBy 2639 asked.now }
+    requires { ClosesBy last_office_month asked.now }
     ensures { length result.items < 2 ^ 32 }
 {
     match lines_of(alloc, register, asked) {
