@@ -5,7 +5,7 @@
 
 ghost use Rattle.std.specs.Prelude.{◌<◌, ◌≤◌};
 
-use days_core::{Month, Rents, first_of};
+use days_core::{LAST_OFFICE_DAY, Month, Rents, first_of};
 use plain_data::NoMemory;
 use record_history::{History, Kind, Record};
 use std::alloc::Global;
@@ -93,7 +93,7 @@ fn hold(history: &mut History, household: u32, place: u32) -> Result<(), NoMemor
     if household - 1 > history.households()
         || history.newest(household) != place
         || history.newest_act(household) >= act
-        || from.number() > 80_353
+        || from.number() > LAST_OFFICE_DAY
     {
         return Ok(());
     }

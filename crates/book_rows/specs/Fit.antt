@@ -4,7 +4,7 @@
 -- units and records. The ranges are the office's own.
 use Rattle.std.specs.Prelude.{ℕ, ◌-◌, ◌&&◌, ◌==◌, nat_le, Bool, true, not, List, length, slice_index_or}
 use Rattle.std.specs.List.{list_all}
-use Rattle.days_core.specs.declared.rents.Rents.{Rents}
+use Rattle.days_core.specs.{declared.rents.Rents.Rents, OfficeDays.first_office_month, OfficeDays.last_office_month}
 use Rattle.rent_table.specs.declared.plan.{Bound.Bound, Plan.Plan}
 use Rattle.book_rows.specs.declared.{property.UnitAct.UnitAct, property.RentsAct.RentsAct, property.LimitsAct.LimitsAct, applicants.ApplyAct.ApplyAct, command.Command.Command}
 
@@ -47,7 +47,7 @@ are_ranks ranks = nat_le (length ranks) 16 && list_all (is_within 1 99) ranks
 -- a plan begins in the years 2000 to 2099
 abbrev pub is_plan : Plan → Bool
 is_plan plan =
-    is_within 1440 2639 plan.first
+    is_within first_office_month last_office_month plan.first
     && (is_within 1 2 plan.method
     && (is_within 1 12 plan.fiscal_month
     && (nat_le plan.report_days 365

@@ -1,6 +1,6 @@
 -- What a record certifies of a household (24 CFR 5.609, 5.611, 5.628; Handbook 4350.3 REV-1, chapters 5 and 7).
 use Rattle.std.specs.Prelude.{ℕ, ◌≤◌, not, length, count_by}
-use Rattle.days_core.specs.declared.rents.Rents.{Rents}
+use Rattle.days_core.specs.{declared.rents.Rents.Rents, RentBounds.most_gross_rent}
 use Rattle.facts_core.specs.{declared.facts.Facts.Facts, Rules.is_aide}
 use Rattle.income_rules.specs.Annual.{annual_income_of}
 use Rattle.deduction_rules.specs.Deductions.{adjusted_income_of}
@@ -76,4 +76,4 @@ pub record IsFamily (figures : Figures) : Type 0 where
 pub record FitsRecord (figures : Figures) : Type 0 where
   pub contract_rent : figures.rents.contract_rent ≤ 99999
   pub utility : figures.rents.utility ≤ 9999
-  pub assistance : figures.assistance ≤ 109998
+  pub assistance : figures.assistance ≤ most_gross_rent

@@ -1,6 +1,7 @@
 -- The values that are written of commands that are fit are plain, and are read again as these commands.
 use Rattle.std.proofs.Common.{◌≡◌, ℕ, true, nat_le, codes, refl, arith}
 use Rattle.std.proofs.lemmas.Bool.{and_parts}
+use Rattle.days_core.specs.OfficeDays.{first_office_month, last_office_month}
 use Rattle.json_form.specs.Form.{u32_at, one_of, is_object_at, field, only}
 use Rattle.json_form.specs.Written.{number_data}
 use Rattle.json_form.proofs.Stands.{Stands, word, flag, within, below, number, day, month}
@@ -80,14 +81,14 @@ change_stands household seen (HouseholdChange.Withdraw withdraw) n s h =
 pub command_stands : (asked : Command) → is_fit asked ≡ true → IsHoldable asked → Stands 4 command_at (command_data asked) asked
 unfolding command_at command_members fields_at plan_at plan_members unit_at unit_members rents_at rents_members limits_act_at limits_members apply_at apply_members remove_at remove_members start_at start_members admit_at admit_members ask_transfer_at ask_transfer_members one_of is_object_at field only
 command_stands (Command.Plan plan) fit h =
-    let first = and_parts (is_within 1440 2639 plan.first) _ fit in
+    let first = and_parts (is_within first_office_month last_office_month plan.first) _ fit in
     let method = and_parts (is_within 1 2 plan.method) _ first.1 in
     let fiscal_month = and_parts (is_within 1 12 plan.fiscal_month) _ method.1 in
     let report_days = and_parts (nat_le plan.report_days 365) _ fiscal_month.1 in
     let passbook = and_parts (nat_le plan.passbook 10000) _ report_days.1 in
     let expected = and_parts (nat_le plan.expected 9999) _ passbook.1 in
     let lists = and_parts (are_bounds plan.bounds) (are_ranks plan.ranks) expected.1 in
-    let first_stands = month_in 3 1440 2639 plan.first first.0 (omega arith) in
+    let first_stands = month_in 3 first_office_month last_office_month plan.first first.0 (omega arith) in
     let early = flag 3 plan.early in
     let method_stands = within 3 1 2 plan.method method.0 (omega arith) in
     let fiscal_month_stands = within 3 1 12 plan.fiscal_month fiscal_month.0 (omega arith) in

@@ -1,5 +1,6 @@
 -- How commands about the property are written in JSON: the plan, units, rents and income limits.
 use Rattle.std.specs.Prelude.{ℕ, List, Result, Ok, codes}
+use Rattle.days_core.specs.OfficeDays.{first_office_month, last_office_month}
 use Rattle.serde_json.specs.Data.{Data, boolean, Members, member, no_members}
 use Rattle.json_form.specs.Form.{◌>>=◌, bool_at, day_at, number_at, field}
 use Rattle.json_form.specs.Written.{number_data, day_data, month_data, text_data, array_data}
@@ -12,7 +13,7 @@ use Rattle.command_forms.specs.Fields.{month_within, name_at, preferences_at, li
 -- its first month lies in the years 2000 to 2099
 unfoldable pub plan_at : Data → Result Command (List ℕ)
 plan_at d = do
-  first ← field (codes "first") (month_within 1440 2639) d
+  first ← field (codes "first") (month_within first_office_month last_office_month) d
   early ← field (codes "early") bool_at d
   method ← field (codes "method") (number_at 1 2) d
   fiscal_month ← field (codes "fiscal_month") (number_at 1 12) d

@@ -6,7 +6,7 @@ ghost use Rattle.command_forms.specs.Property.{plan_at, unit_at, rents_at, limit
 
 use crate::forms::{MonthWithin, Name, Persons};
 use book_rows::{Command, LimitsAct, RentsAct, UnitAct};
-use days_core::Rents;
+use days_core::{FIRST_OFFICE_MONTH, LAST_OFFICE_MONTH, Rents};
 use json_form::{ArrayOf, ArrayUpTo, FormFault, Within, field, field_by, number_field};
 use rent_table::Plan;
 use serde_json::Value;
@@ -18,8 +18,8 @@ pub fn plan_of(alloc: Global, value: &Value) -> Result<Command, FormFault>
     ensures fit { IfOk result (λ asked. is_fit asked ≡ true) }
 {
     let years = MonthWithin {
-        least: 1440,
-        most: 2639,
+        least: FIRST_OFFICE_MONTH,
+        most: LAST_OFFICE_MONTH,
     };
     let first = field_by(alloc, value, "first", &years)?;
     let early = field(alloc, value, "early")?;

@@ -1,4 +1,5 @@
 pub mod Calendar
 pub mod DayText
 pub mod OfficeDays
+pub mod RentBounds
 pub mod Rounding

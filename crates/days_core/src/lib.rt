@@ -18,7 +18,9 @@ pub use day::Day;
 pub use month::Month;
 pub use months::{days_in, first_of, last_of, month_of, plus_months};
 pub use moves::{plus_days, years_before};
-pub use office_days::{LAST_OFFICE_DAY, office_days_end_with_2099};
+pub use office_days::{
+    FIRST_OFFICE_MONTH, LAST_OFFICE_DAY, LAST_OFFICE_MONTH, office_days_end_with_2099,
+};
 pub use rents::Rents;
 pub use rounding::round_half_up;
 pub use text::{BadDay, day_of_text, month_of_text, texts_read_back};

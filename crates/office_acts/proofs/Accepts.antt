@@ -1,6 +1,7 @@
 -- That an act which isn't refused is accepted, and of which household its record is.
 use Rattle.std.proofs.Common.{◌≡◌, refl, ℕ, ◌≤◌, Option, Some, None, true, arith}
 use Rattle.std.specs.Prelude.{Result, Ok, Err, IfOk, IfSome}
+use Rattle.days_core.specs.OfficeDays.{last_office_day}
 use Rattle.record_history.specs.declared.records.Record.{Record}
 use Rattle.book_rows.specs.{declared.command.Command.Command, Fit.is_fit}
 use Rattle.office_step.specs.{declared.refusal.Refusal.Refusal, Known.Known, Made.record_of, Against.refused_by}
@@ -8,7 +9,7 @@ use Rattle.office_register.specs.Accepted.{IsAccepted}
 use Rattle.office_register.proofs.Next.{accepted_new, accepted_there}
 use Rattle.office_acts.specs.Judged.{judged_by, IsPlaced}
 
-module _ (known : Known) (most today : ℕ) (asked : Command) (few : most ≤ 100000) (lived : today ≤ 80353) (fit : is_fit asked ≡ true) where
+module _ (known : Known) (most today : ℕ) (asked : Command) (few : most ≤ 100000) (lived : today ≤ last_office_day) (fit : is_fit asked ≡ true) where
   pub accepted : (result : Result (Option Record) Refusal) → result ≡ judged_by (refused_by known most today asked) (record_of known asked) →
       IfOk result (λ made. IsAccepted known asked made)
   accepted (Err refused) judged = tt

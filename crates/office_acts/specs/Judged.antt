@@ -1,6 +1,6 @@
 -- What an office answers to a command, and what holds of a record that an act makes.
 use Rattle.std.specs.Prelude.{ℕ, ◌≡◌, ◌≤◌, ◌+◌, ⊤, Option, Some, None, Result, Ok, Err, length, IfSome}
-use Rattle.days_core.specs.declared.rents.Rents.{Rents}
+use Rattle.days_core.specs.{declared.rents.Rents.Rents, OfficeDays.last_office_day}
 use Rattle.record_history.specs.{declared.records.Record.Record, Records.newest_number, Held.IsWithin}
 use Rattle.book_rows.specs.declared.command.Command.{Command}
 use Rattle.office_step.specs.{declared.refusal.Refusal.Refusal, declared.heading.Heading.Heading, Households.AreBy, Made.Basis, Made.from_facts, Known.Known, Known.own_in}
@@ -44,8 +44,8 @@ AreKept _ from = ⊤
 
 -- a record can be made under the heading
 pub record IsReady (basis : Basis) (heading : Heading) : Type 0 where
-  pub from : heading.from ≤ 80353
-  pub dates : IfSome heading.dates (AreBy 80353)
+  pub from : heading.from ≤ last_office_day
+  pub dates : IfSome heading.dates (AreBy last_office_day)
   pub facts : AreKept basis heading.from
 
 -- a closing is of that month or an earlier one

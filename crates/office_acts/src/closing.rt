@@ -2,6 +2,7 @@
 
 ghost use Rattle.std.specs.Prelude.{◌<◌, ◌^◌, length, ◌≡◌, ◌≤◌, ◌+◌, [], None, option_and_then, IfSome, IfOk, IsOk};
 ghost use Rattle.std.specs.Option.{option_map, option_map_or};
+ghost use Rattle.days_core.specs.OfficeDays.{last_office_month};
 ghost use Rattle.office_step.specs.Made.{last_close, lines_of_close, lines_of};
 ghost use Rattle.office_step.specs.Against.{next_month, wrong_month, rent_due, overdue};
 ghost use Rattle.office_acts.specs.Judged.{ClosesBy};
@@ -23,7 +24,7 @@ use wait_list::Candidate;
 /// Refused where it isn't the next month to close.
 pub fn wrong_month(register: &Register, asked: &Command) -> Option<Refusal>
     ensures value { result ≡ wrong_month register.now.known asked.now }
-    ensures by { result ≡ None → ClosesBy 2639 asked.now }
+    ensures by { result ≡ None → ClosesBy last_office_month asked.now }
 {
     match asked {
         Command::Close(close) => refusals::wrong_month(next_month(register), close.month),
@@ -33,7 +34,7 @@ pub fn wrong_month(register: &Register, asked: &Command) -> Option<Refusal>
 
 fn next_month(register: &Register) -> Option<Month>
     ensures value { result ≡ next_month register.now.known }
-    ensures by { IfSome result (λ month. month ≤ 2639) }
+    ensures by { IfSome result (λ month. month ≤ last_office_month) }
 {
     let plan = register.plan()?;
     next_to_close(plan.first, last_month(register))
@@ -62,7 +63,7 @@ pub fn rent_due(register: &Register, asked: &Command) -> Option<Refusal>
 
 /// Refused where a household should have been certified anew.
 pub fn overdue(register: &Register, asked: &Command) -> Option<Refusal>
-    requires { ClosesBy 2639 asked.now }
+    requires { ClosesBy last_office_month asked.now }
     ensures { result ≡ overdue register.now.known asked.now }
 {
     match asked {
@@ -73,7 +74,7 @@ pub fn overdue(register: &Register, asked: &Command) -> Option<Refusal>
 
 /// The lines that the next act makes. Only a closing makes some.
 pub fn lines_of(alloc: Global, register: &Register, asked: &Command) -> Result<Vec<Line>, NoMemory>
-    requires { ClosesBy 2639 asked.now }
+    requires { ClosesBy last_office_month asked.now }
     ensures lines { IfOk result (λ lines. lines.items ≡ lines_of register.now.known asked.now) }
     ensures few { IfOk result (λ lines. length lines.items < 2 ^ 32) }
 {
@@ -88,7 +89,7 @@ fn lines_of_close(
     register: &Register,
     close: &CloseAct,
 ) -> Result<Vec<Line>, NoMemory>
-    requires { close.now.month ≤ 2639 }
+    requires { close.now.month ≤ last_office_month }
     ensures lines { IfOk result (λ lines. lines.items ≡ lines_of_close register.now.known close.now) }
     ensures few { IfOk result (λ lines. length lines.items < 2 ^ 32) }
 {

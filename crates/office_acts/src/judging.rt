@@ -1,4 +1,5 @@
 ghost use Rattle.std.specs.Prelude.{◌≡◌, ◌≤◌, true, IfSome, IfOk, IsOk};
+ghost use Rattle.days_core.specs.OfficeDays.{last_office_day, last_office_month};
 ghost use Rattle.record_history.specs.Held.{IsWithin};
 ghost use Rattle.book_rows.specs.Fit.{is_fit};
 ghost use Rattle.office_register.specs.Registered.{HasDates};
@@ -38,14 +39,14 @@ pub fn judge(
     asked: &Command,
 ) -> Result<Option<Record>, Refusal>
     requires fit { is_fit asked.now ≡ true }
-    requires today { today ≤ 80353 }
+    requires today { today ≤ last_office_day }
     requires most { most ≤ 100000 }
     ensures judged { result ≡ judged_by (refused_by register.now.known most today asked.now) (record_of register.now.known asked.now) }
     ensures accepted { IfOk result (λ made. IsAccepted register.now.known asked.now made) }
     ensures placed { IfOk result (λ made. IfSome made (IsPlaced register.now.known)) }
     ensures within { IfOk result (λ made. IfSome made IsWithin) }
     ensures dates { IfOk result (λ made. IfSome made HasDates) }
-    ensures month { IsOk result → ClosesBy 2639 asked.now }
+    ensures month { IsOk result → ClosesBy last_office_month asked.now }
 {
     judge_any(register, most, today, asked)
 }
@@ -57,10 +58,10 @@ fn judge_any(
     today: Day,
     asked: &Command,
 ) -> Result<Option<Record>, Refusal>
-    requires { today ≤ 80353 }
+    requires { today ≤ last_office_day }
     ensures judged { result ≡ judged_by (refused_by register.now.known most today asked.now) (record_of register.now.known asked.now) }
     ensures made { IfOk result (λ made. IfSome made (IsMade register.now.known)) }
-    ensures month { IsOk result → ClosesBy 2639 asked.now }
+    ensures month { IsOk result → ClosesBy last_office_month asked.now }
 {
     refused!(no_plan(register, asked));
     refused!(plan_given(register, asked));

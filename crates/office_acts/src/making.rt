@@ -1,6 +1,7 @@
 //! The record that an act makes, by what the register knows.
 
-ghost use Rattle.std.specs.Prelude.{◌≡◌, ◌≤◌, ◌+◌, None, Some, IfSome, option_and_then};
+ghost use Rattle.std.specs.Prelude.{◌≡◌, ◌≤◌, ◌<◌, ◌+◌, None, Some, IfSome, option_and_then};
+ghost use Rattle.days_core.specs.OfficeDays.{last_office_day};
 ghost use Rattle.office_step.specs.Made.{resumed_dates, basis_of, basis_for, heading_of, heading_for, record_of, made_on};
 ghost use Rattle.office_step.specs.Against.{facts_rule, facts_rule_in, day_range, day_range_in};
 ghost use Rattle.office_acts.specs.Judged.{IsMade, IsReady, HasSizeBy};
@@ -19,7 +20,7 @@ use rent_table::Plan;
 
 /// What the record of the act says beside its figures, if it makes one.
 pub fn heading_of(register: &Register, today: Day, asked: &Command) -> Option<Heading>
-    requires today { today ≤ 80353 }
+    requires today { today ≤ last_office_day }
     requires in_range { day_range register.now.known today asked.now ≡ None }
     requires facts { facts_rule asked.now ≡ None }
     ensures value { result ≡ heading_of register.now.known asked.now }
@@ -39,7 +40,7 @@ fn heading_for(
     household: u32,
     change: &HouseholdChange,
 ) -> Option<Heading>
-    requires today { today ≤ 80353 }
+    requires today { today ≤ last_office_day }
     requires in_range { day_range_in register.now.known today change.now ≡ None }
     requires facts { facts_rule_in change.now ≡ None }
     ensures value { result ≡ heading_for register.now.known household change.now }
@@ -93,7 +94,7 @@ fn resumed_dates(done: Day) -> Option<Dates>
 }
 
 fn day_after(day: Day) -> Day
-    requires { day ≤ 80352 }
+    requires { day < last_office_day }
     ensures { result ≡ day + 1 }
 {
     Day::from_number(day.number() + 1).unwrap()

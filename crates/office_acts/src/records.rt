@@ -1,6 +1,7 @@
 //! The record that an act makes, by what the register knows.
 
 ghost use Rattle.std.specs.Prelude.{◌≡◌, ◌≤◌, ◌+◌, None, false, sum_by, length, option_copied, IfSome};
+ghost use Rattle.days_core.specs.OfficeDays.{last_office_day};
 ghost use Rattle.facts_core.specs.Rules.{broken_rule};
 ghost use Rattle.record_history.specs.Records.{newest_number};
 ghost use Rattle.record_history.specs.Held.{records_of};
@@ -22,8 +23,8 @@ use rent_table::{LimitRow, Plan, RentTable};
 /// The record of a heading that is computed from the facts, where there are a plan and rents.
 pub fn made_of_facts(register: &Register, heading: &Heading, facts: &Facts) -> Option<Record>
     requires kept { broken_rule facts.now heading.now.from ≡ None }
-    requires from { heading.now.from ≤ 80353 }
-    requires dates { IfSome heading.now.dates (AreBy 80353) }
+    requires from { heading.now.from ≤ last_office_day }
+    requires dates { IfSome heading.now.dates (AreBy last_office_day) }
     ensures value { result ≡ made_of_facts register.now.known heading.now facts.now }
     ensures made { IfSome result (IsMade register.now.known) }
     ensures size { IfSome result HasSize }
@@ -38,8 +39,8 @@ pub fn made_of_facts(register: &Register, heading: &Heading, facts: &Facts) -> O
 
 /// The record of a heading that carries over what was certified, where that and rents are there.
 pub fn made_of_carried(register: &Register, heading: &Heading) -> Option<Record>
-    requires from { heading.now.from ≤ 80353 }
-    requires dates { IfSome heading.now.dates (AreBy 80353) }
+    requires from { heading.now.from ≤ last_office_day }
+    requires dates { IfSome heading.now.dates (AreBy last_office_day) }
     ensures value { result ≡ made_of_carried register.now.known heading.now }
     ensures made { IfSome result (IsMade register.now.known) }
 {
@@ -51,8 +52,8 @@ pub fn made_of_carried(register: &Register, heading: &Heading) -> Option<Record>
 
 /// The record of a heading that certifies nothing.
 pub fn made_of_nothing(register: &Register, heading: &Heading) -> Record
-    requires from { heading.now.from ≤ 80353 }
-    requires dates { IfSome heading.now.dates (AreBy 80353) }
+    requires from { heading.now.from ≤ last_office_day }
+    requires dates { IfSome heading.now.dates (AreBy last_office_day) }
     ensures value { result ≡ made_of_nothing register.now.known heading.now }
     ensures made { IsMade register.now.known result }
 {
@@ -61,8 +62,8 @@ pub fn made_of_nothing(register: &Register, heading: &Heading) -> Record
 
 /// The next record of the household of a heading.
 fn made_with(register: &Register, heading: &Heading, extremely: bool, figures: &Figures) -> Record
-    requires from { heading.now.from ≤ 80353 }
-    requires dates { IfSome heading.now.dates (AreBy 80353) }
+    requires from { heading.now.from ≤ last_office_day }
+    requires dates { IfSome heading.now.dates (AreBy last_office_day) }
     requires fits { FitsRecord figures.now }
     ensures value { result ≡ made_with register.now.known heading.now extremely figures.now }
     ensures made { IsMade register.now.known result }

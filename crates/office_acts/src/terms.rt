@@ -1,6 +1,7 @@
 //! The facts and days of an act, and whether the tables have what its record needs.
 
 ghost use Rattle.std.specs.Prelude.{◌≡◌, ◌≤◌, None, option_and_then, IfSome};
+ghost use Rattle.days_core.specs.OfficeDays.{last_office_day};
 ghost use Rattle.facts_core.specs.Rules.{broken_rule};
 ghost use Rattle.due_dates.specs.Stale.{gross_day_of};
 ghost use Rattle.office_step.specs.Households.{AreBy};
@@ -13,7 +14,7 @@ ghost use Rattle.office_register.specs.Registered.{HasDates};
 
 use crate::lookups::{plan_day, target_in};
 use book_rows::{Command, CorrectAct, HouseholdChange, InterimAct};
-use days_core::{Day, Month};
+use days_core::{Day, LAST_OFFICE_DAY, Month};
 use due_dates::gross_day;
 use facts_core::Facts;
 use office_refusals as refusals;
@@ -24,12 +25,10 @@ use record_history::{Dates, Kind, Record};
 use rent_table::Plan;
 use wait_list::Candidate;
 
-/// 2000-01-01, 2099-12-30 and 2099-12-31.
+/// 2000-01-01 and 2099-12-30.
 const FIRST_DAY: u32 = 43_829;
 
-const LAST_DAY_LIVED: u32 = 80_352;
-
-const LAST_DAY: u32 = 80_353;
+const LAST_DAY_LIVED: u32 = LAST_OFFICE_DAY - 1;
 
 /// Refused where the facts break a rule on the first day of the record.
 pub fn facts_rule(asked: &Command) -> Option<Refusal>
@@ -103,10 +102,10 @@ fn day_range_in(register: &Register, today: Day, change: &HouseholdChange) -> Op
 
 /// Of rents and limits.
 fn ever_range(from: Day) -> Option<Refusal>
-    ensures { result ≡ refusals.day_range 43829 80353 from }
+    ensures { result ≡ refusals.day_range 43829 last_office_day from }
 {
     let first = Day::from_number(FIRST_DAY).unwrap();
-    let last = Day::from_number(LAST_DAY).unwrap();
+    let last = Day::from_number(LAST_OFFICE_DAY).unwrap();
     range(first, last, from)
 }
 
@@ -114,7 +113,7 @@ fn ever_range(from: Day) -> Option<Refusal>
 fn from_range(register: &Register, from: Day) -> Option<Refusal>
     ensures { result ≡ from_range register.now.known from }
 {
-    let last = Day::from_number(LAST_DAY).unwrap();
+    let last = Day::from_number(LAST_OFFICE_DAY).unwrap();
     range(plan_day(register), last, from)
 }
 
@@ -218,7 +217,7 @@ pub fn wrong_day(
     asked: &Command,
     made: &Option<Record>,
 ) -> Option<Refusal>
-    requires today { today ≤ 80353 }
+    requires today { today ≤ last_office_day }
     requires in_range { day_range register.now.known today asked.now ≡ None }
     requires made { made.now ≡ record_of register.now.known asked.now }
     ensures { result ≡ wrong_day register.now.known asked.now }
@@ -236,7 +235,7 @@ fn wrong_day_in(
     change: &HouseholdChange,
     made: &Option<Record>,
 ) -> Option<Refusal>
-    requires today { today ≤ 80353 }
+    requires today { today ≤ last_office_day }
     requires in_range { day_range_in register.now.known today change.now ≡ None }
     ensures { result ≡ wrong_day_in register.now.known household change.now made.now }
 {
@@ -266,7 +265,7 @@ fn wrong_interim(
     interim: &InterimAct,
     made: &Option<Record>,
 ) -> Option<Refusal>
-    requires { AreBy 80353 interim.now.dates }
+    requires { AreBy last_office_day interim.now.dates }
     ensures { result ≡ option_and_then (wrong_interim register.now.known household interim.now) made.now }
 {
     let made = made.as_ref()?;

@@ -2,6 +2,7 @@
 use Rattle.std.proofs.Common.{◌≡◌, ◌≤◌, ◌<◌, ℕ, List, [], ◌∷◌, ◌++◌, length, Option, Some, None, sym, subst, refl, arith, append-nil}
 use Rattle.std.specs.Prelude.{All, IfSome, option_to_list}
 use Rattle.std.proofs.lemmas.{List.get_or_push, List.length_push, List.Elements.All-push, Bool.and_parts}
+use Rattle.days_core.specs.OfficeDays.{last_office_day}
 use Rattle.record_history.specs.{declared.records.Record.Record, Held.IsWithin}
 use Rattle.book_rows.specs.{declared.rows.ActRow.ActRow, declared.rows.Batch.Batch, Fit.is_fit, Book.Book, Book.appended}
 use Rattle.row_index.specs.{declared.index.Entry.Entry, Index.index_of, Index.with_entry, Index.request_key, Laws.IndexGrows}
@@ -17,7 +18,7 @@ all_last P xs x all =
     (all (length xs) x (let long = length_push xs x in let within : length xs < length (xs ++ x ∷ []) = omega arith in within))
 
 -- the day of an act comes by 2099-12-31
-lived : (capacity : Capacity) (book : Book) (rows : Batch) → BooksAreKept → IsReached capacity book → IsAppended capacity book rows → rows.act.day ≤ 80353
+lived : (capacity : Capacity) (book : Book) (rows : Batch) → BooksAreKept → IsReached capacity book → IsAppended capacity book rows → rows.act.day ≤ last_office_day
 lived capacity book rows kept reached appends =
     (all_last (λ (row : ActRow). IsOfOffice row.day) book.acts rows.act (kept capacity (appended book rows) (reached_more reached appends)).acts.years).most
 

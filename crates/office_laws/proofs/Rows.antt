@@ -1,5 +1,5 @@
 -- The acts of a book: their numbers, commands, days and requests.
-use Rattle.office_laws.proofs.Words.{◌≡◌, refl, ℕ, ◌+◌, ◌≤◌, arith, true, false, not, ◌&&◌, List, [], ◌∷◌, ◌++◌, None, length, All, AllPairs, IsSomeAnd, slice_index_or, bytes_eq, All-push, ActRow, Command, Some, is_fit, command_in, is_request_of, repeated, request_reused, last_act_day, act_day, IsOfOffice, AreActs, find_none, places_push, option_map_none, common_steps, all_pairs_push}
+use Rattle.office_laws.proofs.Words.{last_office_day, ◌≡◌, refl, ℕ, ◌+◌, ◌≤◌, arith, true, false, not, ◌&&◌, List, [], ◌∷◌, ◌++◌, None, length, All, AllPairs, IsSomeAnd, slice_index_or, bytes_eq, All-push, ActRow, Command, Some, is_fit, command_in, is_request_of, repeated, request_reused, last_act_day, act_day, IsOfOffice, AreActs, find_none, places_push, option_map_none, common_steps, all_pairs_push}
 
 -- ---- days
 
@@ -12,7 +12,7 @@ by_last : (rows : List ActRow) → AllPairs (λ row next. row.day ≤ next.day) 
 by_last [] days = λ k d within. omega arith
 by_last (row ∷ rows) days = λ k d within. grind (arith, last_day_is row rows d, days k (length rows) d)
 
-pub last_within : (rows : List ActRow) → All (λ row. IsOfOffice row.day) rows → last_act_day rows ≤ 80353
+pub last_within : (rows : List ActRow) → All (λ row. IsOfOffice row.day) rows → last_act_day rows ≤ last_office_day
 last_within [] within = omega arith
 last_within (row ∷ rows) within = omega (arith, last_day_is row rows row, within (length rows) row (omega arith))
 

@@ -10,7 +10,7 @@ pub use Rattle.std.proofs.lemmas.Option.{same_Some, cond_some, IfSome_then, opti
 pub use Rattle.std.specs.{Cmp.Lexicographic.bytes_decides, Option.option_map, Option.option_or, Option.option_map_or, List.list_any, List.range_with_len, List.flat_map}
 pub use Rattle.book_rows.specs.{Book.Book, Book.appended, Book.IsBatch, Book.IsBefore, Book.empty_book, Fit.is_fit, declared.closings.CloseAct.CloseAct, declared.command.Command.Command, declared.household.HouseholdChange.HouseholdChange, declared.property.UnitAct.UnitAct, declared.rows.ActRow.ActRow, declared.rows.Batch.Batch, declared.moves.AskTransferAct.AskTransferAct, declared.household.HouseholdAct.HouseholdAct}
 pub use Rattle.command_forms.specs.Commands.{command_in, body_of, only_own, command_from}
-pub use Rattle.days_core.specs.declared.rents.Rents.{Rents}
+pub use Rattle.days_core.specs.{declared.rents.Rents.Rents, OfficeDays.last_office_day}
 pub use Rattle.due_dates.specs.Stale.{ends_assistance, unit_rents_on, are_other_rents, has_stale_rents, is_rent_stale_on, rent_due_day_of}
 pub use Rattle.list_laws.proofs.ByNumber.{find_last, filter_last, find_earlier, filter_earlier}
 pub use Rattle.list_laws.proofs.Elements.{map-agree, slice_get-append, AllPairs-append, places_push}

@@ -4,7 +4,8 @@ use Rattle.std.specs.Option.{option_map_or}
 use Rattle.rent_table.specs.Table.{unit_named}
 use Rattle.book_rows.specs.{declared.property.UnitAct.UnitAct, declared.rows.ActRow.ActRow, declared.rows.Batch.Batch, declared.command.Command.Command, Book.Book, Book.appended}
 use Rattle.command_forms.specs.Commands.{command_in}
-use Rattle.office_step.specs.{declared.call.Capacity.Capacity, declared.reply.Done.Done, declared.reply.Made.Made, Acts.units_of, Acts.applications_of, Known.Known, Known.known_of, Made.record_of, Refusals.is_request_of, Refusals.repeated, Refusals.request_reused, Against.last_day, Against.refused_by, declared.refusal.Refusal.Refusal}
+use Rattle.days_core.specs.OfficeDays.{last_office_day}
+use Rattle.office_step.specs.{declared.call.Capacity.Capacity, declared.reply.Done.Done, declared.reply.Made.Made, Acts.units_of, Acts.applications_of, Known.Known, Known.known_of, Made.record_of, Refusals.is_request_of, Refusals.repeated, Refusals.request_reused, Against.refused_by, declared.refusal.Refusal.Refusal}
 use Rattle.office_step.specs.Reply.{acts_up_to, certified, closed, done_of}
 use Rattle.office_step.specs.Step.{last_act_day, act_day, IsAppended, IsReached}
 
@@ -67,11 +68,11 @@ ApplicationsRise = (capacity : Capacity) (book : Book) → IsReached capacity bo
 
 -- no act is of a later day than 2099-12-31
 abbrev pub LastDayIsLived : Type 0
-LastDayIsLived = (capacity : Capacity) (book : Book) → IsReached capacity book → last_act_day book.acts ≤ last_day
+LastDayIsLived = (capacity : Capacity) (book : Book) → IsReached capacity book → last_act_day book.acts ≤ last_office_day
 
 -- nor is the next act
 abbrev pub NextDayIsLived : Type 0
-NextDayIsLived = (capacity : Capacity) (book : Book) → IsReached capacity book → (clock : ℕ) → act_day book.acts clock ≤ last_day
+NextDayIsLived = (capacity : Capacity) (book : Book) → IsReached capacity book → (clock : ℕ) → act_day book.acts clock ≤ last_office_day
 
 -- whose day is that of a clock that shows this day
 abbrev pub NextDayStays : Type 0

@@ -3,14 +3,11 @@ ghost use Rattle.std.specs.Option.{option_or};
 ghost use Rattle.record_history.specs.Held.{records_of};
 ghost use Rattle.office_step.specs.Refusals.{month_after, next_to_close, wrong_month, household_rent_due, rent_due};
 
-use days_core::{Day, Month};
+use days_core::{Day, LAST_OFFICE_MONTH, Month};
 use due_dates::rent_due_day;
 use office_step::Refusal;
 use record_history::{Dates, History, Record};
 use rent_table::RentTable;
-
-/// 2099-12, the last month that is closed.
-const LAST_MONTH: u32 = 2639;
 
 /// The next month to close: the plan's first, or the one after that which was closed last.
 pub fn next_to_close(first: Month, closed: Option<Month>) -> Option<Month>
@@ -25,7 +22,7 @@ pub fn next_to_close(first: Month, closed: Option<Month>) -> Option<Month>
 fn month_after(month: Month) -> Option<Month>
     ensures { result ≡ month_after month }
 {
-    if month.number() < LAST_MONTH {
+    if month.number() < LAST_OFFICE_MONTH {
         Month::from_number(month.number() + 1)
     } else {
         None

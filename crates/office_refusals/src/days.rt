@@ -1,12 +1,10 @@
 ghost use Rattle.std.specs.Prelude.{◌≡◌, ◌≤◌};
 ghost use Rattle.office_step.specs.Step.{day_after};
 
-use days_core::Day;
+use days_core::{Day, LAST_OFFICE_DAY};
 
-/// 2000-01-01 and 2099-12-31.
+/// 2000-01-01.
 const FIRST_DAY: u32 = 43_829;
-
-const LAST_DAY: u32 = 80_353;
 
 /// The day of the next act: the clock's, put into 2000-01-01 to 2099-12-31, or that of the last act where it is later.
 /// Where there is no act, `last` is 1880-01-01.
@@ -18,7 +16,7 @@ pub fn act_day(last: Day, clock: Day) -> Day
     let number = clock
         .number()
         .max(FIRST_DAY)
-        .min(LAST_DAY)
+        .min(LAST_OFFICE_DAY)
         .max(last.number());
     Day::from_number(number).unwrap()
 }

@@ -1,5 +1,6 @@
 ghost use Rattle.std.specs.Prelude.{◌≡◌, ◌≤◌, ◌+◌};
 ghost use Rattle.std.specs.Option.{option_or};
+ghost use Rattle.days_core.specs.OfficeDays.{last_office_month};
 ghost use Rattle.days_core.specs.Calendar.{last_of};
 ghost use Rattle.record_history.specs.Held.{records_of};
 ghost use Rattle.tenancy_rules.specs.Order.{earliest};
@@ -16,7 +17,7 @@ use voucher_core::certified_amount;
 /// Refused where a household is to be paid for the month by a certification of fifteen or more months before: the least
 /// such household, and the anniversary on which it should have been certified.
 pub fn overdue(history: &History, month: Month) -> Option<Refusal>
-    requires { month ≤ 2639 }
+    requires { month ≤ last_office_month }
     ensures { result ≡ overdue history.now.households month }
 {
     let mut late = None;
@@ -33,7 +34,7 @@ fn late_so_far(
     month: Month,
     household: u32,
 ) -> Option<Refusal>
-    requires { month ≤ 2639 }
+    requires { month ≤ last_office_month }
     ensures { result ≡ option_or found (household_overdue (records_of history.now.households household) month household) }
 {
     match found {
@@ -43,7 +44,7 @@ fn late_so_far(
 }
 
 fn household_overdue(history: &History, month: Month, household: u32) -> Option<Refusal>
-    requires { month ≤ 2639 }
+    requires { month ≤ last_office_month }
     ensures { result ≡ household_overdue (records_of history.now.households household) month household }
 {
     if is_unpaid(history, household, month) {
@@ -57,7 +58,7 @@ fn household_overdue(history: &History, month: Month, household: u32) -> Option<
 }
 
 fn overdue_day(history: &History, month: Month, household: u32) -> Option<Day>
-    requires { month ≤ 2639 }
+    requires { month ≤ last_office_month }
     ensures { let own = records_of history.now.households household in
         result ≡ overdue_day month (earliest (others_of own 0)) (base_before (others_of own 0) (last_of month + 1) 0) }
 {

@@ -1,6 +1,7 @@
 //! The live records of a household, with one left out.
 
 ghost use Rattle.std.specs.Prelude.{◌≡◌, ◌≤◌, ◌&&◌, ◌==◌, not, nat_le, filter, option_copied, All, IfSome};
+ghost use Rattle.days_core.specs.OfficeDays.{last_office_day};
 ghost use Rattle.record_history.specs.Held.{IsWithin};
 ghost use Rattle.record_history.specs.Records.{is_live};
 ghost use Rattle.tenancy_rules.specs.Order.{earliest};
@@ -15,7 +16,7 @@ use tenancy_rules::{is_before, sooner};
 pub fn opening(records: &[Record], left_out: u32) -> Option<&Record>
     requires { All IsWithin records.now }
     ensures value { option_copied result ≡ earliest (others_of records.now left_out) }
-    ensures within { IfSome (option_copied result) (λ r. r.from ≤ 80353) }
+    ensures within { IfSome (option_copied result) (λ r. r.from ≤ last_office_day) }
 {
     earliest(records, left_out)
 }
@@ -36,7 +37,7 @@ fn earliest(records: &[Record], left_out: u32) -> Option<&Record>
 pub fn base(records: &[Record], left_out: u32, day: u32, number: u32) -> Option<&Record>
     requires { All IsWithin records.now }
     ensures value { option_copied result ≡ base_before (others_of records.now left_out) day number }
-    ensures within { IfSome (option_copied result) (λ r. r.from ≤ 80353) }
+    ensures within { IfSome (option_copied result) (λ r. r.from ≤ last_office_day) }
 {
     base_before(records, left_out, day, number)
 }

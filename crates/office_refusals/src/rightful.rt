@@ -1,4 +1,5 @@
 ghost use Rattle.std.specs.Prelude.{◌≡◌, ◌≤◌, IfSome};
+ghost use Rattle.days_core.specs.OfficeDays.{last_office_day};
 ghost use Rattle.record_history.specs.Held.{records_of};
 ghost use Rattle.office_step.specs.Refusals.{others_of, annual_right, corrected_annual_right, is_higher, interim_right, resume_right, corrected_right};
 ghost use Rattle.due_dates.specs.declared.due.Due.TheVariants as due;
@@ -6,12 +7,12 @@ ghost use Rattle.due_dates.specs.Rightful.{rightful_day_of};
 ghost use Rattle.office_step.specs.Households.{AreBy};
 
 use crate::live::{base, opening, standing_on};
-use days_core::Day;
+use days_core::{Day, LAST_OFFICE_DAY};
 use due_dates::{Due, rightful_day};
 use record_history::{Dates, History, Kind, Record};
 
 /// The day after 2099-12-31, by which every record begins.
-const AFTER_LAST: u32 = 80_354;
+const AFTER_LAST: u32 = LAST_OFFICE_DAY + 1;
 
 /// The rightful day of an annual recertification, if there is one: the first anniversary after the last move-in, initial
 /// or annual certification that counts.
@@ -35,8 +36,8 @@ pub fn corrected_annual_right(history: &History, household: u32, target: &Record
 }
 
 pub fn anniversary(opening: Day, after: Day) -> Day
-    requires opening { opening ≤ 80353 }
-    requires after { after ≤ 80353 }
+    requires opening { opening ≤ last_office_day }
+    requires after { after ≤ last_office_day }
     ensures { result ≡ rightful_day_of (due.Annual opening after) }
 {
     rightful_day(&Due::Annual { opening, after })
@@ -51,7 +52,7 @@ pub fn interim_right(
     ttp: u32,
     report_days: u32,
 ) -> Day
-    requires { AreBy 80353 dates }
+    requires { AreBy last_office_day dates }
     ensures { result ≡ interim_right (others_of records.now left_out) dates ttp report_days }
 {
     let higher = is_higher(records, left_out, ttp, dates.event);
@@ -73,7 +74,7 @@ fn is_higher(records: &[Record], left_out: u32, ttp: u32, event: Day) -> bool
 
 /// The rightful day of assistance that begins again, by the day on which the work on it was done.
 pub fn resume_right(done: Day) -> Day
-    requires { done ≤ 80353 }
+    requires { done ≤ last_office_day }
     ensures { result ≡ resume_right done }
 {
     rightful_day(&Due::Resume { done })
@@ -89,7 +90,7 @@ pub fn corrected_right(
     report_days: u32,
     from: Day,
 ) -> Option<Day>
-    requires { IfSome target.now.dates (AreBy 80353) }
+    requires { IfSome target.now.dates (AreBy last_office_day) }
     ensures { result ≡ corrected_right (records_of history.now.households household) target.now ttp report_days from }
 {
     match (target.kind, target.dates) {

@@ -1,5 +1,6 @@
 -- What a register holds, the room that it has for more, and what holds of every register.
 use Rattle.std.specs.Prelude.{ℕ, ◌≡◌, ◌≤◌, true, Option, List, All, IfSome, length, sum_by, is_some}
+use Rattle.days_core.specs.{OfficeDays.last_office_day, OfficeDays.last_office_month}
 use Rattle.record_history.specs.declared.records.Record.{Record}
 use Rattle.rent_table.specs.declared.rows.{Unit.Unit as UnitRow, RentRow.RentRow, LimitRow.LimitRow}
 use Rattle.wait_list.specs.declared.applicant.Applicant.{Applicant}
@@ -15,7 +16,7 @@ pub record Registered : Type 0 where
 
 -- the days that a record tells of a change come by 2099-12-31
 abbrev pub HasDates : Record → Type 0
-HasDates r = IfSome r.dates (AreBy 80353)
+HasDates r = IfSome r.dates (AreBy last_office_day)
 
 -- Each part below holds after so many acts.
 
@@ -51,7 +52,7 @@ pub record AreHouseholds (count : ℕ) (names : List (List ℕ)) (households : L
 
 -- a month up to 2099-12 was closed by one of the acts
 pub record IsClosing (count : ℕ) (closing : Closed) : Type 0 where
-  pub month : closing.month ≤ 2639
+  pub month : closing.month ≤ last_office_month
   pub act : closing.act ≤ count
 
 -- what holds of everything that is known

@@ -1,8 +1,8 @@
 -- What stands against a command, by what is known: every test in its one order, each none for the commands that it isn't
 -- about.
-use Rattle.std.specs.Prelude.{ℕ, Bool, true, false, if◌then◌else◌, Option, Some, None, option_and_then, List, [], ◌∷◌, length}
+use Rattle.std.specs.Prelude.{ℕ, ◌-◌, Bool, true, false, if◌then◌else◌, Option, Some, None, option_and_then, List, [], ◌∷◌, length}
 use Rattle.std.specs.Option.{option_map, option_map_or, option_or}
-use Rattle.days_core.specs.Calendar.{first_of as first_day_of, last_of as last_day_of}
+use Rattle.days_core.specs.{Calendar.first_of as first_day_of, Calendar.last_of as last_day_of, OfficeDays.last_office_day}
 use Rattle.payment_rules.specs.Payment.{gross_rent_of}
 use Rattle.record_history.specs.{declared.records.Record.Record, Records.newest_number}
 use Rattle.rent_table.specs.{declared.plan.Plan.Plan, declared.rows.Unit.Unit as UnitRow, Table.unit_at, Table.limits_on}
@@ -17,15 +17,12 @@ use Rattle.office_step.specs.Refusals.{first_of, others_of, annual_right, interi
 
 -- ---- days
 
--- 2000-01-01, 2099-12-30 and 2099-12-31
+-- 2000-01-01 and 2099-12-30
 abbrev pub first_day : ℕ
 first_day = 43829
 
 abbrev pub last_day_lived : ℕ
-last_day_lived = 80352
-
-abbrev pub last_day : ℕ
-last_day = 80353
+last_day_lived = last_office_day - 1
 
 -- the first day of the plan, and 0 where there is none
 abbrev pub plan_day : Known → ℕ
@@ -94,7 +91,7 @@ facts_rule _ = None
 
 -- a record begins between the plan's first day and 2099-12-31
 abbrev pub from_range : Known → ℕ → Option Refusal
-from_range known from = test.day_range (plan_day known) last_day from
+from_range known from = test.day_range (plan_day known) last_office_day from
 
 -- the days of a change that was told: each from the one before it to the act's
 abbrev pub told_range : ℕ → InterimAct → Option Refusal
@@ -113,8 +110,8 @@ day_range_in known today (HouseholdChange.Terminate terminate) = from_range know
 day_range_in known today _ = None
 
 abbrev pub day_range : Known → ℕ → Command → Option Refusal
-day_range known today (Command.Rents rents) = test.day_range first_day last_day rents.from
-day_range known today (Command.Limits limits) = test.day_range first_day last_day limits.from
+day_range known today (Command.Rents rents) = test.day_range first_day last_office_day rents.from
+day_range known today (Command.Limits limits) = test.day_range first_day last_office_day limits.from
 day_range known today (Command.Start start) = from_range known start.from
 day_range known today (Command.Admit admit) = from_range known admit.from
 day_range known today (Command.Household act) = day_range_in known today act.change

@@ -1,7 +1,7 @@
 -- The refusals of an office in their one order, each by the lists and numbers that it reads. None: it doesn't stand.
 use Rattle.std.specs.Prelude.{ℕ, ◌+◌, ◌==◌, ◌&&◌, not, nat_eq, nat_le, nat_lt, if◌then◌else◌, Bool, false, Option, Some, None, option_and_then, List, [], ◌∷◌, length, map, filter, find, is_some, bytes_eq}
 use Rattle.std.specs.{List.range_with_len, Option.option_eq, Option.option_map, Option.option_map_or}
-use Rattle.days_core.specs.Calendar.{last_of}
+use Rattle.days_core.specs.{Calendar.last_of, OfficeDays.last_office_day, OfficeDays.last_office_month}
 use Rattle.facts_core.specs.{declared.facts.Facts.Facts, Rules.broken_rule}
 use Rattle.record_history.specs.{declared.records.Record.Record, declared.records.Dates.Dates, declared.records.Kind.Kind, Held.records_of}
 use Rattle.record_history.specs.Records.{live_records, is_live_as_of, in_force, latest}
@@ -12,6 +12,7 @@ use Rattle.tenancy_rules.specs.{declared.change.Change.Change, Changed.without, 
 use Rattle.wait_list.specs.{declared.applicant.Applicant.Applicant, declared.ask.Candidate.Candidate, Waiting.is_listed}
 use Rattle.voucher_core.specs.Certified.{certified_amount}
 use Rattle.book_rows.specs.declared.rows.ActRow.{ActRow}
+pub use Rattle.book_rows.specs.Book.{is_request_of}
 use Rattle.office_step.specs.declared.refusal.Named.{Named}
 use Rattle.office_step.specs.declared.refusal.Refusal.{Refusal}
 use Rattle.office_step.specs.Households.{record_at, standing_on, begins_year, rests_on_facts}
@@ -23,10 +24,6 @@ first_of (Some refused ∷ rest) = Some refused
 first_of (None ∷ rest) = first_of rest
 
 -- ---- 1 to 4: the call and the book
-
--- the row is of the call's clerk and request
-abbrev pub is_request_of : ℕ → ℕ → ActRow → Bool
-is_request_of clerk request row = row.clerk == clerk && row.request == request
 
 -- the act of the same clerk, request and command
 abbrev pub repeated : List ActRow → ℕ → ℕ → List ℕ → Option ActRow
@@ -133,7 +130,7 @@ annual_day opening base =
 
 -- the rightful day of an annual: by the last such record, all of which begin by 2099-12-31
 abbrev pub annual_right : List Record → Option ℕ
-annual_right own = annual_day (earliest (others_of own 0)) (base_before (others_of own 0) 80354 0)
+annual_right own = annual_day (earliest (others_of own 0)) (base_before (others_of own 0) (last_office_day + 1) 0)
 
 -- the rightful day of an annual's correction: without the target, by the last such record before it
 abbrev pub corrected_annual_right : List Record → Record → Option ℕ
@@ -166,12 +163,12 @@ corrected_right own target ttp report_days from = corrected_by target.kind targe
 -- ---- 14 to 17: order, names and places
 
 -- the number of the first record out of order after the change
-abbrev pub first_fault : List Record → Change → Option ℕ
-first_fault own change = option_map (λ r. r.number) (first_out_of_order (changed_records own change))
+abbrev pub first_disorder : List Record → Change → Option ℕ
+first_disorder own change = option_map (λ r. r.number) (first_out_of_order (changed_records own change))
 
 -- a record would be out of order after the change
 abbrev pub disorder : List Record → Change → Option Refusal
-disorder own change = option_map (λ target. Refusal.Disorder target) (first_fault own change)
+disorder own change = option_map (λ target. Refusal.Disorder target) (first_disorder own change)
 
 -- that unit has the name
 abbrev pub name_taken : List UnitRow → List ℕ → Option Refusal
@@ -211,7 +208,7 @@ no_assistance ttp gross = if nat_le gross ttp then Some (Refusal.NoAssistance tt
 
 -- the month after a closing, up to 2099-12
 abbrev pub month_after : ℕ → Option ℕ
-month_after month = if nat_lt month 2639 then Some (month + 1) else None
+month_after month = if nat_lt month last_office_month then Some (month + 1) else None
 
 -- the next month to close: the plan's first, or the one after that which was closed last
 abbrev pub next_to_close : ℕ → Option ℕ → Option ℕ

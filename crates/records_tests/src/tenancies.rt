@@ -2,7 +2,7 @@ ghost use Rattle.std.specs.Prelude.{◌≡◌, ◌+◌};
 ghost use Rattle.record_history.specs.Held.{records_of};
 ghost use Rattle.tenancy_rules.specs.Changed.{AddsNext};
 
-use days_core::Day;
+use days_core::{Day, LAST_OFFICE_DAY};
 use record_history::{History, Kind, Record};
 use sample_office::{day, hold, record};
 use std::alloc::Global;
@@ -240,8 +240,6 @@ fn one_unit_has_one_household(rt: HostRuntime) {
     assert!(rt; use_of(&rt, &leaving, 2, 0, move_in) == (0, 0));
 }
 
-const LAST: u32 = 80_353; // 2099-12-31
-
 const STAYS: [Told; 2] = [(1, (Kind::MI, 10, 1), 0), (1, (Kind::TM, 20, 1), 0)];
 
 const COMES_BACK: [Told; 3] = [
@@ -279,8 +277,12 @@ const USES: [(&[Told], Row, (u32, u32)); 15] = [
     (&CORRECTED, (Kind::MI, 12, 1), (1, 20)),
     // From the first day of all through 2099-12-31, and no later.
     (&ALWAYS, (Kind::MI, 0, 1), (1, 0)),
-    (&ALWAYS, (Kind::MI, LAST, 1), (1, LAST)),
-    (&ALWAYS, (Kind::MI, 80_354, 1), (0, 0)),
+    (
+        &ALWAYS,
+        (Kind::MI, LAST_OFFICE_DAY, 1),
+        (1, LAST_OFFICE_DAY),
+    ),
+    (&ALWAYS, (Kind::MI, LAST_OFFICE_DAY + 1, 1), (0, 0)),
     // A move-out has no unit.
     (&ALWAYS, (Kind::MO, 10, 1), (0, 0)),
 ];

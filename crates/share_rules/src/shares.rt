@@ -1,4 +1,5 @@
 ghost use Rattle.std.specs.Prelude.{◌≡◌, ◌≤◌};
+ghost use Rattle.days_core.specs.RentBounds.{most_gross_rent};
 ghost use Rattle.share_rules.specs.Shares.{share_to, day_share, run_share};
 
 use days_core::round_half_up;
@@ -8,7 +9,7 @@ use days_core::round_half_up;
 /// Own rule: the days up to each take their part in proportion, rounded half up, so that the shares of all days add up
 /// to the amount. The day is numbered from 1, and the month has so many days.
 pub fn share(amount: u32, day: u32, days: u32) -> u32
-    requires amount { amount ≤ 109998 }
+    requires amount { amount ≤ most_gross_rent }
     requires day { 1 ≤ day }
     requires in_month { day ≤ days }
     requires shortest { 28 ≤ days }
@@ -21,7 +22,7 @@ pub fn share(amount: u32, day: u32, days: u32) -> u32
 
 /// The shares of the days from the first to the last of a month together, in whole dollars.
 pub fn share_run(amount: u32, first: u32, last: u32, days: u32) -> u32
-    requires amount { amount ≤ 109998 }
+    requires amount { amount ≤ most_gross_rent }
     requires first { 1 ≤ first }
     requires in_order { first ≤ last }
     requires in_month { last ≤ days }
@@ -35,7 +36,7 @@ pub fn share_run(amount: u32, first: u32, last: u32, days: u32) -> u32
 }
 
 fn share_to(amount: u32, day: u32, days: u32) -> u32
-    requires amount { amount ≤ 109998 }
+    requires amount { amount ≤ most_gross_rent }
     requires in_month { day ≤ days }
     requires shortest { 28 ≤ days }
     requires longest { days ≤ 31 }

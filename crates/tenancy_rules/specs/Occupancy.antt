@@ -1,6 +1,7 @@
 -- Which unit a household has on a day, and where one unit would have two households (own rules).
-use Rattle.std.specs.Prelude.{ℕ, ◌&&◌, ◌==◌, not, nat_le, if◌then◌else◌, Bool, false, List, length, filter, find, Option, Some, None, is_some, option_and_then}
+use Rattle.std.specs.Prelude.{ℕ, ◌+◌, ◌&&◌, ◌==◌, not, nat_le, if◌then◌else◌, Bool, false, List, length, filter, find, Option, Some, None, is_some, option_and_then}
 use Rattle.std.specs.{Option.option_map, List.range_with_len}
+use Rattle.days_core.specs.OfficeDays.{last_office_day}
 use Rattle.row_choice.specs.FirstDay.{first_day}
 use Rattle.record_history.specs.{declared.records.Record.Record, Records.live_records, Records.latest, Held.records_of}
 use Rattle.tenancy_rules.specs.{declared.change.Change.Change, Changed.changed_records, Order.is_move_out}
@@ -45,4 +46,4 @@ first_rivalry is_rival count end =
 
 -- the first day through 2099-12-31 on which one unit would have this household and another, and the first such other
 abbrev pub first_double_use : List (List Record) → ℕ → Change → Option (ℕ × ℕ)
-first_double_use households household change = first_rivalry (is_rival_on households household change) (length households) 80354
+first_double_use households household change = first_rivalry (is_rival_on households household change) (length households) (last_office_day + 1)

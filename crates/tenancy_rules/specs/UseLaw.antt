@@ -1,5 +1,6 @@
 -- Which unit a household has on a day, and which double use is found, in plain facts (own rules).
 use Rattle.std.specs.Prelude.{◌≡◌, ◌≢◌, ◌↔◌, ◌≤◌, ◌<◌, ◌⊎◌, ℕ, List, length, Some, None, Contains}
+use Rattle.days_core.specs.OfficeDays.{last_office_day}
 use Rattle.record_history.specs.{declared.records.Kind.Kind, declared.records.Record.Record, Records.live_records, Held.records_of}
 use Rattle.tenancy_rules.specs.{declared.change.Change.Change, Changed.changed_records, Changed.NumbersRise, OrderLaw.Precedes, Occupancy.occupied_unit_on, Occupancy.first_double_use}
 
@@ -23,7 +24,7 @@ pub record IsDoubleUse (households : List (List Record)) (household : ℕ) (chan
   pub least : 1 ≤ other
   pub most : other ≤ length households
   pub another : other ≢ household
-  pub by : day ≤ 80353
+  pub by : day ≤ last_office_day
   pub unit : ℕ
   pub own : occupied_unit_on (changed_records (records_of households household) change) day ≡ Some unit
   pub others : occupied_unit_on (live_records (records_of households other)) day ≡ Some unit

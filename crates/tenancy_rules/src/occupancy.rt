@@ -2,6 +2,7 @@
 
 ghost use Rattle.std.specs.Prelude.{◌≡◌, ◌+◌, option_copied, option_and_then, fold, nat_le, filter};
 ghost use Rattle.std.specs.Option.{option_map_or};
+ghost use Rattle.days_core.specs.OfficeDays.{last_office_day};
 ghost use Rattle.record_history.specs.Records.{latest, live_records};
 ghost use Rattle.record_history.specs.Held.{records_of};
 ghost use Rattle.tenancy_rules.specs.Changed.{changed_records, AddsNext};
@@ -10,11 +11,11 @@ ghost use Rattle.tenancy_rules.specs.Beginnings.{sooner_beginning, sooner_rivalr
 
 use crate::Change;
 use crate::changed::latest_before;
-use days_core::Day;
+use days_core::{Day, LAST_OFFICE_DAY};
 use record_history::{History, Kind, Record};
 
 /// How many days there are from 1880-01-01 through 2099-12-31.
-const DAYS: u32 = 80_354;
+const DAYS: u32 = LAST_OFFICE_DAY + 1;
 
 /// The first day through 2099-12-31 on which one unit would have the household and another after the change, with the
 /// least of such others on that day; None where there is no such day. Own rule: a household has the unit of its record in
@@ -110,7 +111,7 @@ impl Pair<'_> {
 
 /// The number of the day before which an earlier double use would lie.
 fn end_of(first: &Option<(u32, Day)>) -> u32
-    ensures { result ≡ option_map_or (λ rivalry. rivalry.1) first.now 80354 }
+    ensures { result ≡ option_map_or (λ rivalry. rivalry.1) first.now (last_office_day + 1) }
 {
     match first {
         Some((_, day)) => day.number(),

@@ -1,4 +1,5 @@
 -- How many lines a closing has at most.
+use Rattle.days_core.specs.OfficeDays.{first_office_month, last_office_month}
 use Rattle.voucher_core.proofs.Words.{ℕ, ◌+◌, ◌-◌, ◌*◌, ◌<◌, ◌≤◌, List, length, Option, Some, None, pos, arith, length-append, map, not, ◌==◌, range_with_len, flat_map, int_eq, length-map, sum_by-le, days_in, days_in_bounds, Record, as_of, Line, changes, line_of, month_lines, known_before, lines_for, adjustment_lines, closing_lines, filter_few, cond_both, length-flat_map, length-range_with_len, cover_few}
 use Rattle.voucher_core.proofs.Covered.{change_at, month_covered}
 
@@ -20,14 +21,14 @@ few_for own count act closed before month low =
     let all = few_pieces (λ (h : ℕ). month_lines act closed h month (known_before before (own h)) (as_of act (own h))) 1 count 31 each in
     omega arith
 
-few_adjustments : (own : ℕ → List Record) (count closed first_month last_close act : ℕ) → count ≤ 100000 → 1440 ≤ first_month → closed ≤ 2639 →
+few_adjustments : (own : ℕ → List Record) (count closed first_month last_close act : ℕ) → count ≤ 100000 → first_office_month ≤ first_month → closed ≤ last_office_month →
     length (adjustment_lines own count act closed first_month last_close) ≤ 3716900000
 few_adjustments own count closed first_month last_close act low first last =
     let each = λ (month : ℕ). few_for own count act closed (Some last_close) month low in
     let all = few_pieces (lines_for own count act closed (Some last_close)) first_month (closed - first_month) 3100000 each in
     cond_both (last_close == 0) _ _ (λ lines. length lines ≤ 3716900000) (λ _. omega arith) (λ _. omega arith)
 
-pub few : (own : ℕ → List Record) (count closed first_month last_close act : ℕ) → count ≤ 100000 → 1440 ≤ first_month → closed ≤ 2639 →
+pub few : (own : ℕ → List Record) (count closed first_month last_close act : ℕ) → count ≤ 100000 → first_office_month ≤ first_month → closed ≤ last_office_month →
     length (closing_lines own count closed first_month last_close act) < 4294967296
 few own count closed first_month last_close act low first last =
     let before = few_adjustments own count closed first_month last_close act low first last in

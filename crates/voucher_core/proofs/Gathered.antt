@@ -1,6 +1,7 @@
 -- Lines that are gathered one after another.
 use Rattle.voucher_core.proofs.Words.{◌≡◌, ℕ, suc, ◌+◌, ◌-◌, ◌<◌, ◌≤◌, List, [], ◌∷◌, ◌++◌, length, map, take, drop, get_or, set, Option, Some, pos, ◌-ℤ◌, max, false, refl, ap, sym, ◌∙◌, subst, arith, append_assoc, to_z, of_z, w32, SomeIff, ◌==◌, ne_eqb, Record, range_with_len, flat_map, ints, to_z-of_z, to_z_pos, flat_map_more, map_push, take_more, drop_more, append-nil, length-take-le, Line, lines_for, adjustment_lines, placed, range-more}
 use Rattle.std.proofs.Math.Seq.{set-append_seam, get_or-append_seam}
+use Rattle.days_core.specs.RentBounds.{most_gross_rent}
 
 -- the value that is there
 pub unwrapped : {T : Type 0} (o : Option T) (P : Type 0) (v x : T) → SomeIff o P v → o ≡ Some x → x ≡ v
@@ -44,7 +45,7 @@ adjustments-all own count act closed first_month last_close month start lines so
     rw test (so_far ∙ ap (λ (n : ℕ). start ++ flat_map (lines_for own count act closed (Some last_close)) (range_with_len first_month n)) count')
 
 -- the amount of a line
-pub amount_is : (a b : ℕ) → a ≤ 109998 → b ≤ 109998 → to_z w32 (of_z w32 (to_z w32 a -ℤ to_z w32 b)) ≡ pos a -ℤ pos b
+pub amount_is : (a b : ℕ) → a ≤ most_gross_rent → b ≤ most_gross_rent → to_z w32 (of_z w32 (to_z w32 a -ℤ to_z w32 b)) ≡ pos a -ℤ pos b
 amount_is a b low high = grind (arith, ints, to_z-of_z, to_z_pos)
 
 -- Places ----

@@ -1,12 +1,13 @@
 -- The changes of a month, day by day, and that they lie within their bounds.
+use Rattle.days_core.specs.RentBounds.{most_gross_rent}
 use Rattle.voucher_core.proofs.Words.{◌≡◌, ◌⊎◌, inl, inr, ℕ, suc, ◌+◌, ◌-◌, ◌<◌, ◌≤◌, List, [], reverse, refl, ap, sym, ◌∙◌, subst, arith, All, get_or, cases_lt, days_in, first_of, last_of, first_of-suc, days_in_bounds, Record, Stretch, with_day, newest_first, stretches, Change, day_at, change_on, is_same_change, changes, IsOfItsDays, up_to}
 use Rattle.voucher_core.specs.Bounds.{IsUsable}
 use Rattle.voucher_core.proofs.{Covered.exact_change, Named.changes_of_days, Walk.one_run}
 
 -- the amounts of a change are those that a contract allows
 pub record IsAllowed (change : Change) : Type 0 where
-  pub old : change.old.assistance ≤ 109998
-  pub new : change.new.assistance ≤ 109998
+  pub old : change.old.assistance ≤ most_gross_rent
+  pub new : change.new.assistance ≤ most_gross_rent
 
 -- so are those of the first so many days
 abbrev pub AreAllowed : (ℕ → Change) → ℕ → Type 0

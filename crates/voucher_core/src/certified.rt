@@ -1,4 +1,5 @@
 ghost use Rattle.std.specs.Prelude.{◌≡◌, ◌≤◌};
+ghost use Rattle.days_core.specs.RentBounds.{most_gross_rent};
 ghost use Rattle.days_core.specs.Calendar.{days_in};
 ghost use Rattle.record_history.specs.Held.{records_of};
 ghost use Rattle.share_rules.specs.Shares.{day_share};
@@ -25,7 +26,7 @@ fn share_on(history: &History, household: u32, month: Month, place: u32) -> u32
     requires first { 1 ≤ place }
     requires last { place ≤ days_in month }
     ensures value { result ≡ day_share (assistance_on (records_of history.now.households household) (day_at month place)) place (days_in month) }
-    ensures within { result ≤ 109998 }
+    ensures within { result ≤ most_gross_rent }
 {
     let assistance = assistance_on(history, household, day_at(month, place));
     share(assistance, place, days_in(month))
@@ -33,7 +34,7 @@ fn share_on(history: &History, household: u32, month: Month, place: u32) -> u32
 
 fn assistance_on(history: &History, household: u32, day: Day) -> u32
     ensures value { result ≡ assistance_on (records_of history.now.households household) day }
-    ensures within { result ≤ 109998 }
+    ensures within { result ≤ most_gross_rent }
 {
     match history.in_force(household, day) {
         Some(held) => held.assistance,

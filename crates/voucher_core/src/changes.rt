@@ -1,6 +1,7 @@
 //! What is in force on the days of a month, before and now.
 
 ghost use Rattle.std.specs.Prelude.{◌≡◌, ◌≤◌, ◌<◌, ◌-◌, ◌+◌, All, List, reverse, OnOk};
+ghost use Rattle.days_core.specs.RentBounds.{most_gross_rent};
 ghost use Rattle.record_history.specs.Records.{as_of};
 ghost use Rattle.record_history.specs.Held.{records_of};
 ghost use Rattle.record_history.specs.Stretch.{with_day};
@@ -94,8 +95,8 @@ fn add_run(
 fn change_on(history: &History, household: u32, day: u32, paid_at: Option<u32>, act: u32) -> Change
     requires { day ≤ 116877 }
     ensures value { result ≡ change_on (known_before paid_at (records_of history.now.households household)) (as_of act (records_of history.now.households household)) day }
-    ensures old { result.old.assistance ≤ 109998 }
-    ensures new { result.new.assistance ≤ 109998 }
+    ensures old { result.old.assistance ≤ most_gross_rent }
+    ensures new { result.new.assistance ≤ most_gross_rent }
 {
     let day = Day::from_number(day).unwrap();
     Change {
@@ -106,7 +107,7 @@ fn change_on(history: &History, household: u32, day: u32, paid_at: Option<u32>, 
 
 fn force_before(history: &History, household: u32, day: Day, paid_at: Option<u32>) -> InForce
     ensures value { result ≡ force_on (known_before paid_at (records_of history.now.households household)) day }
-    ensures within { result.assistance ≤ 109998 }
+    ensures within { result.assistance ≤ most_gross_rent }
 {
     match paid_at {
         Some(last_close) => force_on(history, household, day, last_close),
@@ -116,7 +117,7 @@ fn force_before(history: &History, household: u32, day: Day, paid_at: Option<u32
 
 fn force_on(history: &History, household: u32, day: Day, act: u32) -> InForce
     ensures value { result ≡ force_on (as_of act (records_of history.now.households household)) day }
-    ensures within { result.assistance ≤ 109998 }
+    ensures within { result.assistance ≤ most_gross_rent }
 {
     match history.in_force_as_of(household, day, act) {
         Some(held) => InForce {

@@ -1,4 +1,5 @@
 ghost use Rattle.std.specs.Prelude.{◌≡◌, ◌≤◌, ◌<◌, ◌^◌, length, IfOk};
+ghost use Rattle.days_core.specs.OfficeDays.{first_office_month, last_office_month};
 ghost use Rattle.record_history.specs.Held.{records_of};
 ghost use Rattle.voucher_core.specs.Lines.{closing_lines, placed};
 
@@ -23,8 +24,8 @@ pub fn close_lines(
 ) -> Result<Vec<Line>, NoMemory>
     requires last_close { last_close ≤ act }
     requires households { length history.now.households ≤ 100000 }
-    requires first_month { 1440 ≤ first_month }
-    requires month { month ≤ 2639 }
+    requires first_month { first_office_month ≤ first_month }
+    requires month { month ≤ last_office_month }
     ensures lines { IfOk result (λ lines. lines.items ≡ placed 1 (closing_lines (records_of history.now.households) (length history.now.households) month first_month last_close act)) }
     ensures few { IfOk result (λ lines. length lines.items < 2 ^ 32) }
 {

@@ -1,7 +1,6 @@
 -- On no day do two households have one unit.
-use Rattle.office_laws.proofs.Words.{Book, Capacity, IsReached, ◌≡◌, ◌≢◌, ◌∙◌, sym, ℕ, ◌≤◌, inl, inr, arith, List, [], ◌∷◌, ◌++◌, Some, length, Record, live_records, records_of, occupied_unit_on, Command, Known, known_of, own_in, change_by, record_of, IsOneOf, IsInOrder, Passed, records_cases, option_map_none}
+use Rattle.office_laws.proofs.Words.{last_office_day, Book, Capacity, IsReached, ◌≡◌, ◌≢◌, ◌∙◌, sym, ℕ, ◌≤◌, inl, inr, arith, List, [], ◌∷◌, ◌++◌, Some, length, Record, live_records, records_of, occupied_unit_on, Command, Known, known_of, own_in, change_by, record_of, IsOneOf, IsInOrder, Passed, records_cases, option_map_none}
 use Rattle.std.proofs.lemmas.Bool.{cases_lt}
-use Rattle.office_step.specs.Against.{last_day}
 use Rattle.tenancy_rules.proofs.UseLaws.{no_unit_has_two}
 use Rattle.office_laws.proofs.{Dated.begin_in_time, Dated.unit_past, Inversion.passes, Known.next, Known.by_acts, Own.owned, Unit.moved_out_had, Unit.kept_had}
 use Rattle.office_laws.proofs.Lived.{lived, lives_more, rises}
@@ -15,7 +14,7 @@ Has day unit own = occupied_unit_on (live_records own) day ≡ Some unit
 
 -- on no day do two of the households have one unit
 abbrev Apart : (ℕ → List Record) → Type 0
-Apart own = (one other day unit : ℕ) → one ≢ other → day ≤ 80353 → Has day unit (own one) → Has day unit (own other) → ⊥
+Apart own = (one other day unit : ℕ) → one ≢ other → day ≤ last_office_day → Has day unit (own one) → Has day unit (own other) → ⊥
 
 -- who has a unit is there
 has_there : (households : List (List Record)) (household day unit : ℕ) → Has day unit (records_of households household) → IsOneOf (length households) household
@@ -27,7 +26,7 @@ has_there households household day unit has = elim (records_cases households hou
 module _ (known : Known) (most today : ℕ) (asked : Command) (r : Record) (free : Passed known most today asked)
     (is : record_of known asked ≡ Some r) (own : IsInOrder (own_in known r.household)) where
   -- the household comes to no unit that another has
-  own_apart : Apart (own_in known) → (other day unit : ℕ) → r.household ≢ other → day ≤ 80353 →
+  own_apart : Apart (own_in known) → (other day unit : ℕ) → r.household ≢ other → day ≤ last_office_day →
       Has day unit (own_in known r.household ++ r ∷ []) → Has day unit (own_in known other) → ⊥
   own_apart apart other day unit differs by on taken = by_placed (tried known most today asked r free is).placed
     where
@@ -68,9 +67,9 @@ apart_in_time capacity =
 -- ---- and on no later day
 
 pub returns : goal.returns
-returns c capacity book reached one other day unit differs on taken = elim (cases_lt last_day day) [
+returns c capacity book reached one other day unit differs on taken = elim (cases_lt last_office_day day) [
   | inr by ↦ apart_in_time capacity book reached one other day unit differs by on taken
-  | inl past ↦ apart_in_time capacity book reached one other last_day unit differs (omega arith)
+  | inl past ↦ apart_in_time capacity book reached one other last_office_day unit differs (omega arith)
       (sym (unit_past (own_in (known_of book) one) day (begin_in_time capacity book reached one) (omega arith)) ∙ on)
       (sym (unit_past (own_in (known_of book) other) day (begin_in_time capacity book reached other) (omega arith)) ∙ taken)
 ]
