@@ -88,7 +88,7 @@ fn told<K: Keeper>(
 {
     match line_of_bytes(alloc, line) {
         Ok(BatchLine::Act { today: day, call }) => {
-            replied(alloc, office, keeper, day.unwrap_or(today), &call)
+            replied(alloc, office, keeper, day.unwrap_or(today), call)
         }
         Ok(BatchLine::Ask(question)) => answered(alloc, office, &question),
         Err(FormFault::BadField(path)) => Ok(with_end(text_of_bad_form(alloc, path.as_str())?)?),
@@ -102,11 +102,11 @@ fn replied<K: Keeper>(
     office: &mut Office,
     keeper: &mut K,
     day: Day,
-    call: &Call,
+    call: Call,
 ) -> Result<Text, Ending>
-    requires fit { is_fit_call call.now ≡ true }
+    requires fit { is_fit_call call ≡ true }
     requires told { (book : Book) → K.holds keeper.old book → book ≡ office.old.book }
-    ensures told { Tells (told_of_call office.old.book (step office.old.book office.old.capacity session day call.now)) office.old.book office.new.book result }
+    ensures told { Tells (told_of_call office.old.book (step office.old.book office.old.capacity session day call)) office.old.book office.new.book result }
     ensures capacity { office.new.capacity ≡ office.old.capacity }
     ensures kept { (book : Book) → K.holds keeper.new book → book ≡ office.new.book }
     ensures told_before { ToldBefore (K.holds keeper.old) (K.holds keeper.new) }

@@ -1,3 +1,4 @@
 pub mod Below
 pub mod Order
 pub mod Replay
+pub mod Texts

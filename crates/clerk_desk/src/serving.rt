@@ -21,11 +21,11 @@ pub fn serve<K: Keeper>(
     keeper: &mut K,
     session: u32,
     clock: Day,
-    call: &Call,
+    call: Call,
 ) -> Reply
-    requires fit { is_fit_call call.now ≡ true }
+    requires fit { is_fit_call call ≡ true }
     requires told { (book : Book) → K.holds keeper.old book → book ≡ office.old.book }
-    ensures served { Serves (step office.old.book office.old.capacity session clock call.now) office.old.book office.new.book result }
+    ensures served { Serves (step office.old.book office.old.capacity session clock call) office.old.book office.new.book result }
     ensures capacity { office.new.capacity ≡ office.old.capacity }
     ensures kept { (book : Book) → K.holds keeper.new book → book ≡ office.new.book }
     ensures told_before { ToldBefore (K.holds keeper.old) (K.holds keeper.new) }

@@ -23,6 +23,7 @@ impl Office {
     ghost use Rattle.office_answers.specs.Below.office_step.Step.{step as step_of, is_fit_call};
     ghost use Rattle.office_answers.specs.Below.office_step.Valid.{rows_in, replayed, difference, first_fault, with_rows};
     ghost use Rattle.book_replay.specs.Below.office_laws.Upheld.{IsUpheld};
+    ghost use Rattle.book_replay.specs.Texts.{IsTextOf};
     ghost use Rattle.office_core.specs.Planned.{IsPlannedFor};
     ghost use Rattle.office_core.specs.Office.{HasRoomFor};
     ghost use Rattle.office_core.specs.Opening.{IsNamed};
@@ -78,7 +79,7 @@ impl Office {
         ensures planned { IfOk result (λ step. IfSome step (IsPlannedFor self.now.capacity self.now.book)) }
     {
         match call_of(alloc, row)? {
-            Some(call) => self.planned_call(alloc, row, &call),
+            Some(call) => self.planned_call(alloc, row, call),
             None => Ok(None),
         }
     }
@@ -87,13 +88,14 @@ impl Office {
         &self,
         alloc: Global,
         row: &ActRow,
-        call: &Call,
+        call: Call,
     ) -> Result<Option<Step>, NoMemory>
-        requires { is_fit_call call.now ≡ true }
-        ensures rows { IfOk result (λ step. option_map (λ step. step.rows) step ≡ rows_in (step_of self.now.book self.now.capacity row.now.session row.now.day call.now)) }
+        requires fit { is_fit_call call ≡ true }
+        requires text { IsTextOf call.command row.now.body }
+        ensures rows { IfOk result (λ step. option_map (λ step. step.rows) step ≡ rows_in (step_of self.now.book self.now.capacity row.now.session row.now.day call)) }
         ensures planned { IfOk result (λ step. IfSome step (IsPlannedFor self.now.capacity self.now.book)) }
     {
-        match self.plan_step(alloc, row.session, row.day, call) {
+        match self.plan_with(alloc, row.session, row.day, call, Some(&row.body)) {
             Ok(Judged::New(step)) => Ok(Some(step)),
             Ok(Judged::Repeat(_)) | Err(Judgment::Refused(_)) => Ok(None),
             Err(Judgment::NoMemory) => Err(NoMemory),

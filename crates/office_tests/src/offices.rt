@@ -55,9 +55,7 @@ fn judged(
     ensures { IfOk result (PlansFor office.now.capacity office.now.book) }
 {
     let call = call(rt, alloc, trial);
-    let judged = plan(alloc, office, trial.today, &call);
-    call.let_go();
-    judged
+    plan(alloc, office, trial.today, call)
 }
 
 fn call(rt: &impl Abort, alloc: Global, trial: &Trial) -> Call
@@ -73,8 +71,8 @@ fn call(rt: &impl Abort, alloc: Global, trial: &Trial) -> Call
 }
 
 // Its contract says no more than `accepted` needs, which keeps the proofs above short.
-fn plan(alloc: Global, office: &Office, today: Day, call: &Call) -> Result<Judged, Judgment>
-    requires { is_fit_call call.now ≡ true }
+fn plan(alloc: Global, office: &Office, today: Day, call: Call) -> Result<Judged, Judgment>
+    requires { is_fit_call call ≡ true }
     ensures { IfOk result (PlansFor office.now.capacity office.now.book) }
 {
     office.plan_step(alloc, 1, today, call)

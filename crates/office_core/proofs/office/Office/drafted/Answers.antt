@@ -1,32 +1,32 @@
 use Rattle.std.proofs.Common.{◌∙◌, ap, sym, refl}
 use Rattle.office_answers.specs.Below.office_step.Step.{appends}
 use Rattle.office_core.proofs.Judging.{new_call, judged_err, judged_ok, refused_for, full_for, appends_for, planned_for}
-use Rattle.office_core.proofs.office.Office.planned.Goals as goal
+use Rattle.office_core.proofs.office.Office.drafted.Goals as goal
 
-pub returns-in-Err-clause-judged : goal.returns-in-Err-clause-judged
-returns-in-Err-clause-judged c =
+pub returns-in-Err-clause-refused : goal.returns-in-Err-clause-refused
+returns-in-Err-clause-refused c =
     let tried = new_call c.self.view_is c.self.invariant.reached c.self.invariant.known c.requests_are_once.ensures.new c.requires.is_new c.act_day-day.ensures.value c.last_day.ensures in
     refused_for tried c.args.session c.in-Err.refusal (judged_err _ _ _ (sym c.in-Err.is ∙ c.judge.ensures.judged))
 
-pub returns-in-Some-clause-judged : goal.returns-in-Some-clause-judged
-returns-in-Some-clause-judged c =
+pub returns-in-Some-clause-refused : goal.returns-in-Some-clause-refused
+returns-in-Some-clause-refused c =
     let tried = new_call c.self.view_is c.self.invariant.reached c.self.invariant.known c.requests_are_once.ensures.new c.requires.is_new c.act_day-day.ensures.value c.last_day.ensures in
     let free = judged_ok _ _ _ (sym c.in-Ok.is ∙ c.judge.ensures.judged) in
     let room = rw (c.deref.ensures.value, c.in-Ok-lines_of.ensures.lines, ← c.self.view_is) at c.lines_full.ensures in
     full_for tried c.args.session c.in-Some.refusal free.0 (sym room ∙ c.in-Some.is)
 
-pub returns-clause-judged : goal.returns-clause-judged
-returns-clause-judged c =
+pub returns-clause-appends : goal.returns-clause-appends
+returns-clause-appends c =
     let tried = new_call c.self.view_is c.self.invariant.reached c.self.invariant.known c.requests_are_once.ensures.new c.requires.is_new c.act_day-day.ensures.value c.last_day.ensures in
     let free = judged_ok _ _ _ (sym c.in-Ok.is ∙ c.judge.ensures.judged) in
     let room = rw (c.deref.ensures.value, c.in-Ok-lines_of.ensures.lines, ← c.self.view_is) at c.lines_full.ensures in
     appends_for tried c.args.session free.0 (sym room ∙ c.in_default-lines_full.is)
-    ∙ ap appends (rw (c.count.ensures.count, c.requires.body, free.1, c.new-lines.ensures, c.in-Ok-lines_of.ensures.lines) refl)
+    ∙ ap appends (rw (c.count.ensures.count, c.in-Ok-text_for.ensures.is, free.1, c.new-lines.ensures, c.in-Ok-lines_of.ensures.lines) refl)
 
 pub returns-clause-planned : goal.returns-clause-planned
 returns-clause-planned c =
     let tried = new_call c.self.view_is c.self.invariant.reached c.self.invariant.known c.requests_are_once.ensures.new c.requires.is_new c.act_day-day.ensures.value c.last_day.ensures in
     let free = judged_ok _ _ _ (sym c.in-Ok.is ∙ c.judge.ensures.judged) in
     let room = rw (c.deref.ensures.value, c.in-Ok-lines_of.ensures.lines, ← c.self.view_is) at c.lines_full.ensures in
-    rw (c.count.ensures.count, c.in-Ok-read_again.ensures, c.in-Ok-name_given.ensures, c.requires.body, free.1, c.new-lines.ensures, c.in-Ok-lines_of.ensures.lines)
-    (planned_for tried c.args.session c.days_are_lived.ensures.stays c.requires.fit (rw c.requires.body at c.requires.reads) free.0 (sym room ∙ c.in_default-lines_full.is))
+    rw (c.count.ensures.count, c.in-Ok-name_given.ensures, c.in-Ok-text_for.ensures.is, free.1, c.new-lines.ensures, c.in-Ok-lines_of.ensures.lines)
+    (planned_for tried c.args.session c.days_are_lived.ensures.stays c.requires.fit (rw c.in-Ok-text_for.ensures.is at c.in-Ok-text_for.ensures.reads) free.0 (sym room ∙ c.in_default-lines_full.is))
