@@ -47,10 +47,11 @@ fn household_overdue(history: &History, month: Month, household: u32) -> Option<
     requires { month ≤ last_office_month }
     ensures { result ≡ household_overdue (records_of history.now.households household) month household }
 {
+    // What is paid for the month is the dearer of the two to tell.
+    let anniversary = overdue_day(history, month, household)?;
     if is_unpaid(history, household, month) {
         return None;
     }
-    let anniversary = overdue_day(history, month, household)?;
     Some(Refusal::Overdue {
         household,
         anniversary,
