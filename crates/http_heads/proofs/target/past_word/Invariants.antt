@@ -1,0 +1,9 @@
+use Rattle.std.proofs.Common.{◌≡◌, ◌≤◌, length}
+use Rattle.http_heads.specs.Heads.{after_word}
+use Rattle.http_heads.proofs.target.past_word.Given as goal
+
+abbrev pub invariant-loop-rest : goal.invariant-loop-rest
+invariant-loop-rest l = record { same : after_word l.rest ≡ after_word l.bytes; shorter : length l.rest ≤ length l.bytes }
+
+abbrev pub decreases-loop-rest : goal.decreases-loop-rest
+decreases-loop-rest l = length l.rest
