@@ -1,0 +1,4 @@
+pub mod Bodies
+pub mod Cuttings
+pub mod Fronts
+pub mod Growth

@@ -1,0 +1,12 @@
+use Rattle.std.proofs.Common.{◌≡◌, ◌-◌, length}
+use Rattle.http_messages.specs.Incoming.{Grows}
+use Rattle.http_messages.proofs.next.read_head.Given as goal
+
+abbrev pub invariant-reads : goal.invariant-reads
+invariant-reads g l = record {
+  grows : Grows l.fn.held l.held (g.S.Source.left l.fn.source) (g.S.Source.left l.source);
+  faults : g.S.Source.faults l.source ≡ g.S.Source.faults l.fn.source;
+}
+
+abbrev pub decreases-reads : goal.decreases-reads
+decreases-reads g l = 16384 - length l.held

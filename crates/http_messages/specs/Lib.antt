@@ -1,0 +1,4 @@
+pub mod Cutting
+pub mod Incoming
+pub mod Messages
+pub mod Reads
