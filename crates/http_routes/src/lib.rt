@@ -7,4 +7,4 @@ mod place;
 mod routes;
 
 pub use asked::{Asked, Routed, ValuePart};
-pub use routes::Routes;
+pub use routes::{Routes, one_route_fits};

@@ -1,6 +1,6 @@
 ghost use Rattle.std.specs.Prelude.{◌≡◌, true, false, None, ok_or, IfOk, IfSome};
 ghost use Rattle.days_core.specs.DayText.{day_from, month_from};
-ghost use Rattle.http_routes.specs.Asks.{Leads, asked_at, method_of, path_of};
+ghost use Rattle.http_routes.specs.Asks.{Leads, OneRoute, asked_at, method_of, path_of};
 ghost use Rattle.http_routes.specs.Paths.{fits, steps_of};
 ghost use Rattle.http_routes.specs.Table.{IsTable};
 ghost use Rattle.http_routes.specs.declared.place.Place.{Place};
@@ -144,3 +144,8 @@ fn month(text: &str) -> Result<Month, ValuePart>
 {
     month_of_text(text).ok().ok_or(ValuePart::Month)
 }
+
+/// No two routes fit one target.
+pub fn one_route_fits()
+    ensures { OneRoute }
+{}
