@@ -1,10 +1,10 @@
 -- What a front of some bytes says of them.
-use Rattle.std.proofs.Common.{◌≡◌, ℕ, ◌+◌, ◌-◌, ◌<◌, ◌≤◌, ◌==◌, ◌||◌, ◌⊎◌, inl, inr, min, Bool, true, false, List, [], ◌∷◌, ◌++◌, length, take, drop, refl, sym, ap, ◌∙◌, subst, arith, append_assoc, append-nil, length-append, take-append-drop, get_or}
+use Rattle.std.proofs.Common.{◌≡◌, ℕ, ◌<◌, ◌≤◌, ◌⊎◌, inl, inr, Bool, true, false, List, [], ◌∷◌, ◌++◌, length, take, drop, refl, sym, ap, ◌∙◌, subst, arith, append_assoc, append-nil, length-append, take-append-drop}
 use Rattle.std.specs.List.{list_all}
-use Rattle.std.proofs.lemmas.{Bool.both_ways, Bool.cases_lt, Bool.ne_eqb, Bool.or_from, Bool.not_from_false, Bool.false≢true, Bool.ltb-true, Bool.and_parts, List.length-take-le, List.take-take, List.take-append-le, List.take_all, List.drop-append-le, List.Elements.All-head, List.Elements.All-tail, List.Elements.All-cons, List.Elements.All-nil, Str.IsUtf8-from_ascii, Str.Ascii.IsAscii-cons, Str.Ascii.IsAscii-nil}
-use Rattle.httparse.specs.{Grammar.AllPass, Grammar.EndsInTarget, Grammar.HasNoRequest, Grammar.IsToken, Grammar.LineEnd, Grammar.MayBecomeRequest, Grammar.NeverHasRequest, Grammar.ReadsRequest, Grammar.RequestHead, Grammar.is_token_byte, Grammar.is_uri_byte, Grammar.lf, Grammar.print_blank, Grammar.print_end, Grammar.print_request, Grammar.print_section, Grammar.print_version, Spans.IsWithin, Spans.span_bytes, declared.spans.Span.Span}
+use Rattle.std.proofs.lemmas.{Bool.both_ways, Bool.cases_lt, Bool.ne_eqb, Bool.or_from, Bool.not_from_false, Bool.false≢true, Bool.ltb-true, Bool.and_parts, List.take-append-le, List.take_all, List.Elements.All-head, List.Elements.All-tail, List.Elements.All-cons, List.Elements.All-nil, Str.IsUtf8-from_ascii, Str.Ascii.IsAscii-cons, Str.Ascii.IsAscii-nil}
+use Rattle.httparse.specs.{Grammar.AllPass, Grammar.HasNoRequest, Grammar.IsToken, Grammar.LineEnd, Grammar.MayBecomeRequest, Grammar.NeverHasRequest, Grammar.ReadsRequest, Grammar.RequestHead, Grammar.is_token_byte, Grammar.is_uri_byte, Grammar.lf, Grammar.print_blank, Grammar.print_end, Grammar.print_section, Grammar.print_version}
 use Rattle.httparse.proofs.GrammarLemmas.{ReadsRequest-append, print_request-append}
-use Rattle.http_heads.specs.{Heads.HasHead, Heads.IsHopeless, Heads.IsHopelessAt, Heads.IsOpen, Heads.begins_word, Heads.ends_in_target, Heads.is_word_byte, Looks.IsFound, Looks.IsFoundIn, Looks.IsMethodEnd, Looks.Looks, declared.look.FoundHead.FoundHead, declared.look.Look.Look}
+use Rattle.http_heads.specs.{Heads.IsHopeless, Heads.IsHopelessAt, Heads.IsOpen, Heads.begins_word, Heads.ends_in_target, Heads.is_word_byte, Looks.IsMethodEnd}
 use Rattle.http_heads.proofs.Targets.{TargetParts, target_parts, in_target_front, before_target}
 
 -- ---- fronts that go on to a head

@@ -1,5 +1,5 @@
 -- Loops over headers.
-use Rattle.std.proofs.Common.{◌≡◌, ℕ, zero, suc, ◌+◌, ◌<◌, ◌||◌, Bool, true, false, if◌then◌else◌, List, [], ◌∷◌, ◌++◌, length, get_or, map, take, drop, arith, ap, ◌∙◌, sym, refl, Bor}
+use Rattle.std.proofs.Common.{◌≡◌, ℕ, zero, suc, ◌+◌, ◌<◌, Bool, true, false, if◌then◌else◌, List, [], ◌∷◌, ◌++◌, length, get_or, map, take, drop, arith, ap, ◌∙◌, sym, refl, Bor}
 use Rattle.std.specs.{List.list_any, Prelude.Err, Prelude.MatchOption, Prelude.None, Prelude.Option, Prelude.Some, Prelude.codes}
 use Rattle.std.proofs.lemmas.{Bool.or_left, Bool.or_right, List.drop_more, List.map-append, List.take_more, List.take-append-drop}
 use Rattle.httparse.specs.declared.spans.HeaderSpan.{HeaderSpan}

@@ -1,10 +1,10 @@
 -- What a look found stays true when bytes follow.
-use Rattle.std.proofs.Common.{◌≡◌, ℕ, ◌+◌, ◌-◌, ◌≤◌, ◌==◌, ◌||◌, Bool, map, min, false, List, ◌++◌, length, take, drop, refl, sym, ap, ◌∙◌, subst, arith, length-append, length-take, take-append-drop}
+use Rattle.std.proofs.Common.{◌≡◌, ℕ, ◌+◌, ◌-◌, ◌≤◌, ◌==◌, ◌||◌, Bool, map, min, false, List, ◌++◌, length, take, drop, sym, ap, ◌∙◌, subst, arith, length-append, length-take, take-append-drop}
 use Rattle.std.specs.Prelude.{Result}
 use Rattle.std.proofs.lemmas.{List.drop-append-le, List.take-append-le, List.take-take, Slice.between_is}
-use Rattle.httparse.specs.{Grammar.NeverHasRequest, Grammar.ReadsRequest, Grammar.RequestHead, Grammar.print_request, Spans.IsRequestOf, Spans.IsRequestWithin, Spans.IsWithin, Spans.header_bytes, Spans.span_bytes, declared.spans.HeaderSpan.HeaderSpan, declared.spans.RequestSpans.RequestSpans, declared.spans.Span.Span}
+use Rattle.httparse.specs.{Grammar.NeverHasRequest, Grammar.ReadsRequest, Grammar.print_request, Spans.IsRequestOf, Spans.IsRequestWithin, Spans.IsWithin, Spans.header_bytes, Spans.span_bytes, declared.spans.HeaderSpan.HeaderSpan, declared.spans.RequestSpans.RequestSpans, declared.spans.Span.Span}
 use Rattle.httparse.proofs.GrammarLemmas.{ReadsRequest-append}
-use Rattle.http_heads.specs.{Headers.Header, Headers.headers_of, Headers.is_closing, Headers.judged, Heads.HasHead, Heads.IsHopeless, Heads.IsHopelessAt, Heads.IsOpen, Heads.ends_in_target, Looks.IsFoundIn, Looks.Looks, declared.fault.Fault.Fault, declared.look.FoundHead.FoundHead, declared.look.Look.Look}
+use Rattle.http_heads.specs.{Headers.Header, Headers.headers_of, Headers.is_closing, Headers.judged, Heads.IsHopelessAt, Heads.ends_in_target, Looks.IsFoundIn, Looks.Looks, declared.fault.Fault.Fault, declared.look.FoundHead.FoundHead, declared.look.Look.Look}
 use Rattle.http_heads.proofs.Targets.{take_past}
 
 span_more : (bytes more : List ℕ) (span : Span) → IsWithin (length bytes) span → span_bytes (bytes ++ more) span ≡ span_bytes bytes span

@@ -1,8 +1,8 @@
 -- The headers of a head of at most 16,384 bytes are fewer than 5,500, since each takes three bytes.
-use Rattle.std.proofs.Common.{◌≡◌, ℕ, ◌+◌, ◌*◌, ◌<◌, ◌≤◌, List, [], ◌∷◌, ◌++◌, length, arith, ap, ◌∙◌, length-append}
+use Rattle.std.proofs.Common.{ℕ, ◌*◌, ◌≤◌, List, [], ◌∷◌, ◌++◌, length, arith, ap, ◌∙◌, length-append}
 use Rattle.std.specs.{List.flat_map, Prelude.All}
 use Rattle.std.proofs.lemmas.{List.Elements.All-head, List.Elements.All-tail}
-use Rattle.httparse.specs.{Grammar.Field, Grammar.IsField, Grammar.LineEnd, Grammar.crlf, Grammar.lf, Grammar.print_blank, Grammar.print_end, Grammar.print_field, Grammar.print_request, Grammar.print_section, Grammar.print_version, Spans.RequestExceeds}
+use Rattle.httparse.specs.{Grammar.Field, Grammar.IsField, Grammar.LineEnd, Grammar.crlf, Grammar.lf, Grammar.print_blank, Grammar.print_end, Grammar.print_field, Grammar.print_section, Grammar.print_version, Spans.RequestExceeds}
 use Rattle.httparse.proofs.GrammarLemmas.{print_request-append}
 
 end_long : (end : LineEnd) → 1 ≤ length (print_end end)

@@ -1,6 +1,6 @@
 -- How long a head and its body may be.
-use Rattle.std.proofs.Common.{◌≡◌, ℕ, ◌+◌, ◌≤◌, Bool, true, false, List, [], ◌∷◌, length, drop, refl, sym, ap, ◌∙◌, arith, length-append, length-drop, if◌then◌else◌}
-use Rattle.std.specs.{Prelude.codes, Prelude.Ok, Prelude.Err, Prelude.Result, Prelude.nat_lt, Str.Parse.digits_value}
+use Rattle.std.proofs.Common.{◌≡◌, ℕ, ◌≤◌, Bool, true, false, List, [], ◌∷◌, length, drop, refl, ap, ◌∙◌, arith, length-append, length-drop, if◌then◌else◌}
+use Rattle.std.specs.{Prelude.codes, Prelude.Ok, Prelude.Err, Prelude.nat_lt, Str.Parse.digits_value}
 use Rattle.std.proofs.lemmas.Bool.{ltb-false}
 use Rattle.httparse.specs.Grammar.{print_request}
 use Rattle.http_heads.specs.{Headers.Header, Headers.has_header, Headers.is_number, Headers.judged, Headers.length_from, Headers.length_of, Headers.values_of, Looks.IsFoundIn, declared.fault.Fault.Fault, declared.look.FoundHead.FoundHead}

@@ -1,7 +1,7 @@
 -- Bytes that end inside the target, by their parts.
-use Rattle.std.proofs.Common.{◌≡◌, ℕ, ◌+◌, ◌-◌, ◌<◌, ◌≤◌, ◌==◌, ◌&&◌, ◌||◌, not, Bool, true, false, if◌then◌else◌, List, [], ◌∷◌, ◌++◌, length, take, drop, zero, suc, refl, sym, ap, ◌∙◌, subst, arith, append_assoc, append-nil, length-append}
+use Rattle.std.proofs.Common.{◌≡◌, ℕ, ◌-◌, ◌<◌, ◌≤◌, ◌==◌, ◌&&◌, ◌||◌, Bool, true, false, if◌then◌else◌, List, [], ◌∷◌, ◌++◌, length, take, zero, suc, refl, sym, ap, ◌∙◌, subst, arith, append_assoc, append-nil, length-append}
 use Rattle.std.specs.List.{list_all}
-use Rattle.std.proofs.lemmas.{Bool.and_from, Bool.and_parts, Bool.eqb-true, Bool.not-true, Bool.or_parts, Bool.true≢false, List.take-append-le, List.take_all}
+use Rattle.std.proofs.lemmas.{Bool.and_from, Bool.and_parts, Bool.eqb-true, Bool.not-true, Bool.or_parts, Bool.true≢false}
 use Rattle.httparse.specs.Grammar.{LineEnd, crlf, lf, print_blank}
 use Rattle.http_heads.specs.Heads.{is_word_byte, after_empty_lines, after_word, begins_word, is_target_begun, ends_in_target}
 

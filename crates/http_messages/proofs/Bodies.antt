@@ -1,6 +1,6 @@
 -- The body behind a head that was found.
-use Rattle.std.proofs.Common.{◌≡◌, ℕ, ◌+◌, ◌-◌, ◌<◌, ◌≤◌, inl, inr, List, ◌++◌, length, take, drop, slice_range, refl, sym, ap, ◌∙◌, arith, length-append, length-drop}
-use Rattle.std.specs.Prelude.{Ok, Err, Result}
+use Rattle.std.proofs.Common.{◌≡◌, ℕ, ◌+◌, ◌<◌, ◌≤◌, inr, List, ◌++◌, length, drop, slice_range, refl, sym, ap, ◌∙◌, arith, length-append, length-drop}
+use Rattle.std.specs.Prelude.{Ok, Err}
 use Rattle.std.proofs.lemmas.List.Folds.{drop_split}
 use Rattle.httparse.specs.Spans.{span_bytes}
 use Rattle.http_heads.specs.{Looks.IsFoundIn, declared.fault.Fault.Fault, declared.look.FoundHead.FoundHead}

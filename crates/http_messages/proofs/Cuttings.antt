@@ -1,6 +1,5 @@
 -- A stream is cut in one way.
-use Rattle.std.proofs.Common.{◌≡◌, ℕ, ◌<◌, ◌⊎◌, inl, inr, true, false, List, [], ◌∷◌, ◌++◌, length, refl, sym, ap, ◌∙◌, subst, arith}
-use Rattle.http_heads.specs.declared.fault.Fault.{Fault}
+use Rattle.std.proofs.Common.{◌≡◌, ℕ, ◌⊎◌, inl, inr, true, false, List, [], ◌∷◌, length, refl, sym, ap, ◌∙◌, subst, arith}
 use Rattle.http_messages.specs.{Cutting.CutInOneWay, Cutting.Cuts, Cutting.Ending, Cutting.SettledByTheFront, Cutting.Stops, Cutting.between, Cutting.closed, Cutting.inside, Cutting.refused, Messages.IsMessage, Messages.IsUnfinished, declared.message.Message.Message}
 use Rattle.http_messages.proofs.Fronts.{empty_unfinished, message_more, message_not_refused, message_not_unfinished, one_message, one_refusal, refused_more, refused_not_unfinished}
 

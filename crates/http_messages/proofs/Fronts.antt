@@ -1,12 +1,12 @@
 -- A front of bytes is a message, or refused, or unfinished, and only one of these; the first two it stays.
-use Rattle.std.proofs.Common.{◌≡◌, ℕ, zero, suc, ◌+◌, ◌<◌, ◌≤◌, ◌⊎◌, inl, inr, List, [], ◌∷◌, ◌++◌, length, take, drop, refl, sym, ap, ◌∙◌, subst, arith, append_assoc, append-nil, length-append, take-append-drop, true, false}
+use Rattle.std.proofs.Common.{◌≡◌, ℕ, ◌≤◌, inl, inr, List, [], ◌∷◌, ◌++◌, length, take, drop, refl, sym, ap, ◌∙◌, subst, arith, append_assoc, append-nil, length-append, take-append-drop, true, false}
 use Rattle.std.specs.Prelude.{Ok, Err, Result}
 use Rattle.std.proofs.lemmas.{List.drop_at, List.take_at, List.take-append-le, List.Elements.All-cons, List.Elements.All-nil}
-use Rattle.httparse.specs.{Grammar.NeverHasRequest, Grammar.ReadsRequest, Grammar.RequestHead, Grammar.is_token_byte, Grammar.print_blank, Grammar.print_request}
+use Rattle.httparse.specs.{Grammar.NeverHasRequest, Grammar.ReadsRequest, Grammar.RequestHead, Grammar.is_token_byte, Grammar.print_request}
 use Rattle.httparse.proofs.{GrammarLemmas.ReadsRequest-append, GrammarLemmas.request_unique, OpenLemmas.letter_is_token}
 use Rattle.http_heads.specs.{Headers.asks_close, Headers.headers_of, Headers.judged, Heads.HasHead, Heads.IsHopeless, Heads.IsHopelessAt, Heads.IsOpen, Heads.ends_in_target, declared.fault.Fault.Fault}
 use Rattle.http_heads.proofs.Fronts.{front_goes_on, may_be_open, whole}
-use Rattle.http_messages.specs.{Messages.IsMessage, Messages.IsPartBody, Messages.IsRefused, Messages.IsRefusedHead, Messages.IsUnfinished, declared.message.Message.Message}
+use Rattle.http_messages.specs.{Messages.IsMessage, Messages.IsRefused, Messages.IsUnfinished, declared.message.Message.Message}
 
 -- ---- heads
 

@@ -1,5 +1,5 @@
 -- A front of what two writes append.
-use Rattle.std.proofs.Common.{◌≡◌, ℕ, ◌+◌, ◌<◌, List, ◌++◌, length, take, sym, subst, arith, length-append}
+use Rattle.std.proofs.Common.{ℕ, ◌+◌, List, ◌++◌, length, take, sym, subst, arith, length-append}
 use Rattle.std.specs.{declared.option.Option.Option, Io.KnownBytes.Appends}
 use Rattle.std.proofs.{KnownBytes.Appends-trans, Math.Seq.take-append-add}
 use Rattle.office_io.specs.Transfer.{AppendsPart}

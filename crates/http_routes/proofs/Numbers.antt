@@ -1,7 +1,7 @@
 -- Numbers as std reads them.
-use Rattle.std.proofs.Common.{◌≡◌, ℕ, ◌+◌, ◌<◌, ◌≤◌, ◌^◌, ◌==◌, true, false, List, [], ◌∷◌, length, ◌⊎◌, inl, inr, refl, sym, ap, ◌∙◌, subst, arith}
-use Rattle.std.specs.{Char.digit_value, Char.is_ascii_digit, List.list_all, Prelude.Err, Prelude.None, Prelude.Ok, Prelude.Option, Prelude.Result, Prelude.Some, Prelude.nat_le, Prelude.nat_lt, Result.OkIff, Result.result_ok, Str.Parse.AllDigits, Str.Parse.IsNumeral, Str.Parse.ParsesUnsigned, Str.Parse.digits_value, Str.Parse.without_leading_plus}
-use Rattle.std.proofs.lemmas.{Bool.and_parts, Bool.and_left, Bool.and_right, Bool.le-leb, Bool.leb-true, Bool.lt-leb, Bool.lt-ltb, Bool.ne_eqb, Bool.true≢false, Bool.Decides.nat_tests, Bool.cases_lt}
+use Rattle.std.proofs.Common.{◌≡◌, ℕ, ◌<◌, ◌≤◌, ◌^◌, ◌==◌, true, false, List, [], ◌∷◌, length, ◌⊎◌, inl, inr, refl, ap, subst, arith}
+use Rattle.std.specs.{Char.digit_value, Char.is_ascii_digit, List.list_all, Prelude.Err, Prelude.None, Prelude.Ok, Prelude.Result, Prelude.Some, Prelude.nat_lt, Result.OkIff, Result.result_ok, Str.Parse.AllDigits, Str.Parse.IsNumeral, Str.Parse.ParsesUnsigned, Str.Parse.digits_value, Str.Parse.without_leading_plus}
+use Rattle.std.proofs.lemmas.{Bool.and_parts, Bool.and_right, Bool.le-leb, Bool.leb-true, Bool.lt-leb, Bool.lt-ltb, Bool.ne_eqb, Bool.true≢false, Bool.Decides.nat_tests, Bool.cases_lt}
 use Rattle.http_routes.specs.Asks.{number_from}
 
 no_sign : (text : List ℕ) → list_all is_ascii_digit text ≡ true → 0 < length text → without_leading_plus text ≡ text

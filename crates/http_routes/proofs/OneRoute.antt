@@ -1,5 +1,5 @@
 -- No two routes fit one path: the first part and the third tell the route.
-use Rattle.std.proofs.Common.{◌≡◌, ℕ, ◌==◌, ◌&&◌, Bool, true, false, if◌then◌else◌, List, [], ◌∷◌, length, Option, Some, None, refl, sym, ap, ◌∙◌}
+use Rattle.std.proofs.Common.{◌≡◌, ℕ, ◌==◌, ◌&&◌, true, if◌then◌else◌, List, [], ◌∷◌, length, refl, sym, ap, ◌∙◌}
 use Rattle.std.specs.Prelude.{bytes_eq, codes, nat_lt}
 use Rattle.std.proofs.lemmas.{Bool.and_parts, Bool.true≢false, Slice.Eq.bytes_eq-Decides}
 use Rattle.http_routes.specs.{Asks.OneRoute, Asks.path_of, Paths.behind, Paths.fits, Paths.part_of, Paths.steps_of, Paths.value, Paths.word, declared.place.Place.Place}

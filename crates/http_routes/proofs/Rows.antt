@@ -1,11 +1,11 @@
 -- What the router of the office finds.
-use Rattle.std.proofs.Common.{◌≡◌, ℕ, zero, suc, ◌<◌, ◌≤◌, ◌==◌, if◌then◌else◌, true, false, inl, inr, List, [], ◌∷◌, length, get_or, Option, Some, None, refl, sym, ap, ◌∙◌, subst, arith}
+use Rattle.std.proofs.Common.{◌≡◌, ℕ, suc, ◌<◌, ◌==◌, if◌then◌else◌, true, false, inl, inr, List, [], ◌∷◌, length, get_or, Option, Some, None, refl, sym, ap, ◌∙◌, arith}
 use Rattle.std.specs.Prelude.{is_some}
 use Rattle.std.proofs.lemmas.Bool.{and_from, false_from_ne_true, lt-ltb, true≢false}
-use Rattle.matchit.specs.{Router.RouteOf, Router.map_key, Router.rename, Rows.RowsOf, Seek.first}
+use Rattle.matchit.specs.{Router.RouteOf, Router.map_key, Rows.RowsOf, Seek.first}
 use Rattle.matchit.proofs.RenameLemmas.{first-rename}
 use Rattle.http_routes.specs.{Paths.fits, Paths.steps_of, Table.IsTable, Table.number_of, Table.table, Table.tokens_of, declared.place.Place.Place}
-use Rattle.http_routes.proofs.{Tokens.are_plain, Tokens.token_fits_steps, Walks.AllPlain, Walks.Fits, Walks.Has, Walks.are_bytes, Walks.fitting_found, Walks.found_fits, Walks.token_fits}
+use Rattle.http_routes.proofs.{Tokens.are_plain, Tokens.token_fits_steps, Walks.AllPlain, Walks.Has, Walks.are_bytes, Walks.fitting_found, Walks.found_fits, Walks.token_fits}
 
 pub bytes_all : (path : List ℕ) → ((i : ℕ) → get_or path i 0 < 256) → are_bytes path ≡ true
 bytes_all [] small = refl

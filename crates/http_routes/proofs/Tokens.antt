@@ -1,8 +1,8 @@
 -- The tokens of a route's text take of a path what its steps take.
-use Rattle.std.proofs.Common.{◌≡◌, ℕ, ◌<◌, ◌==◌, ◌&&◌, not, Bool, true, false, cond, if◌then◌else◌, List, [], ◌∷◌, ◌++◌, suc, length, refl, sym, ap, ◌∙◌, arith}
+use Rattle.std.proofs.Common.{◌≡◌, ℕ, ◌==◌, ◌&&◌, not, Bool, true, false, cond, List, [], ◌∷◌, ◌++◌, suc, length, refl, sym, ap, ◌∙◌, arith}
 use Rattle.std.specs.{List.list_all, Prelude.bytes_eq, Prelude.nat_lt}
-use Rattle.std.proofs.lemmas.Bool.{and_left, and_parts, lt-ltb, and_right, eqb-false, eqb-true, ltb-true, ne_eqb, not-true, false≢true, true≢false}
-use Rattle.http_routes.specs.{Paths.Step, Paths.behind, Paths.fits, Paths.part_of, Paths.takes, Paths.value, Paths.word, Table.tokens_of}
+use Rattle.std.proofs.lemmas.Bool.{and_left, and_parts, lt-ltb, eqb-false, eqb-true, ltb-true, ne_eqb, not-true}
+use Rattle.http_routes.specs.{Paths.Step, Paths.behind, Paths.fits, Paths.part_of, Paths.value, Paths.word, Table.tokens_of}
 use Rattle.http_routes.proofs.Walks.{token_fits}
 
 -- a byte of a word, which is no slash

@@ -1,8 +1,8 @@
 -- What a router finds, for any routes whose parameters are whole parts: some route that fits, and one where one fits.
-use Rattle.std.proofs.Common.{◌≡◌, ◌≢◌, ℕ, zero, suc, ◌+◌, ◌-◌, ◌<◌, ◌≤◌, ◌⊎◌, inl, inr, ◌==◌, ◌&&◌, not, Bool, true, false, cond, List, [], ◌∷◌, ◌++◌, length, take, drop, Option, Some, None, refl, sym, ap, ◌∙◌, subst, arith, nat_eq, ltb, length-append}
+use Rattle.std.proofs.Common.{◌≡◌, ℕ, zero, suc, ◌-◌, ◌<◌, ◌≤◌, ◌⊎◌, inl, inr, ◌==◌, ◌&&◌, not, Bool, true, false, cond, List, [], ◌∷◌, ◌++◌, length, drop, Option, Some, None, refl, sym, ap, ◌∙◌, subst, arith, nat_eq, ltb, length-append}
 use Rattle.std.specs.{Cmp.Lexicographic.pointwise, List.list_all, Prelude.is_some}
-use Rattle.std.proofs.lemmas.{Bool.and_from, Bool.and_parts, Bool.and_right, Bool.both_ways, Bool.cases_Bool, Bool.eqb-false, Bool.eqb-true, Bool.eq-eqb, Bool.lt-ltb, Bool.ltb-true, Bool.ne_eqb, Bool.not-true, Bool.true≢false, List.drop_at, List.drop_all}
-use Rattle.matchit.specs.{Rows.Rows, Rows.param_token, Rows.catch_all_token, Seek.after_param, Seek.better, Seek.cuts, Seek.has_slash, Seek.longest_from, Seek.longest_suffix, Seek.or_else, Seek.own, Seek.param_step, Seek.same_text, Seek.seek, Seek.segment, Seek.step, Seek.with_suffix}
+use Rattle.std.proofs.lemmas.{Bool.and_from, Bool.and_parts, Bool.and_right, Bool.both_ways, Bool.eqb-false, Bool.eqb-true, Bool.eq-eqb, Bool.lt-ltb, Bool.ltb-true, Bool.ne_eqb, Bool.not-true, Bool.true≢false, List.drop_at, List.drop_all}
+use Rattle.matchit.specs.{Rows.Rows, Seek.after_param, Seek.cuts, Seek.has_slash, Seek.longest_from, Seek.or_else, Seek.own, Seek.param_step, Seek.same_text, Seek.seek, Seek.segment, Seek.step, Seek.with_suffix}
 use Rattle.matchit.proofs.SeekLemmas.{seek-drop, seek-empty}
 use Rattle.http_routes.specs.Paths.{part_of, behind}
 

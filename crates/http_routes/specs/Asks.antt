@@ -1,5 +1,5 @@
 -- What a method and a target ask for.
-use Rattle.std.specs.Prelude.{◌≡◌, ◌≢◌, ℕ, zero, suc, ◌&&◌, ◌==◌, nat_le, nat_lt, Bool, true, false, if◌then◌else◌, List, length, Option, Some, None, Result, Ok, Err, ok_or, codes}
+use Rattle.std.specs.Prelude.{◌≡◌, ◌≢◌, ℕ, zero, suc, ◌&&◌, ◌==◌, nat_le, nat_lt, true, if◌then◌else◌, List, length, Option, Some, None, Result, Ok, Err, ok_or, codes}
 use Rattle.std.specs.{List.after_first, List.before_first, List.list_all, Char.is_ascii_digit, Str.Parse.digits_value}
 use Rattle.days_core.specs.DayText.{day_from, month_from}
 use Rattle.http_routes.specs.{Paths.fits, Paths.steps_of, declared.asked.Asked.Asked, declared.asked.Routed.Routed, declared.asked.ValuePart.ValuePart, declared.place.Place.Place}

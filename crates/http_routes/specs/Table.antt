@@ -1,5 +1,5 @@
 -- The rows of the router, by tokens: a byte, or 256 for a parameter.
-use Rattle.std.specs.Prelude.{◌≡◌, ℕ, List, [], ◌∷◌, ◌++◌, codes}
+use Rattle.std.specs.Prelude.{◌≡◌, ℕ, List, [], ◌∷◌, ◌++◌}
 use Rattle.matchit.specs.{Router.RouteOf, Router.rename, Rows.Rows, Rows.RowsOf}
 use Rattle.http_routes.specs.{Paths.Step, Paths.steps_of, Paths.value, Paths.word, declared.place.Place.Place}
 

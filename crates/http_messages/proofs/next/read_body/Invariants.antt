@@ -1,4 +1,4 @@
-use Rattle.std.proofs.Common.{◌≡◌, ◌+◌, ◌-◌, ◌≤◌, Ok, length}
+use Rattle.std.proofs.Common.{◌≡◌, ◌-◌, length}
 use Rattle.http_heads.specs.Looks.{IsFoundIn}
 use Rattle.http_messages.specs.Incoming.{Grows}
 use Rattle.http_messages.proofs.next.read_body.Given as goal
