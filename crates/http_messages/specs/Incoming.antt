@@ -4,7 +4,7 @@ use Rattle.std.specs.{declared.option.Option.Option, Io.KnownBytes.Consumes, Io.
 use Rattle.office_io.specs.Outside.{Faulted}
 use Rattle.http_messages.specs.{Messages.IsMessage, Messages.IsRefused, Messages.IsUnfinished, declared.message.Incoming.Incoming, declared.message.Message.Message}
 
--- Nothing was taken, or what was taken before the last read left the message unfinished, and that read gave at most 4,096 bytes.
+-- Nothing was taken, or all that was taken but for a last piece, of at most 4,096 bytes, left the message unfinished.
 abbrev pub IsNeeded : List ℕ → List ℕ → Type 0
 IsNeeded held taken =
     (taken ≡ [])
