@@ -1,0 +1,5 @@
+pub mod Wide
+pub mod Rows
+pub mod Schema
+pub mod Texts
+pub mod Trees
