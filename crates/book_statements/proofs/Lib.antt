@@ -1,0 +1,6 @@
+mod Results
+mod Filled
+mod Asked
+mod Transactions
+mod Made
+mod Read

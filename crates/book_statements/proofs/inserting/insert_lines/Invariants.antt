@@ -1,0 +1,10 @@
+use Rattle.std.proofs.Common.{◌≡◌, [], take}
+use Rattle.sqlite.specs.{State.HasCleanDisk, State.KeepsCommit, State.Survives, Held.state}
+use Rattle.book_statements.specs.Effects.{Fills, line_part}
+use Rattle.book_statements.proofs.inserting.insert_lines.Given as goal
+
+abbrev pub invariant-loop-line : goal.invariant-loop-line
+invariant-loop-line g l =
+    let old = state g.S.Store l.initial.tx.conn.now in
+    let now = state g.S.Store l.tx.conn.now in
+    (l.tx.conn.ghost_name ≡ l.initial.tx.conn.ghost_name) × Survives old now (λ _. ⊥) × (HasCleanDisk now → KeepsCommit old now) × (HasCleanDisk now → Fills [] [] (line_part (take l.line-index l.lines)) old now)

@@ -1,0 +1,148 @@
+ghost use Rattle.std.specs.Prelude.{◌≡◌, ◌<◌, ℕ, ℤ, map, slice_index_or, IfOk};
+ghost use Rattle.sqlite.specs.declared.types.Value.TheVariants.{Int, Text as Words};
+ghost use Rattle.sqlite.specs.{Order.column, Values.or_null};
+ghost use Rattle.book_texts.specs.Rows.{act_values, record_values, line_values};
+
+use book_texts::{WideAct, WideLine, WideRecord};
+use plain_data::Text;
+use sqlite::types::{Type, ValueRef};
+use sqlite::{Error, Row};
+use std::alloc::Global;
+
+/// The numbers in the first columns of a row.
+fn numbers_of<const N: usize>(row: &Row) -> Result<[i64; N], Error>
+    ensures { IfOk result (λ numbers. (at : ℕ) (d : ℤ) → at < N → column row.now at ≡ Int (slice_index_or numbers at d)) }
+{
+    let mut numbers = [0i64; N];
+    for at in 0..N {
+        numbers[at] = row.get(at)?;
+    }
+    Ok(numbers)
+}
+
+fn number_or_none(row: &Row, at: usize) -> Result<Option<i64>, Error>
+    ensures { IfOk result (λ found. (n : _) → column row.now at ≡ or_null Int n → found ≡ n) }
+{
+    match row.get_ref(at)? {
+        ValueRef::Null => Ok(None),
+        ValueRef::Int(number) => Ok(Some(number)),
+        value => Err(Error::InvalidColumnType(at, Type::of(value))),
+    }
+}
+
+fn text_of(alloc: Global, row: &Row, at: usize) -> Result<Text, Error>
+    ensures { IfOk result (λ text. column row.now at ≡ Words text) }
+{
+    match row.get_ref(at)? {
+        ValueRef::Text(bytes) => Ok(Text::new(Vec::from_slice(alloc, bytes)?)),
+        value => Err(Error::InvalidColumnType(at, Type::of(value))),
+    }
+}
+
+fn act_of_row(alloc: Global, row: &Row) -> Result<WideAct, Error>
+    ensures { IfOk result (λ read. (act : _) → row.now ≡ act_values act → read ≡ act) }
+{
+    let [n, session, clerk, request, day] = numbers_of::<5>(row)?;
+    let body = text_of(alloc, row, 5)?;
+    Ok(WideAct {
+        n,
+        session,
+        clerk,
+        request,
+        day,
+        body,
+    })
+}
+
+fn record_of_row(row: &Row) -> Result<WideRecord, Error>
+    ensures { IfOk result (λ read. (known : _) → row.now ≡ record_values known → read ≡ known) }
+{
+    let numbers = numbers_of::<16>(row)?;
+    let event = number_or_none(row, 16)?;
+    let notice = number_or_none(row, 17)?;
+    let done = number_or_none(row, 18)?;
+    Ok(WideRecord {
+        act: numbers[0],
+        household: numbers[1],
+        number: numbers[2],
+        kind: numbers[3],
+        first: numbers[4],
+        corrects: numbers[5],
+        unit: numbers[6],
+        persons: numbers[7],
+        size: numbers[8],
+        extremely: numbers[9],
+        annual: numbers[10],
+        adjusted: numbers[11],
+        ttp: numbers[12],
+        contract_rent: numbers[13],
+        utility: numbers[14],
+        assistance: numbers[15],
+        event,
+        notice,
+        done,
+    })
+}
+
+fn line_of_row(row: &Row) -> Result<WideLine, Error>
+    ensures { IfOk result (λ read. (line : _) → row.now ≡ line_values line → read ≡ line) }
+{
+    let numbers = numbers_of::<10>(row)?;
+    Ok(WideLine {
+        act: numbers[0],
+        place: numbers[1],
+        month: numbers[2],
+        household: numbers[3],
+        for_month: numbers[4],
+        first: numbers[5],
+        last: numbers[6],
+        old: numbers[7],
+        new: numbers[8],
+        amount: numbers[9],
+    })
+}
+
+/// The acts that rows show.
+///
+/// # Errors
+///
+/// `OutOfMemory` where memory ran out, else that a value isn't of its column's type.
+pub fn acts_of_rows(alloc: Global, rows: &[Row]) -> Result<Vec<WideAct>, Error>
+    ensures { IfOk result (λ read. (acts : _) → rows.now ≡ map act_values acts → read.items ≡ acts) }
+{
+    let mut acts = Vec::new(alloc);
+    for row in rows {
+        acts.push(act_of_row(alloc, row)?)?;
+    }
+    Ok(acts)
+}
+
+/// The records that rows show.
+///
+/// # Errors
+///
+/// `OutOfMemory` where memory ran out, else that a value isn't of its column's type.
+pub fn records_of_rows(alloc: Global, rows: &[Row]) -> Result<Vec<WideRecord>, Error>
+    ensures { IfOk result (λ read. (records : _) → rows.now ≡ map record_values records → read.items ≡ records) }
+{
+    let mut records = Vec::new(alloc);
+    for row in rows {
+        records.push(record_of_row(row)?)?;
+    }
+    Ok(records)
+}
+
+/// The lines that rows show.
+///
+/// # Errors
+///
+/// `OutOfMemory` where memory ran out, else that a value isn't of its column's type.
+pub fn lines_of_rows(alloc: Global, rows: &[Row]) -> Result<Vec<WideLine>, Error>
+    ensures { IfOk result (λ read. (lines : _) → rows.now ≡ map line_values lines → read.items ≡ lines) }
+{
+    let mut lines = Vec::new(alloc);
+    for row in rows {
+        lines.push(line_of_row(row)?)?;
+    }
+    Ok(lines)
+}

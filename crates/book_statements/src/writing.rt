@@ -1,0 +1,41 @@
+ghost use Rattle.std.specs.Prelude.{◌≡◌, OnOk, OnErr};
+ghost use Rattle.sqlite.specs.{State.HasCleanDisk, State.KeepsCommit, State.Survives, Held.state, Effect.IsDatabase};
+ghost use Rattle.book_texts.specs.Schema.{no_schema};
+ghost use Rattle.book_statements.specs.Effects.{Fills, Lands, Undoes, BatchTrees, act_part, made_part, line_part};
+
+use crate::inserting::{insert_act, insert_lines, insert_made};
+use book_rows::Batch;
+use sqlite::{Alter, Connection, Error, Transaction};
+
+/// Writes the rows of an act, all that a transaction may hold of them.
+fn fill<S: Alter>(tx: &mut Transaction<'_, S>, batch: &Batch) -> Result<(), Error>
+    ensures same_reference { tx.new.conn.ghost_name ≡ tx.old.conn.ghost_name }
+    ensures filled { HasCleanDisk (state S.Store tx.new.conn.now) → OnOk result (Fills (act_part batch.now.act) (made_part batch.now.made) (line_part batch.now.lines) (state S.Store tx.old.conn.now) (state S.Store tx.new.conn.now)) }
+    ensures live { HasCleanDisk (state S.Store tx.new.conn.now) → OnOk result (IsDatabase (state S.Store tx.new.conn.now).now) }
+    ensures known { HasCleanDisk (state S.Store tx.new.conn.now) → OnOk result ((state S.Store tx.old.conn.now).now.schema ≡ no_schema → ⊥) }
+    ensures kept { HasCleanDisk (state S.Store tx.new.conn.now) → KeepsCommit (state S.Store tx.old.conn.now) (state S.Store tx.new.conn.now) }
+    ensures survives { Survives (state S.Store tx.old.conn.now) (state S.Store tx.new.conn.now) (λ _. ⊥) }
+{
+    insert_act(tx, &batch.act)?;
+    insert_made(tx, &batch.made)?;
+    insert_lines(tx, batch.lines.as_slice())
+}
+
+/// Writes the rows of an act by one transaction: all of them, or none.
+///
+/// # Errors
+///
+/// `OutOfMemory` where memory ran out, else the error of the statement that was refused. `InvalidQuery` where a transaction
+/// is open already.
+pub fn write_batch<S: Alter>(conn: &mut Connection<S>, batch: &Batch) -> Result<(), Error>
+    ensures done { HasCleanDisk (state S.Store conn.new) → OnOk result (Lands (state S.Store conn.old) (state S.Store conn.new) batch.now) }
+    ensures undone { HasCleanDisk (state S.Store conn.new) → OnErr result (Undoes (state S.Store conn.old) (state S.Store conn.new)) }
+    ensures survives { Survives (state S.Store conn.old) (state S.Store conn.new) (BatchTrees (state S.Store conn.old) batch.now) }
+{
+    if !conn.is_autocommit() {
+        return Err(Error::InvalidQuery);
+    }
+    let mut tx = conn.transaction();
+    fill(&mut tx, batch)?;
+    tx.commit()
+}
