@@ -1,6 +1,4 @@
 mod Results
 mod Filled
-mod Asked
 mod Transactions
 mod Made
-mod Read

@@ -1,8 +1,8 @@
 use Rattle.std.proofs.Common.{◌≡◌, ◌<◌, ◌∙◌, length, length-set, to_z-of_z, FitsSigned, w64, rules, arith}
 use Rattle.sqlite.specs.Order.{column}
 use Rattle.sqlite.specs.declared.types.Value.TheVariants.{Int}
-use Rattle.book_statements.proofs.Results.{placed}
-use Rattle.book_statements.proofs.reading.numbers_of.Goals as goal
+use Rattle.book_asking.proofs.Results.{placed}
+use Rattle.book_asking.proofs.reading.numbers_of.Goals as goal
 
 pub loop-at-preserved : goal.loop-at-preserved
 loop-at-preserved g c =

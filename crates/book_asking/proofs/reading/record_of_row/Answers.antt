@@ -1,7 +1,7 @@
 use Rattle.std.proofs.Common.{◌∙◌, ap, pos, get_or, w64, FitsSigned, to_z-of_z, rules, arith}
 use Rattle.sqlite.specs.Order.{Row, column}
-use Rattle.book_statements.proofs.Read.{same_number}
-use Rattle.book_statements.proofs.reading.record_of_row.Goals as goal
+use Rattle.book_asking.proofs.Read.{same_number}
+use Rattle.book_asking.proofs.reading.record_of_row.Goals as goal
 
 pub returns : goal.returns
 returns c known is =

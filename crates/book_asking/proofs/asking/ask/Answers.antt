@@ -1,8 +1,8 @@
 use Rattle.std.proofs.Common.{[]}
 use Rattle.sqlite.specs.Held.{state}
-use Rattle.book_statements.proofs.Asked.{shown_goes, either_keeps}
-use Rattle.book_statements.proofs.Results.{if_ok}
-use Rattle.book_statements.proofs.asking.ask.Goals as goal
+use Rattle.book_asking.proofs.Asked.{shown_goes, either_keeps}
+use Rattle.book_asking.proofs.Results.{if_ok}
+use Rattle.book_asking.proofs.asking.ask.Goals as goal
 
 pub returns-clause-inside : goal.returns-clause-inside
 returns-clause-inside g c clean =

@@ -4,8 +4,8 @@ use Rattle.book_texts.specs.Schema.{book_schema}
 use Rattle.book_texts.specs.Texts.{select_records}
 use Rattle.book_texts.proofs.Meanings.{select_records_plain}
 use Rattle.book_texts.proofs.Selects.{shows_records, leaves_all}
-use Rattle.book_statements.proofs.Results.{if_ok}
-use Rattle.book_statements.proofs.asking.ask_records.Goals as goal
+use Rattle.book_asking.proofs.Results.{if_ok}
+use Rattle.book_asking.proofs.asking.ask_records.Goals as goal
 
 pub returns-clause-shown : goal.returns-clause-shown
 returns-clause-shown g c clean =

@@ -1,7 +1,7 @@
 use Rattle.std.proofs.Common.{◌∙◌}
 use Rattle.book_texts.specs.Rows.{record_values}
-use Rattle.book_statements.proofs.Read.{read_more, read_all}
-use Rattle.book_statements.proofs.reading.records_of_rows.Goals as goal
+use Rattle.book_asking.proofs.Read.{read_more, read_all}
+use Rattle.book_asking.proofs.reading.records_of_rows.Goals as goal
 
 pub loop-row-preserved : goal.loop-row-preserved
 loop-row-preserved c known are =

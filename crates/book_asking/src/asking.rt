@@ -1,7 +1,7 @@
 ghost use Rattle.std.specs.Prelude.{◌≡◌, [], OnOk, IfOk, IsTrue};
 ghost use Rattle.sqlite.specs.{State.HasCleanDisk, State.KeepsCommit, State.Survives, State.Shown, Held.state};
 ghost use Rattle.book_texts.specs.Schema.{no_schema, book_schema};
-ghost use Rattle.book_statements.specs.Asking.{AreActs, AreRecords, AreLines, AreAsked, Asks, Stays};
+ghost use Rattle.book_asking.specs.Asking.{AreActs, AreRecords, AreLines, AreAsked, Asks, Stays};
 ghost use Rattle.book_statements.specs.Effects.{Undoes};
 
 use sqlite::{Alter, Connection, Error, Row, Transaction};

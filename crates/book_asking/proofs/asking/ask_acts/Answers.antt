@@ -4,9 +4,9 @@ use Rattle.book_texts.specs.Schema.{no_schema, book_schema}
 use Rattle.book_texts.specs.Texts.{select_acts}
 use Rattle.book_texts.proofs.Meanings.{select_acts_plain, select_acts_lacks}
 use Rattle.book_texts.proofs.Selects.{shows_acts, leaves_all}
-use Rattle.book_statements.proofs.Asked.{shows_something}
-use Rattle.book_statements.proofs.Results.{if_ok}
-use Rattle.book_statements.proofs.asking.ask_acts.Goals as goal
+use Rattle.book_asking.proofs.Asked.{shows_something}
+use Rattle.book_asking.proofs.Results.{if_ok}
+use Rattle.book_asking.proofs.asking.ask_acts.Goals as goal
 
 pub returns-clause-shown : goal.returns-clause-shown
 returns-clause-shown g c clean =

@@ -9,7 +9,7 @@ use Rattle.sqlite_schema.specs.declared.schema.Schema.{Schema}
 use Rattle.sqlite.specs.Listing.{understood}
 use Rattle.sqlite.specs.State.{State, IsUnchanged, IsRolledBack, KeepsCommit, IsNotRun, FailsToQuery, FailsToShow, Shown, ShowsRows, IsTooLate}
 use Rattle.sqlite.proofs.InsideLemmas.{unchanged_keeps}
-use Rattle.book_statements.specs.Asking.{Stays}
+use Rattle.book_asking.specs.Asking.{Stays}
 
 module _ (old new : State) where
   not_run : (sql : List ℕ) (params : Row) (e : Error) → IsNotRun old new sql params e → IsUnchanged old new ⊎ IsRolledBack old new

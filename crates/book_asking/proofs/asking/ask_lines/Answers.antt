@@ -4,8 +4,8 @@ use Rattle.book_texts.specs.Schema.{book_schema}
 use Rattle.book_texts.specs.Texts.{select_lines}
 use Rattle.book_texts.proofs.Meanings.{select_lines_plain}
 use Rattle.book_texts.proofs.Selects.{shows_lines, leaves_all}
-use Rattle.book_statements.proofs.Results.{if_ok}
-use Rattle.book_statements.proofs.asking.ask_lines.Goals as goal
+use Rattle.book_asking.proofs.Results.{if_ok}
+use Rattle.book_asking.proofs.asking.ask_lines.Goals as goal
 
 pub returns-clause-shown : goal.returns-clause-shown
 returns-clause-shown g c clean =

@@ -7,7 +7,7 @@ use Rattle.book_texts.specs.declared.wide.{WideAct.WideAct, WideRecord.WideRecor
 use Rattle.book_texts.specs.Rows.{act_values, stored_act, record_values, stored_record, line_values}
 use Rattle.book_texts.specs.Schema.{no_schema, book_schema}
 use Rattle.book_texts.specs.Trees.{act_rows, record_rows, line_rows, act_cmp, record_cmp, line_cmp, Rises}
-use Rattle.book_statements.specs.declared.asking.AskedRows.{AskedRows}
+use Rattle.book_asking.specs.declared.asking.AskedRows.{AskedRows}
 
 -- Whatever acts the table holds, listed by their numbers: these rows show them.
 abbrev pub AreActs : Trees → List Row → Type 0

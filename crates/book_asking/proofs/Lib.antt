@@ -1,0 +1,3 @@
+mod Results
+mod Asked
+mod Read
