@@ -1,0 +1,3 @@
+pub mod OneList
+mod Fields
+mod Heading

@@ -1,0 +1,4 @@
+pub mod Records
+pub mod Begins
+pub mod Between
+pub mod Laws
