@@ -1,0 +1,5 @@
+pub mod Entering
+pub mod Level
+pub mod AllWords
+mod Found
+mod Hyphens
