@@ -1,0 +1,2 @@
+pub mod Applicants
+pub mod Fields
