@@ -24,5 +24,5 @@ abbrev pub records_under : List (List ℕ) → List ℕ → Option (List (List (
 records_under header text = under header (records_of text)
 
 -- the text of one record
-abbrev pub record_text : List (List ℕ) → List ℕ
+unfoldable pub record_text : List (List ℕ) → List ℕ
 record_text fields = row_text default_writer fields

@@ -15,6 +15,7 @@ pub fn begin_text(alloc: Global) -> Writer<Vec<u8>>
 }
 
 /// Writes one record after the others. All records of a text have the same number of fields.
+#[tactic(auto, unfolding(crate::specs::Records::record_text))]
 pub fn write_record(writer: &mut Writer<Vec<u8>>, fields: &[&[u8]]) -> Result<(), NoMemory>
     requires { IsBetween writer.old }
     ensures between { OnOk result (IsBetween writer.new) }
