@@ -1,0 +1,159 @@
+use book_asking::{AskFault, AskedRows, acts_of_rows, ask_tables, lines_of_rows, records_of_rows};
+use book_rows::{ActRow, Batch};
+use book_statements::{make_tables, write_batch};
+use days_core::{Day, Month, Rents, day_of_text, month_of_text};
+use plain_data::{Listed, Text};
+use record_history::{Dates, Kind, Record};
+use sqlite::{Connection, MemStore};
+use std::alloc::Global;
+use std::process::Abort;
+use voucher_core::Line;
+
+fn file(rt: &impl Abort, alloc: Global) -> Connection<MemStore> {
+    let mut conn = Connection::open_in_memory(alloc).expect(rt, "memory");
+    assert!(rt; make_tables(&mut conn).is_ok());
+    conn
+}
+
+fn day(rt: &impl Abort, text: &str) -> Day {
+    match day_of_text(text) {
+        Ok(day) => day,
+        Err(_) => panic!(rt; "no day"),
+    }
+}
+
+fn month(rt: &impl Abort, text: &str) -> Month {
+    match month_of_text(text) {
+        Ok(month) => month,
+        Err(_) => panic!(rt; "no month"),
+    }
+}
+
+fn certified(rt: &impl Abort) -> Record {
+    Record {
+        household: 1,
+        number: 1,
+        act: 1,
+        kind: Kind::IC,
+        from: day(rt, "2024-01-01"),
+        corrects: 0,
+        unit: 1,
+        persons: 1,
+        size: 1,
+        extremely: false,
+        annual: 9_600,
+        adjusted: 8_488,
+        ttp: 212,
+        rents: Rents {
+            contract_rent: 700,
+            utility: 60,
+        },
+        assistance: 548,
+        dates: Some(Dates {
+            event: day(rt, "2024-01-02"),
+            notice: day(rt, "2024-01-03"),
+            done: day(rt, "1880-01-01"),
+        }),
+    }
+}
+
+fn line(rt: &impl Abort, place: u32, amount: i32) -> Line {
+    Line {
+        act: 1,
+        place,
+        month: month(rt, "2024-01"),
+        household: 1,
+        for_month: month(rt, "2024-01"),
+        first: day(rt, "2024-01-01"),
+        last: day(rt, "2024-01-31"),
+        old: 0,
+        new: 1,
+        amount,
+    }
+}
+
+/// The act of that number, with a record and two lines if it is the first.
+fn batch(rt: &impl Abort, alloc: Global, n: u32) -> Batch {
+    let body = "{}".as_bytes().to_vec(alloc).expect(rt, "memory");
+    let mut lines = Vec::new(alloc);
+    let mut made = None;
+    if n == 1 {
+        made = Some(certified(rt));
+        lines.push(line(rt, 1, 548)).expect(rt, "memory");
+        lines.push(line(rt, 2, -50)).expect(rt, "memory");
+    }
+    Batch {
+        act: ActRow {
+            n,
+            session: 1,
+            clerk: 1,
+            request: n,
+            day: day(rt, "2024-01-01"),
+            body: Text::new(body),
+        },
+        made,
+        lines: Listed::new(lines),
+    }
+}
+
+fn asked(rt: &impl Abort, conn: &mut Connection<MemStore>) -> AskedRows {
+    match ask_tables(conn) {
+        Ok(rows) => rows,
+        Err(_) => panic!(rt; "no rows"),
+    }
+}
+
+/// The tables are made, two batches are written, and the rows are given as the file's forms have them.
+#[test]
+fn rows_are_given_as_they_were_written(rt: HostRuntime) {
+    let alloc = rt.alloc();
+    let mut conn = file(&rt, alloc);
+    assert!(rt; write_batch(&mut conn, &batch(&rt, alloc, 1)).is_ok());
+    assert!(rt; write_batch(&mut conn, &batch(&rt, alloc, 2)).is_ok());
+    let rows = asked(&rt, &mut conn);
+    let acts = acts_of_rows(alloc, &rows.acts).expect(&rt, "acts");
+    assert!(rt; acts.len() == 2);
+    assert!(rt; acts[0].n == 1 && acts[1].n == 2);
+    assert!(rt; acts[1].session == 1 && acts[1].clerk == 1 && acts[1].request == 2);
+    assert!(rt; acts[0].day == 19_723);
+    assert!(rt; acts[0].body.as_bytes() == "{}".as_bytes());
+    let records = records_of_rows(alloc, &rows.records).expect(&rt, "records");
+    assert!(rt; records.len() == 1);
+    let made = records[0];
+    assert!(rt; made.act == 1 && made.household == 1 && made.number == 1 && made.kind == 2);
+    assert!(rt; made.first == 19_723 && made.extremely == 0 && made.annual == 9_600);
+    assert!(rt; made.event == Some(19_724) && made.notice == Some(19_725));
+    assert!(rt; made.done == Some(-32_872));
+    let lines = lines_of_rows(alloc, &rows.lines).expect(&rt, "lines");
+    assert!(rt; lines.len() == 2);
+    assert!(rt; lines[0].place == 1 && lines[0].amount == 548 && lines[0].month == 24_288);
+    assert!(rt; lines[1].place == 2 && lines[1].amount == -50 && lines[1].last == 19_753);
+}
+
+/// An act that is there already is refused, and so is all of its batch.
+#[test]
+fn act_of_the_same_number_is_refused_whole(rt: HostRuntime) {
+    let alloc = rt.alloc();
+    let mut conn = file(&rt, alloc);
+    assert!(rt; write_batch(&mut conn, &batch(&rt, alloc, 1)).is_ok());
+    assert!(rt; write_batch(&mut conn, &batch(&rt, alloc, 1)).is_err());
+    let rows = asked(&rt, &mut conn);
+    assert!(rt; rows.acts.len() == 1 && rows.records.len() == 1 && rows.lines.len() == 2);
+}
+
+/// A file with one of the three tables alone has no rows to give, and can't get the others.
+#[test]
+fn file_with_one_of_the_tables_is_refused(rt: HostRuntime) {
+    let alloc = rt.alloc();
+    let mut conn = Connection::open_in_memory(alloc).expect(&rt, "memory");
+    assert!(rt;
+        conn.execute("CREATE TABLE lines (n INTEGER) STRICT", &[])
+            .is_ok()
+    );
+    match ask_tables(&mut conn) {
+        Err(AskFault::Acts(_)) => {}
+        _ => panic!(rt; "rows of a file without acts"),
+    }
+    assert!(rt; make_tables(&mut conn).is_err());
+    assert!(rt; write_batch(&mut conn, &batch(&rt, alloc, 1)).is_err());
+}
