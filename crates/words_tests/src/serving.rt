@@ -13,7 +13,10 @@ fn serves_by_its_four_words(rt: HostRuntime) {
             workers,
             connections,
         };
-        assert!(rt; serve_words(&split(&rt, rt.alloc(), line)) == Some(wanted), "{line}");
+        assert!(rt;
+            serve_words(&split(&rt, rt.alloc(), line)) == Some(wanted),
+            "{line}"
+        );
     }
     let others = [
         "",
@@ -32,14 +35,21 @@ fn serves_by_its_four_words(rt: HostRuntime) {
         "assess 1 1 1",
     ];
     for line in others {
-        assert!(rt; serve_words(&split(&rt, rt.alloc(), line)) == None, "{line}");
+        assert!(rt;
+            serve_words(&split(&rt, rt.alloc(), line)) == None,
+            "{line}"
+        );
     }
 }
 
 #[test]
 fn takes_the_book_off_the_front(rt: HostRuntime) {
     let rows = [
-        ("--book a/b.db due 2024-09-03", Some("a/b.db"), "due 2024-09-03"),
+        (
+            "--book a/b.db due 2024-09-03",
+            Some("a/b.db"),
+            "due 2024-09-03",
+        ),
         ("--book --book assess", Some("--book"), "assess"),
         ("--book", None, "--book"),
         ("assess", None, "assess"),
