@@ -4,3 +4,4 @@ pub mod Turn
 pub mod Bounds
 pub mod Accepts
 pub mod Ready
+pub mod Wanted

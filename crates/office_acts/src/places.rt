@@ -86,7 +86,7 @@ fn unit_taken_by(register: &Register, made: &Option<Record>) -> Option<Refusal>
     ensures { result ≡ option_and_then (λ made. refusals.unit_taken register.now.known.households made.household (change_by made)) made.now }
 {
     let made = made.as_ref()?;
-    refusals::unit_taken(register.history(), made.household, &change_by(made))
+    refusals::unit_taken(register.tenancies(), made.household, &change_by(made))
 }
 
 fn may_collide(asked: &Command) -> bool

@@ -2,7 +2,7 @@
 use Rattle.std.specs.Prelude.{ℕ, ◌≡◌, Option, List, IfSome}
 use Rattle.record_history.specs.Held.{IsWithin}
 use Rattle.book_rows.specs.{declared.rows.Batch.Batch, declared.command.Command.Command, Book.Book}
-use Rattle.office_core.specs.declared.plan.Draft.{Draft}
+use Rattle.office_core.specs.declared.drafting.Draft.{Draft}
 use Rattle.office_answers.specs.Below.{office_step.declared.call.Capacity.Capacity, office_step.Acts.name_given, office_step.Known.known_of, office_step.Step.IsAppended, office_register.Registered.HasDates}
 
 -- the rows that an act appends, its command, and the name of the household that it makes, if it makes one

@@ -3,10 +3,12 @@
 
 mod append;
 mod asking;
+mod drafting;
 mod judged;
 mod office;
 mod opening;
 mod plan;
+mod replaying;
 mod reply;
 mod reserve;
 

@@ -63,7 +63,7 @@ impl Office {
 }
 
 /// The household that the record is of, and 0 where there is none.
-fn household_of(made: &Option<Record>) -> u32
+pub fn household_of(made: &Option<Record>) -> u32
     ensures { result ≡ option_map_or (λ r. r.household) made.now 0 }
 {
     match made {

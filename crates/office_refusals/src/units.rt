@@ -7,7 +7,7 @@ use office_step::Refusal;
 use plain_data::Text;
 use record_history::{Dates, History, Record};
 use rent_table::{Plan, RentTable, Unit, suits};
-use tenancy_rules::{Change, double_use, order_fault};
+use tenancy_rules::{Change, Tenancies, order_fault};
 
 /// Refused where a record would be out of order after the change.
 pub fn disorder(history: &History, household: u32, change: &Change) -> Option<Refusal>
@@ -41,11 +41,11 @@ pub fn size_misfit(plan: &Plan, unit: &Unit, persons: u32) -> Option<Refusal>
 }
 
 /// Refused where another household would have the unit on a day, after the change.
-pub fn unit_taken(history: &History, household: u32, change: &Change) -> Option<Refusal>
-    requires { AddsNext (records_of history.now.households household) household change.now }
-    ensures { result ≡ unit_taken history.now.households household change.now }
+pub fn unit_taken(tenancies: &Tenancies, household: u32, change: &Change) -> Option<Refusal>
+    requires { AddsNext (records_of tenancies.now.households household) household change.now }
+    ensures { result ≡ unit_taken tenancies.now.households household change.now }
 {
-    let (other, day) = double_use(history, household, change)?;
+    let (other, day) = tenancies.double_use(household, change)?;
     Some(Refusal::UnitTaken {
         household: other,
         day,

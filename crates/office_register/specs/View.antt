@@ -14,7 +14,7 @@ known_in register = record {
   applications = register.applications.items;
   waiting = register.list.applicants;
   names = register.names.items;
-  households = register.history.households;
+  households = register.tenancies.households;
   requests = register.requests.items;
   closing = register.closing;
 }

@@ -13,6 +13,7 @@ use record_history::{Dates, History, Record};
 use rent_table::{LimitRow, Plan, RentRow, RentTable, Unit};
 use std::alloc::Global;
 use std::marker::Model;
+use tenancy_rules::Tenancies;
 use wait_list::{Applicant, WaitList, best_rank};
 
 /// What an office knows by its acts: its plan, units, rents and limits, who applied and who waits, and of each household
@@ -26,7 +27,7 @@ pub struct Register {
     applications: Vec<Application>,
     list: WaitList,
     names: Vec<Text>,
-    history: History,
+    tenancies: Tenancies,
     requests: Vec<Option<Request>>,
     closing: Option<Closed>,
 }
@@ -38,7 +39,7 @@ impl Model for Register {
 
     ghost use Rattle.office_register.specs.View.{known_in, room_in};
 
-    ghost view = { λ register. record { known = known_in register; room = room_in register; record_room = register.history.room } };
+    ghost view = { λ register. record { known = known_in register; room = room_in register; record_room = register.tenancies.room } };
 
     ghost invariant = { λ register. IsSound (known_in register) };
 }
@@ -69,7 +70,7 @@ impl Register {
             applications: Vec::new(alloc),
             list: WaitList::new(alloc)?,
             names: Vec::new(alloc),
-            history: History::new(alloc)?,
+            tenancies: Tenancies::new(alloc)?,
             requests: Vec::new(alloc),
             closing: None,
         })
@@ -138,7 +139,7 @@ impl Register {
         ensures households { result ≡ length self.now.known.households }
         ensures few { result ≤ self.now.known.count }
     {
-        self.history.households()
+        self.tenancies.history().households()
     }
 
     /// The name of the household of that number, if there is one.
@@ -159,7 +160,14 @@ impl Register {
         ensures few_records { sum_by length result.now.households ≤ 100000 }
         ensures dates { All (All HasDates) result.now.households }
     {
-        &self.history
+        self.tenancies.history()
+    }
+
+    /// The households' records, by which a double use of a unit is found.
+    pub fn tenancies(&self) -> &Tenancies
+        ensures { result.now.households ≡ self.now.known.households }
+    {
+        &self.tenancies
     }
 
     /// What each household said last of another unit.
@@ -248,7 +256,7 @@ impl Register {
     {
         self.reserve_rows()?;
         if household > 0 {
-            self.history.reserve(household)?;
+            self.tenancies.reserve(household)?;
         }
         Ok(())
     }
@@ -440,7 +448,7 @@ impl Register {
         self.count += 1;
         self.names.push_reserved(name);
         self.requests.push_reserved(None);
-        self.history.push(held);
+        self.tenancies.push(held);
     }
 
     fn note_further(&mut self, act: &HouseholdAct, made: Option<Record>)
@@ -451,7 +459,7 @@ impl Register {
         ensures { self.new.known ≡ known_after self.old.known (command.Household act.now) made }
     {
         // That its records are numbered is known where they are read.
-        let _records = self.history.records(act.household);
+        let _records = self.tenancies.history().records(act.household);
         match made {
             Some(held) => self.hold(held),
             None => self.pass(),
@@ -469,7 +477,7 @@ impl Register {
         ensures { self.new.known ≡ with_further self.old.known held }
     {
         self.count += 1;
-        self.history.push(held);
+        self.tenancies.push(held);
     }
 }
 

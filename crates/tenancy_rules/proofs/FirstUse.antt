@@ -104,14 +104,14 @@ module _ (households : List (List Record)) (household : ℕ) (change : Change) w
   abbrev own : List Record
   own = changed_records (records_of households household) change
 
-  rival_is : (other day : ℕ) → IsDoubleUse households household change other day → is_rival_on households household change other day ≡ true
+  pub rival_is : (other day : ℕ) → IsDoubleUse households household change other day → is_rival_on households household change other day ≡ true
   unfolding is_rival_on
   rival_is other day double =
       and_from (not (other == household)) (have_one_unit_on own (live_records (records_of households other)) day)
       (let differ = ne_eqb other household double.another in rw differ refl)
       (rw (double.own, double.others) (eq-eqb double.unit double.unit refl))
 
-  double_is : (other day : ℕ) → 1 ≤ other → other ≤ length households → day < 80354 → is_rival_on households household change other day ≡ true →
+  pub double_is : (other day : ℕ) → 1 ≤ other → other ≤ length households → day < 80354 → is_rival_on households household change other day ≡ true →
       IsDoubleUse households household change other day
   unfolding is_rival_on
   double_is other day least most by is =

@@ -8,3 +8,5 @@ pub mod InPlace
 pub mod UseLaws
 pub mod FirstUse
 pub mod LiveLaws
+pub mod ByUnit
+pub mod Told

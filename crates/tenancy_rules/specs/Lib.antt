@@ -5,3 +5,4 @@ pub mod Beginnings
 pub mod Law
 pub mod OrderLaw
 pub mod UseLaw
+pub mod Uses

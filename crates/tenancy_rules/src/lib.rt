@@ -6,6 +6,8 @@ mod changed;
 mod laws;
 mod occupancy;
 mod order;
+mod tenancies;
+mod uses;
 
 pub use change::Change;
 pub use changed::is_before;
@@ -16,3 +18,4 @@ pub use laws::{
 pub use occupancy::double_use;
 pub use order::{order_fault, sooner};
 pub use rent_table::{admission_limit, suits};
+pub use tenancies::Tenancies;

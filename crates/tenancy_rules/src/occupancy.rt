@@ -1,6 +1,6 @@
 //! Which unit a household has, and where one unit would have two.
 
-ghost use Rattle.std.specs.Prelude.{◌≡◌, ◌+◌, option_copied, option_and_then, fold, nat_le, filter};
+ghost use Rattle.std.specs.Prelude.{◌≡◌, ◌+◌, None, Some, option_copied, option_and_then, fold, nat_le, filter};
 ghost use Rattle.std.specs.Option.{option_map_or};
 ghost use Rattle.days_core.specs.OfficeDays.{last_office_day};
 ghost use Rattle.record_history.specs.Records.{latest, live_records};
@@ -8,9 +8,11 @@ ghost use Rattle.record_history.specs.Held.{records_of};
 ghost use Rattle.tenancy_rules.specs.Changed.{changed_records, AddsNext};
 ghost use Rattle.tenancy_rules.specs.Occupancy.{unit_kept, is_one_unit, have_one_unit_on, is_rival_on, first_day_before, first_double_use};
 ghost use Rattle.tenancy_rules.specs.Beginnings.{sooner_beginning, sooner_rivalry};
+ghost use Rattle.tenancy_rules.specs.Uses.{UnitsNeverFall, TellUses, end_beside, sooner_use, sooner_uses};
 
 use crate::Change;
 use crate::changed::latest_before;
+use crate::uses::{Use, of_unit};
 use days_core::{Day, LAST_OFFICE_DAY};
 use record_history::{History, Kind, Record};
 
@@ -37,6 +39,64 @@ pub fn double_use(history: &History, household: u32, change: &Change) -> Option<
     first
 }
 
+/// The same, where the uses tell which households ever had a record in a unit: no other household is looked at.
+pub fn double_use_by(
+    history: &History,
+    uses: &[Use],
+    household: u32,
+    change: &Change,
+) -> Option<(u32, Day)>
+    requires next { AddsNext (records_of history.now.households household) household change.now }
+    requires uses { TellUses history.now.households uses.now }
+    ensures { result ≡ first_double_use history.now.households household change.now }
+{
+    let first = first_by_records(history, uses, household, change);
+    match &change.add {
+        Some(added) => first_among(history, household, change, first, of_unit(uses, added.unit)),
+        None => first,
+    }
+}
+
+/// The first double use with a household that had a record in a unit of which this one has a record.
+fn first_by_records(
+    history: &History,
+    uses: &[Use],
+    household: u32,
+    change: &Change,
+) -> Option<(u32, Day)>
+    requires { UnitsNeverFall uses.now }
+    ensures { result ≡ fold (sooner_uses (is_rival_on history.now.households household change.now) 80354 uses.now) None (records_of history.now.households household) }
+{
+    let mut first = None;
+    for held in history.records(household) {
+        first = first_among(history, household, change, first, of_unit(uses, held.unit));
+    }
+    first
+}
+
+/// The first of the double use so far and of those with the households of the uses.
+fn first_among(
+    history: &History,
+    household: u32,
+    change: &Change,
+    first: Option<(u32, Day)>,
+    uses: &[Use],
+) -> Option<(u32, Day)>
+    ensures { result ≡ fold (sooner_use (is_rival_on history.now.households household change.now) 80354) first uses.now }
+{
+    let mut found = first;
+    for used in uses {
+        let pair = Pair {
+            history,
+            household,
+            change,
+            other: used.household,
+        };
+        found = pair.sooner_use(found);
+    }
+    found
+}
+
 /// A household after a change, and another.
 #[derive(Clone, Copy)]
 struct Pair<'a> {
@@ -52,6 +112,16 @@ impl Pair<'_> {
         ensures { result ≡ sooner_rivalry (is_rival_on self.now.history.now.households self.now.household self.now.change.now) 80354 first self.now.other }
     {
         match self.first_day(end_of(&first)) {
+            Some(day) => Some((self.other, day)),
+            None => first,
+        }
+    }
+
+    /// The same where households come in any order: on one day that of the lesser number comes first.
+    fn sooner_use(&self, first: Option<(u32, Day)>) -> Option<(u32, Day)>
+        ensures { result ≡ option_map_or (λ day. Some (self.now.other, day)) (first_day_before (end_beside first self.now.other 80354) (is_rival_on self.now.history.now.households self.now.household self.now.change.now self.now.other)) first }
+    {
+        match self.first_day(end_beside(&first, self.other)) {
             Some(day) => Some((self.other, day)),
             None => first,
         }
@@ -115,6 +185,22 @@ fn end_of(first: &Option<(u32, Day)>) -> u32
 {
     match first {
         Some((_, day)) => day.number(),
+        None => DAYS,
+    }
+}
+
+/// The number of the day before which a double use with the other household would come first.
+fn end_beside(first: &Option<(u32, Day)>, other: u32) -> u32
+    ensures { result ≡ end_beside first.now other (last_office_day + 1) }
+{
+    match first {
+        Some((found, day)) => {
+            if other < *found {
+                day.number() + 1
+            } else {
+                day.number()
+            }
+        }
         None => DAYS,
     }
 }

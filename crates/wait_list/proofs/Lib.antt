@@ -4,3 +4,4 @@ pub mod RankLemmas
 pub mod NextLaw
 pub mod WantedLaw
 pub mod PlainNext
+pub mod Standing

@@ -6,3 +6,4 @@ pub mod Group
 pub mod Law
 pub mod Wanted
 pub mod RightfulNext
+pub mod Ranked

@@ -7,6 +7,7 @@ mod laws;
 mod list;
 mod next;
 mod rank;
+mod ranking;
 mod targets;
 
 pub use applicant::Applicant;

@@ -1,4 +1,5 @@
 use crate::next::next_among;
+use crate::ranking::{put_in, take_out};
 use crate::{Applicant, Ask, Candidate};
 use plain_data::NoMemory;
 use std::alloc::Global;
@@ -10,20 +11,23 @@ use std::marker::Model;
 #[derive(Debug, Drop)]
 pub struct WaitList {
     applicants: Vec<Applicant>,
+    // The same in the order of rank and act, so that the first who could be admitted is next.
+    ranked: Vec<Applicant>,
 }
 
 impl Model for WaitList {
-    ghost use Rattle.std.specs.Prelude.{◌-◌, vec_len, vec_capacity};
-    ghost use Rattle.wait_list.specs.Waiting.{Waiting, IsSoundList};
+    ghost use Rattle.std.specs.Prelude.{◌-◌, min, vec_len, vec_capacity};
+    ghost use Rattle.wait_list.specs.Waiting.{Waiting};
+    ghost use Rattle.wait_list.specs.Ranked.{IsSoundRanking};
 
     ghost Value = { Waiting };
 
     ghost view = { λ list. record {
       applicants = list.applicants.items;
-      room = vec_capacity list.applicants - vec_len list.applicants;
+      room = min (vec_capacity list.applicants - vec_len list.applicants) (vec_capacity list.ranked - vec_len list.ranked);
     } };
 
-    ghost invariant = { λ list. IsSoundList list.applicants.items };
+    ghost invariant = { λ list. IsSoundRanking list.applicants.items list.ranked.items };
 }
 
 impl WaitList {
@@ -36,6 +40,7 @@ impl WaitList {
     {
         Ok(WaitList {
             applicants: Vec::new(alloc),
+            ranked: Vec::new(alloc),
         })
     }
 
@@ -47,6 +52,7 @@ impl WaitList {
         ensures room_kept { self.old.room ≤ self.new.room }
     {
         self.applicants.reserve(1)?;
+        self.ranked.reserve(1)?;
         Ok(())
     }
 
@@ -60,6 +66,7 @@ impl WaitList {
         ensures applicants { self.new.applicants ≡ self.old.applicants ++ applicant ∷ [] }
         ensures room { self.new.room + 1 ≡ self.old.room }
     {
+        put_in(&mut self.ranked, applicant);
         self.applicants.push_reserved(applicant);
     }
 
@@ -70,8 +77,8 @@ impl WaitList {
         ensures room { self.new.room ≡ (if result then self.old.room + 1 else self.old.room) }
     {
         let listed = self.listed(number);
-        self.applicants
-            .retain(|applicant| applicant.number != number);
+        take_out(&mut self.applicants, number);
+        take_out(&mut self.ranked, number);
         listed
     }
 
@@ -100,6 +107,6 @@ impl WaitList {
         requires needing { ask.now.unit.now.accessible ≡ false → ask.now.needing ≡ None }
         ensures { result ≡ next_candidate (asked_by ask.now) self.now.applicants }
     {
-        next_among(&self.applicants, ask)
+        next_among(&self.ranked, ask)
     }
 }

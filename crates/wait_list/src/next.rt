@@ -1,11 +1,11 @@
-//! The scans of the list for the one who is next.
+//! The one who is next, of applicants in the order in which they stand.
 
-ghost use Rattle.std.specs.Prelude.{◌≡◌, ◌≤◌, filter};
+ghost use Rattle.std.specs.Prelude.{◌≡◌, ◌≤◌, ◌&&◌, filter, find};
 ghost use Rattle.std.specs.Option.{option_copied, option_or};
-ghost use Rattle.row_choice.specs.Latest.{later};
 ghost use Rattle.wait_list.specs.Waiting.{HaveSizes, IsSize};
 ghost use Rattle.wait_list.specs.Next.{asked_by, is_within_limit, is_extremely_low, is_candidate, candidates, stands_behind, first_of, next_of, next_applicant, mover_of, next_candidate};
 ghost use Rattle.wait_list.specs.Group.{is_of, candidates_of};
+ghost use Rattle.wait_list.specs.Ranked.{StandInOrder};
 
 use crate::{Applicant, Ask, Candidate};
 use rent_table::{admission_limit, has_extremely_low_income, suits};
@@ -20,109 +20,121 @@ pub enum Group {
     Everyone,
 }
 
-/// Who is next for a unit, where these applicants wait.
-pub fn next_among(applicants: &[Applicant], ask: &Ask) -> Option<Candidate>
+/// Who is next for a unit, where these applicants wait, each before those that stand behind it.
+pub fn next_among(ranked: &[Applicant], ask: &Ask) -> Option<Candidate>
     requires bedrooms { ask.now.unit.now.bedrooms ≤ 5 }
-    requires sizes { HaveSizes applicants.now }
-    ensures { result ≡ next_candidate (asked_by ask.now) applicants.now }
+    requires sizes { HaveSizes ranked.now }
+    requires in_order { StandInOrder ranked.now }
+    ensures { result ≡ next_candidate (asked_by ask.now) ranked.now }
 {
     if !ask.unit.accessible {
-        return mover_or_applicant(applicants, ask, ask.other, Group::Everyone);
+        return mover_or_applicant(ranked, ask, ask.other, Group::Everyone);
     }
-    let needing = mover_or_applicant(applicants, ask, ask.needing, Group::Needing);
+    let needing = mover_or_applicant(ranked, ask, ask.needing, Group::Needing);
     if needing.is_some() {
         needing
     } else {
-        mover_or_applicant(applicants, ask, ask.other, Group::NotNeeding)
+        mover_or_applicant(ranked, ask, ask.other, Group::NotNeeding)
     }
 }
 
 /// The mover, if there is one, else the applicant of the group who is next.
 fn mover_or_applicant(
-    applicants: &[Applicant],
+    ranked: &[Applicant],
     ask: &Ask,
     mover: Option<u32>,
     group: Group,
 ) -> Option<Candidate>
     requires bedrooms { ask.now.unit.now.bedrooms ≤ 5 }
-    requires sizes { HaveSizes applicants.now }
-    ensures { result ≡ option_or (mover_of mover) (next_applicant (asked_by ask.now) (is_of group) applicants.now) }
+    requires sizes { HaveSizes ranked.now }
+    requires in_order { StandInOrder ranked.now }
+    ensures { result ≡ option_or (mover_of mover) (next_applicant (asked_by ask.now) (is_of group) ranked.now) }
 {
     match mover {
         Some(household) => Some(Candidate::Household(household)),
-        None => next_applicant(applicants, ask, group),
+        None => next_applicant(ranked, ask, group),
     }
 }
 
-fn next_applicant(applicants: &[Applicant], ask: &Ask, group: Group) -> Option<Candidate>
+fn next_applicant(ranked: &[Applicant], ask: &Ask, group: Group) -> Option<Candidate>
     requires bedrooms { ask.now.unit.now.bedrooms ≤ 5 }
-    requires sizes { HaveSizes applicants.now }
-    ensures { result ≡ next_applicant (asked_by ask.now) (is_of group) applicants.now }
+    requires sizes { HaveSizes ranked.now }
+    requires in_order { StandInOrder ranked.now }
+    ensures { result ≡ next_applicant (asked_by ask.now) (is_of group) ranked.now }
 {
-    next_of(applicants, ask, group).map(|applicant| Candidate::Applicant(applicant.number))
+    next_of(ranked, ask, group).map(|applicant| Candidate::Applicant(applicant.number))
 }
 
-fn next_of<'a>(applicants: &'a [Applicant], ask: &Ask, group: Group) -> Option<&'a Applicant>
+fn next_of<'a>(ranked: &'a [Applicant], ask: &Ask, group: Group) -> Option<&'a Applicant>
     requires bedrooms { ask.now.unit.now.bedrooms ≤ 5 }
-    requires sizes { HaveSizes applicants.now }
-    ensures { let asked = asked_by ask.now in option_copied result ≡ next_of asked (candidates_of asked group applicants.now) }
+    requires sizes { HaveSizes ranked.now }
+    requires in_order { StandInOrder ranked.now }
+    ensures { let asked = asked_by ask.now in option_copied result ≡ next_of asked (candidates_of asked group ranked.now) }
 {
-    let first = first_of(applicants, ask, group);
+    let first = first_of(ranked, ask, group);
     if ask.wanted {
-        first_extremely_low(applicants, ask, group).or(first)
+        first_extremely_low(ranked, ask, group).or(first)
     } else {
         first
     }
 }
 
 /// The first of a group who could be admitted.
-fn first_of<'a>(applicants: &'a [Applicant], ask: &Ask, group: Group) -> Option<&'a Applicant>
+fn first_of<'a>(ranked: &'a [Applicant], ask: &Ask, group: Group) -> Option<&'a Applicant>
     requires bedrooms { ask.now.unit.now.bedrooms ≤ 5 }
-    requires sizes { HaveSizes applicants.now }
-    ensures { option_copied result ≡ first_of (candidates_of (asked_by ask.now) group applicants.now) }
+    requires sizes { HaveSizes ranked.now }
+    requires in_order { StandInOrder ranked.now }
+    ensures { option_copied result ≡ first_of (candidates_of (asked_by ask.now) group ranked.now) }
 {
-    let mut first = None;
-    for applicant in applicants {
+    find_candidate(ranked, ask, group)
+}
+
+fn find_candidate<'a>(ranked: &'a [Applicant], ask: &Ask, group: Group) -> Option<&'a Applicant>
+    requires bedrooms { ask.now.unit.now.bedrooms ≤ 5 }
+    requires sizes { HaveSizes ranked.now }
+    ensures { option_copied result ≡ find (λ applicant. is_candidate (asked_by ask.now) applicant && is_of group applicant) ranked.now }
+{
+    for applicant in ranked {
         if is_candidate(ask, applicant) && group.has(applicant) {
-            first = Some(earlier(first, applicant));
+            return Some(applicant);
         }
     }
-    first
+    None
 }
 
 /// The first of a group who could be admitted and has extremely low income.
 fn first_extremely_low<'a>(
-    applicants: &'a [Applicant],
+    ranked: &'a [Applicant],
     ask: &Ask,
     group: Group,
 ) -> Option<&'a Applicant>
     requires bedrooms { ask.now.unit.now.bedrooms ≤ 5 }
-    requires sizes { HaveSizes applicants.now }
+    requires sizes { HaveSizes ranked.now }
+    requires in_order { StandInOrder ranked.now }
     ensures { let asked = asked_by ask.now in
-        option_copied result ≡ first_of (filter (is_extremely_low asked) (candidates_of asked group applicants.now)) }
+        option_copied result ≡ first_of (filter (is_extremely_low asked) (candidates_of asked group ranked.now)) }
 {
-    let mut first = None;
-    for applicant in applicants {
+    find_extremely_low(ranked, ask, group)
+}
+
+fn find_extremely_low<'a>(ranked: &'a [Applicant], ask: &Ask, group: Group) -> Option<&'a Applicant>
+    requires bedrooms { ask.now.unit.now.bedrooms ≤ 5 }
+    requires sizes { HaveSizes ranked.now }
+    ensures { option_copied result ≡ find (λ applicant. (is_candidate (asked_by ask.now) applicant && is_of group applicant) && is_extremely_low (asked_by ask.now) applicant) ranked.now }
+{
+    for applicant in ranked {
         if is_candidate(ask, applicant)
             && group.has(applicant)
             && is_extremely_low(ask, applicant)
         {
-            first = Some(earlier(first, applicant));
+            return Some(applicant);
         }
     }
-    first
+    None
 }
 
-fn earlier<'a>(first: Option<&'a Applicant>, applicant: &'a Applicant) -> &'a Applicant
-    ensures { Some result.now ≡ later stands_behind (option_copied first.entry) applicant.now }
-{
-    match first {
-        Some(first) if !stands_behind(first, applicant) => first,
-        _ => applicant,
-    }
-}
-
-fn stands_behind(applicant: &Applicant, other: &Applicant) -> bool
+/// Whether the other stands before the applicant.
+pub fn stands_behind(applicant: &Applicant, other: &Applicant) -> bool
     ensures { result ≡ stands_behind applicant.now other.now }
 {
     other.rank < applicant.rank || other.rank == applicant.rank && other.act < applicant.act

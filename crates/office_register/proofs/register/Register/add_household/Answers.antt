@@ -9,6 +9,6 @@ invariant_of-self c =
       c.push_reserved.ensures.items,
       c.push_reserved-2.ensures.items,
       c.push.ensures.households,
-      place_next c.self.inside.history.households c.args.held.household asked.household,
+      place_next c.self.inside.tenancies.households c.args.held.household asked.household,
     )
     (sound_household (known_in c.self.inside) c.self.invariant asked.few c.args.name c.args.held asked.next.act c.requires.dates)

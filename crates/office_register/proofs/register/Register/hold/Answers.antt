@@ -5,10 +5,10 @@ use Rattle.office_register.proofs.register.Register.hold.Goals as goal
 pub push-requires-clause-act : goal.push-requires-clause-act
 push-requires-clause-act c =
     let next = rw (← c.self.view_is) at c.requires.next.act in
-    omega (arith, next, newest_act_by c.self.inside.count c.self.inside.history.households c.args.held.household c.self.invariant.households.acts)
+    omega (arith, next, newest_act_by c.self.inside.count c.self.inside.tenancies.households c.args.held.household c.self.invariant.households.acts)
 
 pub invariant_of-self : goal.invariant_of-self
 invariant_of-self c =
     let asked = rw (← c.self.view_is) at c.requires in
-    rw (c.push.ensures.households, place_there c.self.inside.history.households c.self.inside.history.room c.args.held.household asked.record_room asked.household)
+    rw (c.push.ensures.households, place_there c.self.inside.tenancies.households c.self.inside.tenancies.room c.args.held.household asked.record_room asked.household)
     (sound_further (known_in c.self.inside) c.self.invariant asked.few c.args.held asked.next.act c.requires.dates)

@@ -4,12 +4,12 @@ use Rattle.office_register.proofs.register.Register.note_further.Goals as goal
 pub hold-requires-clause-household : goal.hold-requires-clause-household
 hold-requires-clause-household c =
     (accepted_further c.args.self.now.known c.args.act.now c.args.made c.in-Some.held c.requires.accepted c.in-Some.is
-    (rw (← c.self.view_is) (rw (← c.records-records.ensures.records) c.records-records.ensures.numbered))).there
+    (rw (← c.self.view_is) (rw (← c.history.ensures) (rw (← c.records-records.ensures.records) c.records-records.ensures.numbered)))).there
 
 pub hold-requires-clause-next : goal.hold-requires-clause-next
 hold-requires-clause-next c =
     (accepted_further c.args.self.now.known c.args.act.now c.args.made c.in-Some.held c.requires.accepted c.in-Some.is
-    (rw (← c.self.view_is) (rw (← c.records-records.ensures.records) c.records-records.ensures.numbered))).next
+    (rw (← c.self.view_is) (rw (← c.history.ensures) (rw (← c.records-records.ensures.records) c.records-records.ensures.numbered)))).next
 
 pub returns-in-Some : goal.returns-in-Some
 returns-in-Some c = rw (c.hold.ensures, c.in-Some.is) (simp unchanged)

@@ -1,0 +1,250 @@
+-- The first double use is found among the households that ever had a record in a unit.
+use Rattle.tenancy_rules.proofs.Words.{◌≡◌, ◌∙◌, sym, ap, refl, subst, ℕ, ◌<◌, ◌≤◌, ◌+◌, Bool, true, false, List, [], ◌∷◌, ◌++◌, length, Option, Some, None, arith, ◌==◌, not, nat_lt, nat_le, filter, fold, option_and_then, All, Contains, IfSome, IsSomeAnd, and_parts, nat_tests, common_steps, All-contains, All-contains_itself, All-filter, latest-among, IsFirst, Record, is_live, live_records, records_of, comes_before, latest, Change, changed_records, without, listed, unit_kept, occupied_unit_on, have_one_unit_on, is_rival_on}
+use Rattle.std.proofs.Common.{◌⊎◌, inl, inr, eq-eqb, ◌-◌, take, drop, append-nil}
+use Rattle.std.specs.List.Sorted.{IsPartitionPoint}
+use Rattle.std.proofs.lemmas.Bool.{cases_lt}
+use Rattle.std.proofs.lemmas.List.{length-take, length-drop, get_or-take, get_or-drop, take-append-drop}
+use Rattle.std.specs.Option.{option_map_or}
+use Rattle.std.proofs.lemmas.List.Elements.{All-nil, All-cons, Contains-append_cases, filter-append}
+use Rattle.list_laws.proofs.Filters.{Contains-filter, filter-contains, filter_none, filter_all}
+use Rattle.tenancy_rules.specs.declared.uses.Use.{Use}
+use Rattle.tenancy_rules.specs.Uses.{of_unit, TellUses, end_beside, sooner_use, sooner_uses}
+use Rattle.tenancy_rules.specs.Occupancy.{first_double_use}
+use Rattle.tenancy_rules.specs.UseLaw.{IsDoubleUse}
+use Rattle.tenancy_rules.proofs.{Rivals.first_before-is, UseLaws.both_have, FirstUse.rival_is, FirstUse.double_is, FirstUse.double_use_is_first, FirstUse.no_double_use}
+
+-- ---- the search among uses
+
+module _ (is_rival : ℕ → ℕ → Bool) (end : ℕ) where
+  -- a double use is found, and one before the end
+  abbrev pub IsFound : Option (ℕ × ℕ) → Type 0
+  IsFound found = IfSome found (λ rivalry. (rivalry.1 < end) × (is_rival rivalry.0 rivalry.1 ≡ true))
+
+  -- no double use with the household comes before the one that is found
+  abbrev pub IsPassed : Option (ℕ × ℕ) → ℕ → Type 0
+  IsPassed found other =
+      (day : ℕ) → day < end → is_rival other day ≡ true → IsSomeAnd found (λ rivalry. (rivalry.1 < day) ⊎ ((rivalry.1 ≡ day) × (rivalry.0 ≤ other)))
+
+  -- by the first day on which the household is a rival
+  step_found : (found : Option (ℕ × ℕ)) (used : Use) (sooner : Option ℕ) → IsFirst (is_rival used.household) 0 (end_beside found used.household end) sooner →
+      IsFound found → IsFound (option_map_or (λ day. Some (used.household, day)) sooner found)
+  step_found found used sooner first is = grind (arith, nat_tests, common_steps)
+
+  step_passed : (found : Option (ℕ × ℕ)) (used : Use) (sooner : Option ℕ) → IsFirst (is_rival used.household) 0 (end_beside found used.household end) sooner →
+      IsFound found → IsPassed (option_map_or (λ day. Some (used.household, day)) sooner found) used.household
+  step_passed found used sooner first is day before rival = grind (arith, nat_tests, common_steps)
+
+  step_still : (found : Option (ℕ × ℕ)) (used : Use) (sooner : Option ℕ) (other : ℕ) → IsFirst (is_rival used.household) 0 (end_beside found used.household end) sooner →
+      IsPassed found other → IsPassed (option_map_or (λ day. Some (used.household, day)) sooner found) other
+  step_still found used sooner other first passed day before rival = (let was = passed day before rival in grind (arith, nat_tests, common_steps))
+
+  uses_found : (found : Option (ℕ × ℕ)) (uses : List Use) → IsFound found → IsFound (fold (sooner_use is_rival end) found uses)
+  uses_found found [] is = is
+  uses_found found (used ∷ uses) is =
+      uses_found (sooner_use is_rival end found used) uses (step_found found used _ (first_before-is _ (is_rival used.household)) is)
+
+  uses_still : (found : Option (ℕ × ℕ)) (uses : List Use) (other : ℕ) → IsPassed found other → IsPassed (fold (sooner_use is_rival end) found uses) other
+  uses_still found [] other passed = passed
+  uses_still found (used ∷ uses) other passed =
+      uses_still (sooner_use is_rival end found used) uses other (step_still found used _ other (first_before-is _ (is_rival used.household)) passed)
+
+  uses_passed : (found : Option (ℕ × ℕ)) (uses : List Use) → IsFound found →
+      All (λ used. IsPassed (fold (sooner_use is_rival end) found uses) used.household) uses
+  uses_passed found [] is = All-nil (λ used. IsPassed found used.household)
+  uses_passed found (used ∷ uses) is =
+      let next = sooner_use is_rival end found used in
+      let first = first_before-is (end_beside found used.household end) (is_rival used.household) in
+      All-cons (λ used. IsPassed (fold (sooner_use is_rival end) next uses) used.household) used uses
+      (uses_still next uses used.household (step_passed found used _ first is))
+      (uses_passed next uses (step_found found used _ first is))
+
+  module _ (uses : List Use) where
+    -- all households that had a record in the unit of that one are passed
+    abbrev pub ArePassed : Option (ℕ × ℕ) → Record → Type 0
+    ArePassed found r = All (λ used. IsPassed found used.household) (of_unit uses r.unit)
+
+    records_found : (found : Option (ℕ × ℕ)) (records : List Record) → IsFound found → IsFound (fold (sooner_uses is_rival end uses) found records)
+    records_found found [] is = is
+    records_found found (r ∷ records) is = records_found (sooner_uses is_rival end uses found r) records (uses_found found (of_unit uses r.unit) is)
+
+    records_still : (found : Option (ℕ × ℕ)) (records : List Record) (other : ℕ) → IsPassed found other → IsPassed (fold (sooner_uses is_rival end uses) found records) other
+    records_still found [] other passed = passed
+    records_still found (r ∷ records) other passed =
+        records_still (sooner_uses is_rival end uses found r) records other (uses_still found (of_unit uses r.unit) other passed)
+
+    records_passed : (found : Option (ℕ × ℕ)) (records : List Record) → IsFound found →
+        All (ArePassed (fold (sooner_uses is_rival end uses) found records)) records
+    records_passed found [] is = All-nil (ArePassed found)
+    records_passed found (r ∷ records) is =
+        let next = sooner_uses is_rival end uses found r in
+        All-cons (ArePassed (fold (sooner_uses is_rival end uses) next records)) r records
+        (λ k d within. records_still next records _ (uses_passed found (of_unit uses r.unit) is k d within))
+        (records_passed next records (uses_found found (of_unit uses r.unit) is))
+
+-- ---- who has a unit had a record in it
+
+occupied_by : (records : List Record) (day unit : ℕ) → occupied_unit_on records day ≡ Some unit → (r : Record) × Contains records r × (r.unit ≡ unit)
+occupied_by records day unit is =
+    by_force (latest (filter (λ (r : Record). nat_le r.from day) records))
+    (latest-among comes_before (Contains records) None (filter (λ (r : Record). nat_le r.from day) records) tt
+    (All-filter (λ (r : Record). nat_le r.from day) (Contains records) records (All-contains_itself records))) is
+  where
+    by_force : (force : Option Record) → IfSome force (Contains records) → option_and_then unit_kept force ≡ Some unit → (r : Record) × Contains records r × (r.unit ≡ unit)
+    by_force None among is = absurd (cc)
+    by_force (Some r) among is = (r, among, grind (arith, common_steps, is))
+
+module _ (households : List (List Record)) (household : ℕ) (change : Change) (uses : List Use) (told : TellUses households uses) where
+  abbrev own : List Record
+  own = records_of households household
+
+  abbrev rival : ℕ → ℕ → Bool
+  rival = is_rival_on households household change
+
+  abbrev with_added : Option (ℕ × ℕ) → Option (ℕ × ℕ)
+  with_added found = fold (sooner_uses rival 80354 uses) found (listed change.add)
+
+  abbrev all_found : Option (ℕ × ℕ)
+  all_found = with_added (fold (sooner_uses rival 80354 uses) None own)
+
+  -- it is told that the other had a record in the unit
+  told_of : (other unit day : ℕ) → occupied_unit_on (live_records (records_of households other)) day ≡ Some unit →
+      Contains (of_unit uses unit) (record { unit = unit; household = other })
+  told_of other unit day has =
+      let by = occupied_by (live_records (records_of households other)) day unit has in
+      let there = (filter-contains (is_live (records_of households other)) (records_of households other) by.0 by.1).0 in
+      let use_there : Contains uses (record { unit = unit; household = other }) =
+      subst (λ n. Contains uses (record { unit = n; household = other })) by.2
+      (All-contains (λ (r : Record). Contains uses (record { unit = r.unit; household = other })) (records_of households other) by.0 (told.told other) there) in
+      Contains-filter (λ (used : Use). used.unit == unit) uses (record { unit = unit; household = other }) use_there (eq-eqb unit unit refl)
+
+  -- so no double use is passed over
+  none_before : (other day : ℕ) → IsDoubleUse households household change other day → IsPassed rival 80354 all_found other
+  none_before other day double =
+      let by = occupied_by (changed_records own change) day double.unit double.own in
+      let there = told_of other double.unit day double.others in
+      by_record by.0 by.2 (Contains-append_cases (without change.«drop» (live_records own)) (listed change.add) by.0 by.1) there
+    where
+      from_own : All (ArePassed rival 80354 uses (fold (sooner_uses rival 80354 uses) None own)) own
+      from_own = records_passed rival 80354 uses None own tt
+
+      found_own : IsFound rival 80354 (fold (sooner_uses rival 80354 uses) None own)
+      found_own = records_found rival 80354 uses None own tt
+
+      from_added : All (ArePassed rival 80354 uses all_found) (listed change.add)
+      from_added = records_passed rival 80354 uses (fold (sooner_uses rival 80354 uses) None own) (listed change.add) found_own
+
+      by_record : (r : Record) → r.unit ≡ double.unit → Contains (without change.«drop» (live_records own)) r ⊎ Contains (listed change.add) r →
+          Contains (of_unit uses double.unit) (record { unit = double.unit; household = other }) → IsPassed rival 80354 all_found other
+      by_record r same (inl kept) there =
+          let lives = (filter-contains (λ (q : Record). not (q.number == change.«drop»)) (live_records own) r kept).0 in
+          let held = (filter-contains (is_live own) own r lives).0 in
+          let passed = All-contains (ArePassed rival 80354 uses (fold (sooner_uses rival 80354 uses) None own)) own r from_own held in
+          records_still rival 80354 uses (fold (sooner_uses rival 80354 uses) None own) (listed change.add) other
+          (All-contains (λ used. IsPassed rival 80354 (fold (sooner_uses rival 80354 uses) None own) used.household) (of_unit uses r.unit)
+          (record { unit = double.unit; household = other }) passed (rw same there))
+      by_record r same (inr added) there =
+          let passed = All-contains (ArePassed rival 80354 uses all_found) (listed change.add) r from_added added in
+          All-contains (λ used. IsPassed rival 80354 all_found used.household) (of_unit uses r.unit)
+          (record { unit = double.unit; household = other }) passed (rw same there)
+
+  -- a rival is one of the households
+  rival_there : (other day : ℕ) → rival other day ≡ true → (1 ≤ other) × (other ≤ length households)
+  unfolding is_rival_on
+  rival_there other day is =
+      let parts = and_parts (not (other == household)) (have_one_unit_on (changed_records own change) (live_records (records_of households other)) day) is in
+      let shared = both_have (occupied_unit_on (changed_records own change) day) (occupied_unit_on (live_records (records_of households other)) day) parts.1 in
+      let by = occupied_by (live_records (records_of households other)) day shared.0 shared.2 in
+      let there = (filter-contains (is_live (records_of households other)) (records_of households other) by.0 by.1).0 in
+      in_range other by.0 there
+    where
+      in_range : (other : ℕ) (r : Record) → Contains (records_of households other) r → (1 ≤ other) × (other ≤ length households)
+      in_range other r (k, within, at) = grind (arith, nat_tests, common_steps, within)
+
+  pub found_by_units : all_found ≡ first_double_use households household change
+  found_by_units =
+      by_found all_found refl (records_found rival 80354 uses (fold (sooner_uses rival 80354 uses) None own) (listed change.add) (records_found rival 80354 uses None own tt))
+    where
+      by_found : (found : Option (ℕ × ℕ)) → all_found ≡ found → IsFound rival 80354 all_found → all_found ≡ first_double_use households household change
+      by_found None is found =
+          is ∙ sym ((no_double_use households household change).1 (λ other day double.
+          rw is at (none_before other day double day (let by = double.by in omega arith) (rival_is households household change other day double))))
+      by_found (Some (other, day)) is found =
+          let here : (day < 80354) × (rival other day ≡ true) = rw is at found in
+          let range = rival_there other day here.1 in
+          is ∙ sym ((double_use_is_first households household change other day).1 (
+            double_is households household change other day range.0 range.1 here.0 here.1,
+            λ another any double. rw is at (none_before another any double any (let by = double.by in omega arith) (rival_is households household change another any double)),
+          ))
+
+-- ---- the uses of a unit
+
+-- what stands between where those of no lesser and those of a greater unit begin
+pub ends_after : (uses : List Use) (unit first end : ℕ) → end ≤ length uses → first ≤ length uses →
+    IsPartitionPoint (λ used. nat_lt used.unit unit ≡ true) (λ used. nat_lt used.unit unit ≡ false) uses first →
+    IsPartitionPoint (λ used. nat_le used.unit unit ≡ true) (λ used. nat_le used.unit unit ≡ false) uses end → first ≤ end
+ends_after uses unit first end within within_first from above = by_order (cases_lt end first)
+  where
+    by_order : (end < first) ⊎ (first ≤ end) → first ≤ end
+    by_order (inr le) = le
+    by_order (inl lt) =
+        let d : Use = record { unit = 0; household = 0 } in
+        let low = from.0 end d (omega arith) lt in
+        let high = above.1 end d (omega arith) (omega (arith, lt, within_first)) in
+        absurd (grind (arith, nat_tests))
+
+pub between-is : (uses : List Use) (unit first end : ℕ) → end ≤ length uses → first ≤ end →
+    IsPartitionPoint (λ used. nat_lt used.unit unit ≡ true) (λ used. nat_lt used.unit unit ≡ false) uses first →
+    IsPartitionPoint (λ used. nat_le used.unit unit ≡ true) (λ used. nat_le used.unit unit ≡ false) uses end →
+    take (end - first) (drop first uses) ≡ of_unit uses unit
+between-is uses unit first end within order from above =
+    sym (ap (of_unit_of unit) whole ∙ filter-append is_own (take first uses) (part ++ after) ∙ ap (λ rest. filter is_own (take first uses) ++ rest) (filter-append is_own part after)
+    ∙ parts)
+  where
+    is_own : Use → Bool
+    is_own used = used.unit == unit
+
+    of_unit_of : ℕ → List Use → List Use
+    of_unit_of n xs = filter is_own xs
+
+    part : List Use
+    part = take (end - first) (drop first uses)
+
+    after : List Use
+    after = drop (end - first) (drop first uses)
+
+    whole : uses ≡ take first uses ++ (part ++ after)
+    whole = sym (ap (λ rest. take first uses ++ rest) (take-append-drop (end - first) (drop first uses)) ∙ take-append-drop first uses)
+
+    parts : filter is_own (take first uses) ++ (filter is_own part ++ filter is_own after) ≡ part
+    parts =
+        let before_none : filter is_own (take first uses) ≡ [] =
+        filter_none is_own (take first uses) (λ k d low. (let long = length-take first uses in let at = get_or-take first uses k d (omega arith) in
+        let less = from.0 k d (omega arith) (omega arith) in rw at (grind (arith, nat_tests)))) in
+        let after_none : filter is_own after ≡ [] =
+        filter_none is_own after (λ k d low. (let long = length-drop first uses in let longer = length-drop (end - first) (drop first uses) in
+        let at = get_or-drop (end - first) (drop first uses) k d ∙ get_or-drop first uses (end - first + k) d in
+        let greater = above.1 (first + (end - first + k)) d (omega arith) (omega arith) in rw at (grind (arith, nat_tests)))) in
+        let own_all : filter is_own part ≡ part =
+        filter_all is_own part (λ k d low. (let long = length-drop first uses in let longer = length-take (end - first) (drop first uses) in
+        let at = get_or-take (end - first) (drop first uses) k d (omega arith) ∙ get_or-drop first uses k d in
+        let not_less = from.1 (first + k) d (omega arith) (omega arith) in
+        let not_greater = above.0 (first + k) d (omega arith) (omega arith) in rw at (grind (arith, nat_tests)))) in
+        rw (before_none, after_none, own_all) (append-nil part)
+
+-- ---- the searches one after the other
+
+module _ (households : List (List Record)) (household : ℕ) (change : Change) (uses : List Use) (told : TellUses households uses) where
+  abbrev by : Option (ℕ × ℕ) → List Record → Option (ℕ × ℕ)
+  by = fold (sooner_uses (is_rival_on households household change) 80354 uses)
+
+  pub with_one : (added : Record) → change.add ≡ Some added → (of : List Use) (first found : Option (ℕ × ℕ)) → of ≡ of_unit uses added.unit →
+      first ≡ by None (records_of households household) → found ≡ fold (sooner_use (is_rival_on households household change) 80354) first of →
+      found ≡ first_double_use households household change
+  with_one added is of first found of_is first_is found_is =
+      let one : by (by None (records_of households household)) (added ∷ []) ≡ by (by None (records_of households household)) (listed change.add) = rw is refl in
+      found_is ∙ rw (of_is, first_is) one ∙ found_by_units households household change uses told
+
+  pub with_none : change.add ≡ None → (first : Option (ℕ × ℕ)) → first ≡ by None (records_of households household) → first ≡ first_double_use households household change
+  with_none is first first_is =
+      let none : by None (records_of households household) ≡ by (by None (records_of households household)) (listed change.add) = rw is refl in
+      first_is ∙ none ∙ found_by_units households household change uses told
