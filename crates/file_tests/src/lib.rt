@@ -1,5 +1,7 @@
-//! Tests of a book's file, over a connection in memory.
+//! Tests of a book's file and of its keeper, over a connection in memory.
 #![tactic(auto)]
 
+#[cfg(test)]
+mod keeping;
 #[cfg(test)]
 mod statements;

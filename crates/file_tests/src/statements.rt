@@ -9,7 +9,7 @@ use std::alloc::Global;
 use std::process::Abort;
 use voucher_core::Line;
 
-fn file(rt: &impl Abort, alloc: Global) -> Connection<MemStore> {
+pub(crate) fn file(rt: &impl Abort, alloc: Global) -> Connection<MemStore> {
     let mut conn = Connection::open_in_memory(alloc).expect(rt, "memory");
     assert!(rt; make_tables(&mut conn).is_ok());
     conn
@@ -73,7 +73,7 @@ fn line(rt: &impl Abort, place: u32, amount: i32) -> Line {
 }
 
 /// The act of that number, with a record and two lines if it is the first.
-fn batch(rt: &impl Abort, alloc: Global, n: u32) -> Batch {
+pub(crate) fn batch(rt: &impl Abort, alloc: Global, n: u32) -> Batch {
     let body = "{}".as_bytes().to_vec(alloc).expect(rt, "memory");
     let mut lines = Vec::new(alloc);
     let mut made = None;
@@ -103,6 +103,51 @@ fn asked(rt: &impl Abort, conn: &mut Connection<MemStore>) -> AskedRows {
     }
 }
 
+/// Whether the acts have the numbers that the file's forms give them.
+fn has_both_acts(rt: &impl Abort, alloc: Global, rows: &AskedRows) -> bool {
+    let acts = acts_of_rows(alloc, &rows.acts).expect(rt, "acts");
+    let [first, second] = acts.as_slice() else {
+        return false;
+    };
+    first.n == 1
+        && first.day == 19_723
+        && first.body.as_bytes() == "{}".as_bytes()
+        && second.n == 2
+        && second.session == 1
+        && second.clerk == 1
+        && second.request == 2
+}
+
+/// Whether there is the one record, with its days.
+fn has_the_record(rt: &impl Abort, alloc: Global, rows: &AskedRows) -> bool {
+    let records = records_of_rows(alloc, &rows.records).expect(rt, "records");
+    let [made] = records.as_slice() else {
+        return false;
+    };
+    made.act == 1
+        && made.kind == 2
+        && made.first == 19_723
+        && made.extremely == 0
+        && made.annual == 9_600
+        && made.event == Some(19_724)
+        && made.notice == Some(19_725)
+        && made.done == Some(-32_872)
+}
+
+/// Whether there are both lines, in order.
+fn has_both_lines(rt: &impl Abort, alloc: Global, rows: &AskedRows) -> bool {
+    let lines = lines_of_rows(alloc, &rows.lines).expect(rt, "lines");
+    let [first, second] = lines.as_slice() else {
+        return false;
+    };
+    first.place == 1
+        && first.amount == 548
+        && first.month == 24_288
+        && second.place == 2
+        && second.amount == -50
+        && second.last == 19_753
+}
+
 /// The tables are made, two batches are written, and the rows are given as the file's forms have them.
 #[test]
 fn rows_are_given_as_they_were_written(rt: HostRuntime) {
@@ -111,23 +156,9 @@ fn rows_are_given_as_they_were_written(rt: HostRuntime) {
     assert!(rt; write_batch(&mut conn, &batch(&rt, alloc, 1)).is_ok());
     assert!(rt; write_batch(&mut conn, &batch(&rt, alloc, 2)).is_ok());
     let rows = asked(&rt, &mut conn);
-    let acts = acts_of_rows(alloc, &rows.acts).expect(&rt, "acts");
-    assert!(rt; acts.len() == 2);
-    assert!(rt; acts[0].n == 1 && acts[1].n == 2);
-    assert!(rt; acts[1].session == 1 && acts[1].clerk == 1 && acts[1].request == 2);
-    assert!(rt; acts[0].day == 19_723);
-    assert!(rt; acts[0].body.as_bytes() == "{}".as_bytes());
-    let records = records_of_rows(alloc, &rows.records).expect(&rt, "records");
-    assert!(rt; records.len() == 1);
-    let made = records[0];
-    assert!(rt; made.act == 1 && made.household == 1 && made.number == 1 && made.kind == 2);
-    assert!(rt; made.first == 19_723 && made.extremely == 0 && made.annual == 9_600);
-    assert!(rt; made.event == Some(19_724) && made.notice == Some(19_725));
-    assert!(rt; made.done == Some(-32_872));
-    let lines = lines_of_rows(alloc, &rows.lines).expect(&rt, "lines");
-    assert!(rt; lines.len() == 2);
-    assert!(rt; lines[0].place == 1 && lines[0].amount == 548 && lines[0].month == 24_288);
-    assert!(rt; lines[1].place == 2 && lines[1].amount == -50 && lines[1].last == 19_753);
+    assert!(rt; has_both_acts(&rt, alloc, &rows));
+    assert!(rt; has_the_record(&rt, alloc, &rows));
+    assert!(rt; has_both_lines(&rt, alloc, &rows));
 }
 
 /// An act that is there already is refused, and so is all of its batch.

@@ -1,0 +1,98 @@
+use crate::statements::{batch, file};
+use book_rows::{Table, Tables};
+use book_statements::write_batch;
+use keeper_core::{Keeper, Loaded};
+use keeper_sqlite::SqliteKeeper;
+use sqlite::{Connection, MemStore};
+use std::alloc::Global;
+use std::process::Abort;
+
+/// A file with two acts, of which the first made a record and two lines.
+fn written(rt: &impl Abort, alloc: Global) -> Connection<MemStore> {
+    let mut conn = file(rt, alloc);
+    assert!(rt; write_batch(&mut conn, &batch(rt, alloc, 1)).is_ok());
+    assert!(rt; write_batch(&mut conn, &batch(rt, alloc, 2)).is_ok());
+    conn
+}
+
+fn tables(rt: &impl Abort, alloc: Global, keeper: &mut SqliteKeeper<MemStore>) -> Tables {
+    match keeper.load(alloc) {
+        Loaded::Rows(tables) => tables,
+        _ => panic!(rt; "no rows"),
+    }
+}
+
+/// The first bad row of the written file after that change.
+fn bad_row(rt: &impl Abort, alloc: Global, change: &str) -> (Table, u32) {
+    let mut conn = written(rt, alloc);
+    assert!(rt; conn.execute(change, &[]).is_ok());
+    match SqliteKeeper::adopt(conn).load(alloc) {
+        Loaded::BadRow { table, act } => (table, act),
+        _ => panic!(rt; "no bad row"),
+    }
+}
+
+/// A new file is an empty book, and stays one.
+#[test]
+fn new_file_is_an_empty_book(rt: HostRuntime) {
+    let alloc = rt.alloc();
+    let conn = Connection::open_in_memory(alloc).expect(&rt, "memory");
+    let mut keeper = SqliteKeeper::adopt(conn);
+    assert!(rt; tables(&rt, alloc, &mut keeper).acts.is_empty());
+    let mut again = SqliteKeeper::adopt(keeper.release());
+    assert!(rt; tables(&rt, alloc, &mut again).acts.is_empty());
+    assert!(rt; again.faults() == 0);
+}
+
+/// What was written is loaded, each number as it was.
+#[test]
+fn rows_are_loaded_as_they_were_written(rt: HostRuntime) {
+    let alloc = rt.alloc();
+    let mut keeper = SqliteKeeper::adopt(written(&rt, alloc));
+    let tables = tables(&rt, alloc, &mut keeper);
+    let first = batch(&rt, alloc, 1);
+    assert!(rt; tables.acts.len() == 2 && tables.acts[0] == first.act);
+    assert!(rt; tables.records.len() == 1 && Some(tables.records[0]) == first.made);
+    assert!(rt; tables.lines.as_slice() == first.lines.as_slice());
+}
+
+/// A number out of its column's range makes its row the bad one.
+#[test]
+fn numbers_out_of_range_are_told(rt: HostRuntime) {
+    let alloc = rt.alloc();
+    for (change, table, act) in [
+        ("UPDATE records SET kind = 10", Table::Records, 1),
+        ("UPDATE records SET kind = 0", Table::Records, 1),
+        ("UPDATE records SET extremely = 2", Table::Records, 1),
+        ("UPDATE records SET event = NULL", Table::Records, 1),
+        ("UPDATE acts SET session = -1 WHERE n = 2", Table::Acts, 2),
+        ("UPDATE acts SET day = 84006", Table::Acts, 1),
+        ("UPDATE acts SET n = 4294967296 WHERE n = 2", Table::Acts, 0),
+        ("UPDATE lines SET month = 22559", Table::Lines, 1),
+        (
+            "UPDATE lines SET amount = 2147483648 WHERE place = 2",
+            Table::Lines,
+            1,
+        ),
+        ("UPDATE lines SET act = -1 WHERE place = 2", Table::Lines, 0),
+    ] {
+        assert!(rt; bad_row(&rt, alloc, change) == (table, act));
+    }
+}
+
+/// A file with one of the three tables alone fails, and a fault is counted.
+#[test]
+fn one_table_alone_fails(rt: HostRuntime) {
+    let alloc = rt.alloc();
+    let mut conn = Connection::open_in_memory(alloc).expect(&rt, "memory");
+    assert!(rt;
+        conn.execute("CREATE TABLE lines (n INTEGER) STRICT", &[])
+            .is_ok()
+    );
+    let mut keeper = SqliteKeeper::adopt(conn);
+    match keeper.load(alloc) {
+        Loaded::Failed => {}
+        _ => panic!(rt; "a file with one table was loaded"),
+    }
+    assert!(rt; keeper.faults() == 1);
+}

@@ -1,0 +1,285 @@
+-- What is told after a call of the keeper, and what a crash may leave then.
+use Rattle.std.proofs.Common.{◌≡◌, ◌⊎◌, inl, inr, suc, Bool, false, List, [], ◌∷◌, length, map, Option, Some, None, Result, Ok, Err, OnOk, OnErr, IsTrue, refl, sym, ap, subst, ◌∙◌, arith, IsPermutation}
+use Rattle.std.proofs.lemmas.List.Sorted.{length_permutation, IsPermutation-refl}
+use Rattle.sqlite.specs.Tree.{Trees}
+use Rattle.sqlite_value.specs.Order.{Row}
+use Rattle.sqlite.specs.{Effect.Database, Effect.IsDatabase, State.State, State.HasCleanDisk, State.Survives}
+use Rattle.book_rows.specs.declared.{rows.Batch.Batch, tables.Tables.Tables}
+use Rattle.book_rows.specs.Book.{Book, book_of, empty_book, IsBatch, IsBefore, appended}
+use Rattle.keeper_core.specs.Keeping.{BadRow, Keeps, Gives, Commits, LeavesTold, LeavesOrCommits}
+use Rattle.keeper_core.specs.declared.keeper.{Loaded.Loaded, Committed.Committed}
+use Rattle.book_texts.specs.declared.wide.{WideAct.WideAct, WideRecord.WideRecord, WideLine.WideLine}
+use Rattle.book_texts.specs.Wide.{wide_act, wide_record, wide_line}
+use Rattle.book_texts.specs.Rows.{act_values, record_values, line_values, stored_act, stored_record}
+use Rattle.book_texts.specs.Schema.{no_schema, book_schema}
+use Rattle.book_texts.specs.Trees.{StandsFor, HoldsNone}
+use Rattle.book_statements.specs.Effects.{Undoes, IsMade, Makes, MadeTrees, Lands, BatchTrees}
+use Rattle.book_asking.specs.declared.asking.AskedRows.{AskedRows}
+use Rattle.book_asking.specs.Asking.{AreAsked}
+use Rattle.book_ranges.specs.Ranges.{Narrows, IsInRange, first_bad, row_of}
+use Rattle.keeper_sqlite.specs.Told.{IsBookIn, IsBadIn, IsReady, Holds, HoldsBad, TellsCrash, MayLeave, TellsNoMore, IsSettled, IsAnswer}
+use Rattle.keeper_sqlite.proofs.Landing.{act_only, record_only, line_only}
+use Rattle.keeper_sqlite.proofs.Books.{book_once, schemas_differ, rows_once, exclusive}
+use Rattle.keeper_sqlite.proofs.Batches.{rows_before, bad_before}
+
+-- ---- what a call answered
+
+pub on_ok : {A E : Type 0} {C P Q : Type 0} (r : Result A E) → (C → OnOk r P) → ((C → P) → Q) → OnOk r Q
+on_ok (Ok a) h f = f h
+on_ok (Err e) h f = tt
+
+pub either_way : {A E : Type 0} {C P Q Z : Type 0} (r : Result A E) → (C → OnOk r P) → (C → OnErr r Q) → ((C → P) → Z) → ((C → Q) → Z) → Z
+either_way (Ok a) h k f g = f h
+either_way (Err e) h k f g = g k
+
+-- ---- calls that change nothing
+
+module _ (old new : State) (P : Trees → Type 0) (lives : Survives old new P) where
+  clean_before : HasCleanDisk new → HasCleanDisk old
+  clean_before clean = omega (arith, lives.clean, clean)
+
+  module _ (undone : HasCleanDisk new → Undoes old new) where
+    ready_before : IsReady new → IsReady old
+    ready_before r = let was = undone r.clean r.is_open in record { clean = clean_before r.clean; is_open = was.0; alone = was.2 r.alone }
+
+    same_before : IsReady new → new.now ≡ old.now
+    same_before r = (undone r.clean r.is_open).1
+
+    pub book_before : (b : Bool) → Keeps (Holds old b) (Holds new b)
+    book_before b book h = record { ready = ready_before h.ready; own = h.own; it = subst (λ (d : Database). IsBookIn d book) (same_before h.ready) h.it }
+
+    pub row_before : (b : Bool) → Keeps (HoldsBad old b) (HoldsBad new b)
+    row_before b row h = record { ready = ready_before h.ready; own = h.own; it = subst (λ (d : Database). IsBadIn d row) (same_before h.ready) h.it }
+
+pub told_before : (old new : State) (P : Trees → Type 0) (b : Bool) → Survives old new P → TellsCrash new b → TellsCrash old b
+told_before old new P b lives tells = (clean_before old new P lives tells.0, tells.1)
+
+pub quiet : (old new : State) (b : Bool) → Survives old new (λ _. ⊥) → (HasCleanDisk new → Undoes old new) → TellsNoMore old b new b
+quiet old new b lives undone = record {
+  kept = book_before old new (λ _. ⊥) lives undone b;
+  kept_row = row_before old new (λ _. ⊥) lives undone b;
+  told = told_before old new (λ _. ⊥) b lives;
+  crash = λ tells book m. record { db = m.db; left = left (lives.crash tells.0 m.db.trees m.left); live = m.live; it = m.it };
+}
+  where
+    left : {A : Type 0} → A ⊎ ⊥ → A
+    left (inl a) = a
+    left (inr e) = absurd e
+
+pub then_no_more : (a b c : State) (p q r : Bool) → TellsNoMore a p b q → TellsNoMore b q c r → TellsNoMore a p c r
+then_no_more a b c p q r one two = record {
+  kept = λ book h. one.kept book (two.kept book h);
+  kept_row = λ row h. one.kept_row row (two.kept_row row h);
+  told = λ tells. one.told (two.told tells);
+  crash = λ tells book m. one.crash (two.told tells) book (two.crash tells book m);
+}
+
+-- ---- rows that were asked for
+
+module _ {X Y : Type 0} (f : X → Y) (only : (a b : X) → f a ≡ f b → a ≡ b) where
+  map_only : (xs ys : List X) → map f xs ≡ map f ys → xs ≡ ys
+  map_only [] [] e = refl
+  map_only [] (y ∷ ys) e = absurd (cc)
+  map_only (x ∷ xs) [] e = absurd (cc)
+  map_only (x ∷ xs) (y ∷ ys) e =
+      let first : f x ≡ f y = cc in
+      let later : map f xs ≡ map f ys = cc in
+      let one = only x y first in
+      let more = map_only xs ys later in
+      λ i. one i ∷ more i
+
+book_is : (tables : Tables) (book : Book) → map wide_act tables.acts.items ≡ map wide_act book.acts → map wide_record tables.records.items ≡ map wide_record book.records → map wide_line tables.lines.items ≡ map wide_line book.lines → book_of tables ≡ book
+book_is tables book acts_are records_are lines_are =
+    let acts = map_only wide_act (λ a b e. act_only a b (ap stored_act e)) tables.acts.items book.acts acts_are in
+    let records = map_only wide_record (λ a b e. record_only a b (ap stored_record e)) tables.records.items book.records records_are in
+    let lines = map_only wide_line (λ a b e. line_only a b (ap line_values e)) tables.lines.items book.lines lines_are in
+    λ i. record { acts = acts i; records = records i; lines = lines i }
+
+none_some : {X : Type 0} (o : Option X) (x : X) → o ≡ None → o ≡ Some x → ⊥
+none_some o x p q = let e : None ≡ Some x = sym p ∙ q in absurd (cc)
+
+some_once : {X : Type 0} (o : Option X) (x y : X) → o ≡ Some x → o ≡ Some y → y ≡ x
+some_once o x y p q = let e : Some y ≡ Some x = sym q ∙ p in cc
+
+module _ (rows : AskedRows) (db : Database) (asked : AreAsked rows db) (loaded : Loaded)
+    (reads : (acts : List WideAct) (records : List WideRecord) (lines : List WideLine) → rows.acts.items ≡ map act_values acts → rows.records.items ≡ map record_values records → rows.lines.items ≡ map line_values lines → Narrows acts records lines loaded) where
+  of_rows : (acts : List WideAct) (records : List WideRecord) (lines : List WideLine) → db.schema ≡ book_schema → StandsFor db.trees acts records lines → Narrows acts records lines loaded
+  of_rows acts records lines has stands =
+      reads acts records lines (asked.acts has acts stands.acts_are stands.acts_rise) (asked.records has records stands.records_are stands.records_rise) (asked.lines has lines stands.lines_are stands.lines_rise)
+
+  pub of_book : (book : Book) → IsBookIn db book → first_bad (map wide_act book.acts) (map wide_record book.records) (map wide_line book.lines) ≡ None × Narrows (map wide_act book.acts) (map wide_record book.records) (map wide_line book.lines) loaded
+  of_book book (inl p) = (p.fits, of_rows _ _ _ p.schema p.stands)
+  of_book book (inr none) = absurd (asked.known none.0)
+
+  pub of_bad : (row : BadRow) (bad : IsBadIn db row) → Narrows bad.acts bad.records bad.lines loaded
+  of_bad row bad = of_rows bad.acts bad.records bad.lines bad.schema bad.stands
+
+pub gives_rows : (rows : AskedRows) (old new : State) (P : Trees → Type 0) (loaded : Loaded) (b : Bool) → Survives old new P → (HasCleanDisk new → AreAsked rows old.now) → (HasCleanDisk new → Undoes old new)
+    → ((acts : List WideAct) (records : List WideRecord) (lines : List WideLine) → rows.acts.items ≡ map act_values acts → rows.records.items ≡ map record_values records → rows.lines.items ≡ map line_values lines → Narrows acts records lines loaded)
+    → Gives (Holds new b) (HoldsBad new b) loaded
+gives_rows rows old new P (Loaded.Rows tables) b lives asked undone reads = (
+  (λ book h. let it = of_book rows old.now (asked h.ready.clean) (Loaded.Rows tables) reads book (book_before old new P lives undone b book h).it in book_is tables book it.1.1.0 it.1.1.1.0 it.1.1.1.1),
+  (λ row h. let bad = (row_before old new P lives undone b row h).it in none_some _ row (of_bad rows old.now (asked h.ready.clean) (Loaded.Rows tables) reads row bad).0 bad.is),
+)
+gives_rows rows old new P (Loaded.BadRow table act) b lives asked undone reads = (
+  (λ book h. let it = of_book rows old.now (asked h.ready.clean) (Loaded.BadRow table act) reads book (book_before old new P lives undone b book h).it in none_some _ (row_of table act) it.0 it.1),
+  (λ row h. let bad = (row_before old new P lives undone b row h).it in some_once _ _ row (of_bad rows old.now (asked h.ready.clean) (Loaded.BadRow table act) reads row bad) bad.is),
+)
+gives_rows rows old new P Loaded.Failed b lives asked undone reads = tt
+gives_rows rows old new P Loaded.NoMemory b lives asked undone reads = tt
+
+pub is_answer : (acts : List WideAct) (records : List WideRecord) (lines : List WideLine) (loaded : Loaded) → Narrows acts records lines loaded → IsAnswer loaded
+is_answer acts records lines (Loaded.Rows tables) h = tt
+is_answer acts records lines (Loaded.BadRow table act) h = tt
+is_answer acts records lines Loaded.Failed h = h
+is_answer acts records lines Loaded.NoMemory h = tt
+
+-- ---- tables that were made
+
+no_rows : {X : Type 0} (f : X → Row) (xs : List X) (rows : List Row) → rows ≡ [] → IsPermutation (map f xs) rows → xs ≡ []
+no_rows f [] rows none same = refl
+no_rows f (x ∷ xs) rows none same = let e : 0 ≡ suc (length (map f xs)) = sym (ap length none) ∙ length_permutation _ _ same in absurd (omega (arith, e))
+
+unmapped : {X Y : Type 0} (f : X → Y) (xs : List X) → map f xs ≡ [] → xs ≡ []
+unmapped f [] e = refl
+unmapped f (x ∷ xs) e = absurd (cc)
+
+made_empty : (db : Database) → IsMade db → (book : Book) → IsBookIn db book → book ≡ empty_book
+made_empty db made book (inr none) = none.1
+made_empty db made book (inl p) =
+    let acts = unmapped wide_act book.acts (no_rows stored_act _ _ made.none.acts p.stands.acts_are) in
+    let records = unmapped wide_record book.records (no_rows stored_record _ _ made.none.records p.stands.records_are) in
+    let lines = unmapped wide_line book.lines (no_rows line_values _ _ made.none.lines p.stands.lines_are) in
+    λ i. record { acts = acts i; records = records i; lines = lines i }
+
+made_good : (db : Database) → IsMade db → (row : BadRow) → IsBadIn db row → ⊥
+made_good db made row bad =
+    let acts = no_rows stored_act _ _ made.none.acts bad.stands.acts_are in
+    let records = no_rows stored_record _ _ made.none.records bad.stands.records_are in
+    let lines = no_rows line_values _ _ made.none.lines bad.stands.lines_are in
+    let none : first_bad bad.acts bad.records bad.lines ≡ None = rw (acts, records, lines) refl in
+    none_some _ row none bad.is
+
+stands_empty : (trees : Trees) → HoldsNone trees → StandsFor trees [] [] []
+stands_empty trees none = record {
+  acts_are = subst (IsPermutation []) (sym none.acts) (IsPermutation-refl []);
+  records_are = subst (IsPermutation []) (sym none.records) (IsPermutation-refl []);
+  lines_are = subst (IsPermutation []) (sym none.lines) (IsPermutation-refl []);
+  acts_rise = tt;
+  records_rise = tt;
+  lines_rise = tt;
+}
+
+empty_in : (db : Database) → IsMade db → IsBookIn db empty_book
+empty_in db made = inl (record { schema = made.schema; stands = stands_empty db.trees made.none; fits = refl })
+
+module _ (old new : State) (was now : Bool) (lives : Survives old new (MadeTrees old)) (settled : IsSettled old) (flag : now ≡ false → (was ≡ false) × (old.now.schema ≡ no_schema)) where
+  pub made_crash : TellsCrash new now → Keeps (MayLeave old) (MayLeave new)
+  made_crash tells book m = go (lives.crash tells.0 m.db.trees m.left)
+    where
+      go : old.may_leave m.db.trees ⊎ MadeTrees old m.db.trees → MayLeave old book
+      go (inl left) = record { db = m.db; left = left; live = m.live; it = m.it }
+      go (inr written) =
+          let made = written.made (flag tells.1).1 in
+          let empty : book ≡ empty_book = book_once m.db (record { schema = book_schema; trees = m.db.trees }) book empty_book refl m.live made.live m.it (empty_in _ made) in
+          let same : old.now ≡ old.committed = settled.settled written.was_alone written.was_open in
+          record {
+            db = old.committed;
+            left = settled.stays written.was_open;
+            live = (settled.live written.was_open).1;
+            it = inr (ap (λ (d : Database). d.schema) (sym same) ∙ (flag tells.1).1, empty);
+          }
+
+  made_told : TellsCrash new now → TellsCrash old was
+  made_told tells = (clean_before old new (MadeTrees old) lives tells.0, (flag tells.1).0)
+
+  pub made_fails : (HasCleanDisk new → Undoes old new) → TellsNoMore old was new now
+  made_fails undone = record {
+    kept = λ book h. let before = book_before old new (MadeTrees old) lives undone now book h in record { ready = before.ready; own = (flag h.own).0; it = before.it };
+    kept_row = λ row h. let before = row_before old new (MadeTrees old) lives undone now row h in record { ready = before.ready; own = (flag h.own).0; it = before.it };
+    told = made_told;
+    crash = made_crash;
+  }
+
+  module _ (made : HasCleanDisk new → Makes old new) where
+    is_made : (clean : HasCleanDisk new) → now ≡ false → IsMade new.now
+    is_made clean own = (made clean).made (flag own).1
+
+    pub made_tells : TellsNoMore old was new now
+    made_tells = record {
+      kept = λ book h.
+          let it = made h.ready.clean in
+          let empty = made_empty new.now (is_made h.ready.clean h.own) book h.it in
+          record { ready = record { clean = clean_before old new (MadeTrees old) lives h.ready.clean; is_open = it.settles.was_open; alone = it.settles.was_alone }; own = (flag h.own).0; it = inr ((flag h.own).1, empty) };
+      kept_row = λ row h. absurd (made_good new.now (is_made h.ready.clean h.own) row h.it);
+      told = made_told;
+      crash = made_crash;
+    }
+
+    pub made_gives : (tables : Tables) → book_of tables ≡ empty_book → Gives (Holds new now) (HoldsBad new now) (Loaded.Rows tables)
+    made_gives tables empty = ((λ book h. empty ∙ sym (made_empty new.now (is_made h.ready.clean h.own) book h.it)), (λ row h. made_good new.now (is_made h.ready.clean h.own) row h.it))
+
+-- ---- a batch that was written
+
+book_same : (db : Database) (x y : Book) → IsBookIn db x → IsBookIn db y → x ≡ y
+book_same db x y (inl p) (inl q) = rows_once db db x y refl p q
+book_same db x y (inl p) (inr q) = absurd (schemas_differ (sym p.schema ∙ q.0))
+book_same db x y (inr p) (inl q) = absurd (schemas_differ (sym q.schema ∙ p.0))
+book_same db x y (inr p) (inr q) = p.1 ∙ sym q.1
+
+module _ (old new : State) (b : Bool) (batch : Batch) (it : IsBatch batch) (lives : Survives old new (BatchTrees old batch)) where
+  module _ (next : (book : Book) → Holds old b book → IsBefore book batch.act.n) (lands : HasCleanDisk new → Lands old new batch) where
+    ready_then : IsReady new → IsReady old
+    ready_then r = let l = lands r.clean in record { clean = clean_before old new (BatchTrees old batch) lives r.clean; is_open = l.settles.was_open; alone = l.settles.was_alone }
+
+    pub landed : Commits (Holds old b) (Holds new b) batch Committed.Done
+    landed book h = go h.it
+      where
+        l : Lands old new batch
+        l = lands h.ready.clean
+
+        go : IsBookIn new.now book → (was : Book) × (Holds old b was × (book ≡ appended was batch))
+        go (inr none) = absurd (l.known (sym l.schema ∙ none.0))
+        go (inl p) =
+            let has : old.now.schema ≡ book_schema = sym l.schema ∙ p.schema in
+            let found = rows_before old.now new.now batch (l.rows has) has it book p (λ was w. next was (record { ready = ready_then h.ready; own = h.own; it = w })) in
+            (found.0, (record { ready = ready_then h.ready; own = h.own; it = found.1.0 }, found.1.1))
+
+    pub landed_row : IsInRange batch → Keeps (HoldsBad old b) (HoldsBad new b)
+    landed_row fit row h =
+        let l = lands h.ready.clean in
+        let has : old.now.schema ≡ book_schema = sym l.schema ∙ h.it.schema in
+        record { ready = ready_then h.ready; own = h.own; it = bad_before old.now new.now batch (l.rows has) has fit row h.it }
+
+    pub landed_crash : ((db : Trees) → IsTrue new.is_open → new.may_leave db → db ≡ new.committed.trees) → LeavesTold (Holds new b) (MayLeave new)
+    landed_crash settled book h after m =
+        let l = lands h.ready.clean in
+        let same : m.db.trees ≡ new.now.trees = settled m.db.trees h.ready.is_open m.left ∙ ap (λ (d : Database). d.trees) l.settles.settled in
+        book_once m.db new.now after book same m.live l.live m.it h.it
+
+  module _ (next : (book : Book) → Holds old b book → IsBefore book batch.act.n) where
+    pub not_landed_crash : TellsCrash new b → LeavesOrCommits (Holds old b) (MayLeave old) (MayLeave new) batch
+    not_landed_crash tells book h after m = go (lives.crash tells.0 m.db.trees m.left)
+      where
+        written : BatchTrees old batch m.db.trees → after ≡ appended book batch
+        written w = rows m.it
+          where
+            has : IsBookIn old.now book → old.now.schema ≡ book_schema
+            has (inl p) = p.schema
+            has (inr none) = absurd (w.known none.0)
+
+            old_schema : old.now.schema ≡ book_schema
+            old_schema = has h.it
+
+            sound : IsDatabase (record { schema = book_schema; trees = m.db.trees })
+            sound = subst IsDatabase (λ i. record { schema = old_schema i; trees = m.db.trees }) w.live
+
+            rows : IsBookIn m.db after → after ≡ appended book batch
+            rows (inr none) = absurd (exclusive m.db.trees sound (subst IsDatabase (λ i. record { schema = none.0 i; trees = m.db.trees }) m.live))
+            rows (inl p) =
+                let found = rows_before old.now m.db batch (w.rows old_schema) old_schema it after p (λ was e. subst (λ (k : Book). IsBefore k batch.act.n) (book_same old.now book was h.it e) (next book h)) in
+                found.1.1 ∙ ap (λ (k : Book). appended k batch) (book_same old.now found.0 book found.1.0 h.it)
+
+        go : old.may_leave m.db.trees ⊎ BatchTrees old batch m.db.trees → MayLeave old after ⊎ (after ≡ appended book batch)
+        go (inl left) = inl (record { db = m.db; left = left; live = m.live; it = m.it })
+        go (inr w) = inr (written w)

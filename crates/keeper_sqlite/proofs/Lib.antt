@@ -1,0 +1,6 @@
+mod Back
+mod Orders
+mod Landing
+mod Books
+mod Batches
+mod Calls

@@ -1,0 +1,39 @@
+use Rattle.std.proofs.Common.{sym, subst}
+use Rattle.sqlite.specs.Held.{state}
+use Rattle.book_rows.specs.Book.{Book, IsBefore}
+use Rattle.keeper_core.specs.declared.keeper.Committed.{Committed}
+use Rattle.keeper_core.specs.Keeping.{Keeps, Commits, LeavesOrCommits}
+use Rattle.keeper_sqlite.specs.Told.{Kept, Holds, HoldsBad, MayLeave, TellsCrash}
+use Rattle.keeper_sqlite.proofs.Calls.{landed, landed_row, landed_crash, not_landed_crash}
+use Rattle.keeper_sqlite.proofs.keeper.SqliteKeeperKeeper.commit.Goals as goal
+
+pub returns-in-Ok-clause-leaves : goal.returns-in-Ok-clause-leaves
+returns-in-Ok-clause-leaves g c =
+    let next = subst (λ (k : Kept _). (book : Book) → Holds (state g.S.Store k.file) k.is_beside book → IsBefore book c.args.batch.now.act.n) (sym c.self.view_is) c.requires.next in
+    subst (λ (k : Kept _). Commits (Holds (state g.S.Store k.file) k.is_beside) (Holds (state g.S.Store c.write_batch.new.conn) c.self.inside.is_beside) c.args.batch.now Committed.Done) c.self.view_is
+    (landed (state g.S.Store c.self.inside.conn) (state g.S.Store c.write_batch.new.conn) c.self.inside.is_beside c.args.batch.now c.requires.batch c.write_batch.ensures.survives next c.in-Ok.ensures.done)
+
+pub returns-in-Ok-clause-crash : goal.returns-in-Ok-clause-crash
+returns-in-Ok-clause-crash g c =
+    let next = subst (λ (k : Kept _). (book : Book) → Holds (state g.S.Store k.file) k.is_beside book → IsBefore book c.args.batch.now.act.n) (sym c.self.view_is) c.requires.next in
+    λ _. landed_crash (state g.S.Store c.self.inside.conn) (state g.S.Store c.write_batch.new.conn) c.self.inside.is_beside c.args.batch.now c.requires.batch c.write_batch.ensures.survives next c.in-Ok.ensures.done
+    (g.met.S.Store.settled c.write_batch.new.conn.store)
+
+pub returns-in-Ok-clause-kept_row : goal.returns-in-Ok-clause-kept_row
+returns-in-Ok-clause-kept_row g c =
+    let next = subst (λ (k : Kept _). (book : Book) → Holds (state g.S.Store k.file) k.is_beside book → IsBefore book c.args.batch.now.act.n) (sym c.self.view_is) c.requires.next in
+    subst (λ (k : Kept _). Keeps (HoldsBad (state g.S.Store k.file) k.is_beside) (HoldsBad (state g.S.Store c.write_batch.new.conn) c.self.inside.is_beside)) c.self.view_is
+    (landed_row (state g.S.Store c.self.inside.conn) (state g.S.Store c.write_batch.new.conn) c.self.inside.is_beside c.args.batch.now c.requires.batch c.write_batch.ensures.survives next c.in-Ok.ensures.done c.batch_fits.ensures)
+
+pub returns-then-is_want_of_memory-clause-crash : goal.returns-then-is_want_of_memory-clause-crash
+returns-then-is_want_of_memory-clause-crash g c =
+    let next = subst (λ (k : Kept _). (book : Book) → Holds (state g.S.Store k.file) k.is_beside book → IsBefore book c.args.batch.now.act.n) (sym c.self.view_is) c.requires.next in
+    subst (λ (k : Kept _). TellsCrash (state g.S.Store c.write_batch.new.conn) c.self.inside.is_beside → LeavesOrCommits (Holds (state g.S.Store k.file) k.is_beside) (MayLeave (state g.S.Store k.file)) (MayLeave (state g.S.Store c.write_batch.new.conn)) c.args.batch.now) c.self.view_is
+    (not_landed_crash (state g.S.Store c.self.inside.conn) (state g.S.Store c.write_batch.new.conn) c.self.inside.is_beside c.args.batch.now c.requires.batch c.write_batch.ensures.survives next)
+
+pub returns-else-is_want_of_memory-clause-crash : goal.returns-else-is_want_of_memory-clause-crash
+returns-else-is_want_of_memory-clause-crash g c =
+    let next = subst (λ (k : Kept _). (book : Book) → Holds (state g.S.Store k.file) k.is_beside book → IsBefore book c.args.batch.now.act.n) (sym c.self.view_is) c.requires.next in
+    let all = not_landed_crash (state g.S.Store c.self.inside.conn) (state g.S.Store c.write_batch.new.conn) c.self.inside.is_beside c.args.batch.now c.requires.batch c.write_batch.ensures.survives next in
+    subst (λ (n : Kept _). TellsCrash (state g.S.Store n.file) n.is_beside → LeavesOrCommits (Holds (state g.S.Store c.args.self.now.file) c.args.self.now.is_beside) (MayLeave (state g.S.Store c.args.self.now.file)) (MayLeave (state g.S.Store n.file)) c.args.batch.now) (sym c.count_fault.ensures.kept)
+    (subst (λ (k : Kept _). TellsCrash (state g.S.Store c.write_batch.new.conn) c.self.inside.is_beside → LeavesOrCommits (Holds (state g.S.Store k.file) k.is_beside) (MayLeave (state g.S.Store k.file)) (MayLeave (state g.S.Store c.write_batch.new.conn)) c.args.batch.now) c.self.view_is all)
