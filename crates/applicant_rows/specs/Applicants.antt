@@ -5,7 +5,7 @@ use Rattle.days_core.specs.DayText.{◌>>=◌}
 use Rattle.numerals.specs.Numerals.{number_between}
 use Rattle.csv_records.specs.Records.{records_under}
 use Rattle.book_rows.specs.{Fit.is_name, declared.command.Command.Command}
-use Rattle.office_step.specs.declared.call.Call.{Call}
+use Rattle.office_step.specs.{declared.call.Call.Call, Step.is_fit_call}
 use Rattle.applicant_rows.specs.declared.row.ImportRow.{ImportRow}
 
 -- the names of the columns
@@ -62,3 +62,8 @@ row_from clerk fields = option_map_or ImportRow.Call (call_from clerk fields) Im
 -- what the records under the header are
 abbrev pub applicants_in : ℕ → List ℕ → Option (List ImportRow)
 applicants_in clerk bytes = option_map (map (row_from clerk)) (records_under header bytes)
+
+-- an applicant's call is one that an office can be asked
+abbrev pub is_fit_row : ImportRow → Bool
+is_fit_row (ImportRow.Call call) = is_fit_call call
+is_fit_row ImportRow.Bad = true

@@ -1,6 +1,6 @@
-ghost use Rattle.std.specs.Prelude.{◌≡◌, None, Some, IfOk, IfErr, map};
+ghost use Rattle.std.specs.Prelude.{◌≡◌, ◌≤◌, true, None, Some, IfOk, IfErr, All, map};
 ghost use Rattle.csv.specs.Records.{fields_of};
-ghost use Rattle.applicant_rows.specs.Applicants.{applicants_in, row_from, header};
+ghost use Rattle.applicant_rows.specs.Applicants.{applicants_in, row_from, header, is_fit_row};
 
 use crate::fields::fields_of;
 use crate::row::{ImportRow, row_of};
@@ -36,6 +36,8 @@ pub fn applicants_of_csv(
 ) -> Result<Vec<ImportRow>, ImportFault>
     ensures rows { IfOk result (λ rows. applicants_in clerk bytes.now ≡ Some rows.items) }
     ensures header { IfErr result (λ fault. fault ≡ ImportFault.BadHeader → applicants_in clerk bytes.now ≡ None) }
+    // An office can be asked each applicant's call, where the number is a clerk's.
+    ensures fit { 1 ≤ clerk → clerk ≤ 9999 → IfOk result (λ rows. All (λ row. is_fit_row row ≡ true) rows.items) }
 {
     let header: [&[u8]; 7] = [
         b"request",

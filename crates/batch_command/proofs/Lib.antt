@@ -1,3 +1,4 @@
+pub mod More
 pub mod SoFar
 pub mod Ends
 pub mod Runs

@@ -2,14 +2,14 @@
 use Rattle.std.proofs.Common.{◌≡◌, ◌≤◌, ◌<◌, ◌+◌, ◌⊎◌, inl, inr, ℕ, List, [], ◌∷◌, ◌++◌, None, Some, IfSome, length, refl, subst, ◌∙◌, arith, length-append}
 use Rattle.std.specs.Prelude.{Option, All, unwrap_or}
 use Rattle.std.specs.Io.KnownBytes.{Appends, Consumes, Keeps, IsAtEnd, prepend_known}
-use Rattle.std.proofs.{KnownBytes.Appends-trans, KnownBytes.Appends-kept, KnownBytes.Consumes-trans, lemmas.Option.IfSome_then, lemmas.List.map-append, lemmas.List.length-map, lemmas.List.Elements.All-push, lemmas.List.Elements.All-map, lemmas.List.Elements.All-weaker}
-use Rattle.office_io.specs.Transfer.{AppendsPart}
+use Rattle.std.proofs.{KnownBytes.Appends-kept, KnownBytes.Consumes-trans, lemmas.Option.IfSome_then, lemmas.List.map-append, lemmas.List.length-map, lemmas.List.Elements.All-push, lemmas.List.Elements.All-map, lemmas.List.Elements.All-weaker}
 use Rattle.line_input.specs.{declared.reader.Next.Next, Lines.IsEndless, Lines.lines_of, Reading.Reading, Reading.Comes}
 use Rattle.book_rows.specs.Book.{Book}
 use Rattle.clerk_desk.specs.Below.office_step.declared.call.Capacity.{Capacity}
 use Rattle.batch_command.specs.{declared.ending.Ending.Ending, Output.Given, Output.told_of, Output.batch_output, Line.AnswersLine}
-use Rattle.batch_command.specs.Batch.{line_limit, most_lines, lines_in, ending_of, Follows, Writes, WritesPart, Ran}
-use Rattle.batch_command.proofs.SoFar.{IsTaken, SoFar, book-more, written-more, joined-more}
+use Rattle.batch_command.specs.{Answers.Writes, Batch.line_limit, Batch.most_lines, Batch.lines_in, Batch.ending_of, Batch.Follows, Batch.Ran}
+use Rattle.batch_command.proofs.More.{book-more, written-more, part_written}
+use Rattle.batch_command.proofs.SoFar.{IsTaken, SoFar, joined-more}
 use Rattle.batch_command.proofs.Ends.{none_behind, IsFront, is_front, is_front_last, follows_done, follows_last, follows_failed, follows_long, follows_more, follows_more_last}
 
 -- a line came
@@ -28,25 +28,10 @@ endless_lines : (shows : ℕ → Type 0) (given : List Given) → All (IsTaken s
 endless_lines shows given taken =
     All-map IsEndless (λ (g : Given). g.line) given (All-weaker (IsTaken shows) (λ g. IsEndless g.line) (λ g t. t.endless) given taken)
 
--- the answer to the line was written in part
-part_written : (capacity : Capacity) (old mid : Book) (held held_mid held_now : Option (List ℕ)) (given : List Given) (g : Given) → mid ≡ (batch_output capacity old given).book
-    → Appends held held_mid (batch_output capacity old given).text → AppendsPart held_mid held_now (told_of capacity mid g).text
-    → WritesPart capacity old (given ++ g ∷ []) held held_now
-part_written capacity old mid held held_mid held_now given g is written part =
-    let moved : AppendsPart held_mid held_now (told_of capacity (batch_output capacity old given).book g).text =
-    subst (λ (b : Book). AppendsPart held_mid held_now (told_of capacity b g).text) is part in record {
-      before = given;
-      last = g;
-      ends = refl;
-      count = moved.0;
-      part = moved.1;
-      written = Appends-trans held held_mid held_now _ _ written moved.2;
-    }
-
 module _ {capacity : Capacity} {shows : ℕ → Type 0} {old : Book} {left held : Option (List ℕ)} where
   finish : (new : Book) (left_now held_now : Option (List ℕ)) (given : List Given) (end : Ending) → All (IsTaken shows) given → length given ≤ most_lines
       → IfSome left (λ input. Follows input left_now (lines_in given) end) → new ≡ (batch_output capacity old given).book
-      → Writes capacity old given held held_now end → Ran capacity shows old new left left_now held held_now end
+      → Writes (told_of capacity) old given held held_now end → Ran capacity shows old new left left_now held held_now end
   finish new left_now held_now given end taken few follows book writes = record {
     given = given;
     shown = All-weaker (IsTaken shows) (λ g. shows g.day) (λ g t. t.shown) given taken;
@@ -64,7 +49,7 @@ module _ {capacity : Capacity} {shows : ℕ → Type 0} {old : Book} {left held 
     endless = endless_lines shows given so_far.taken
 
     stop : (left_now : Option (List ℕ)) (end : Ending) → IfSome left (λ input. Follows input left_now (lines_in given) end)
-        → Writes capacity old given held held_now end → Ran capacity shows old new left left_now held held_now end
+        → Writes (told_of capacity) old given held held_now end → Ran capacity shows old new left left_now held held_now end
     stop left_now end follows writes = finish new left_now held_now given end so_far.taken few follows so_far.book writes
 
     pub ran_without : {known_now left_now : Option (List ℕ)} (reading : Reading) (what : Next) → (IsLine what → length given ≡ most_lines)
@@ -90,16 +75,16 @@ module _ {capacity : Capacity} {shows : ℕ → Type 0} {old : Book} {left held 
   module _ {mid new : Book} {known held_mid held_now : Option (List ℕ)} {given : List Given} (so_far : SoFar capacity shows old mid left known held held_mid given)
       (few : length given + 1 ≤ most_lines) (g : Given) (taken : IsTaken shows g) where
     with_line : (left_now : Option (List ℕ)) (end : Ending) → IfSome left (λ input. Follows input left_now (lines_in (given ++ g ∷ [])) end)
-        → new ≡ (told_of capacity mid g).book → Writes capacity old (given ++ g ∷ []) held held_now end → Ran capacity shows old new left left_now held held_now end
+        → new ≡ (told_of capacity mid g).book → Writes (told_of capacity) old (given ++ g ∷ []) held held_now end → Ran capacity shows old new left left_now held held_now end
     with_line left_now end follows book writes =
         finish new left_now held_now (given ++ g ∷ []) end (All-push (IsTaken shows) given g so_far.taken taken) (omega (arith, length-append given (g ∷ []))) follows
-        (book-more capacity old mid new given g so_far.book book) writes
+        (book-more (told_of capacity) old mid new given g so_far.book book) writes
 
     -- the batch ends within the line
     ran_within : (left_now : Option (List ℕ)) (end : Ending) → IfSome left (λ input. IsFront input (lines_in (given ++ g ∷ [])))
         → AnswersLine (told_of capacity mid g) mid new held_mid held_now (Some end) → Ran capacity shows old new left left_now held held_now end
     ran_within left_now Ending.WriteFault front answers =
-        with_line left_now Ending.WriteFault front answers.0 (part_written capacity old mid held held_mid held_now given g so_far.book so_far.written answers.1)
+        with_line left_now Ending.WriteFault front answers.0 (part_written (told_of capacity) old mid held held_mid held_now given g so_far.book so_far.written answers.1)
     ran_within left_now Ending.StoreFault front answers =
         finish new left_now held_now given Ending.StoreFault so_far.taken (omega arith)
         (is_front left known (lines_in given) so_far.consumed (endless_lines shows given so_far.taken)) (answers.0 ∙ so_far.book)
@@ -139,5 +124,5 @@ module _ {capacity : Capacity} {shows : ℕ → Type 0} {old : Book} {left held 
         by_end : (found : Option Ending) → AnswersLine (told_of capacity mid g) mid new held_mid held_now found
             → Ran capacity shows old new left left_now held held_now (unwrap_or found Ending.Done)
         by_end None answers =
-            with_line left_now Ending.Done (IfSome_then left follows (λ input all. (all, at_end))) answers.0 (written-more capacity old mid held held_mid held_now given g so_far.book so_far.written answers.1)
+            with_line left_now Ending.Done (IfSome_then left follows (λ input all. (all, at_end))) answers.0 (written-more (told_of capacity) old mid held held_mid held_now given g so_far.book so_far.written answers.1)
         by_end (Some end) answers = ran_within left_now end (is_front_last left (lines_in (given ++ g ∷ [])) follows) answers

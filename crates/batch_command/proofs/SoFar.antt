@@ -1,13 +1,14 @@
 -- What holds of the lines that were answered so far, and after one line more.
-use Rattle.std.proofs.Common.{◌≡◌, ◌≤◌, ℕ, List, [], ◌∷◌, ◌++◌, length, refl, sym, ap, subst, ◌∙◌, append-nil}
+use Rattle.std.proofs.Common.{◌≡◌, ◌≤◌, ℕ, List, [], ◌∷◌, ◌++◌, length, refl, append-nil}
 use Rattle.std.specs.{Prelude.Option, Prelude.All, Io.KnownBytes.Appends, Io.KnownBytes.Consumes, Io.KnownBytes.prepend_known}
-use Rattle.std.proofs.KnownBytes.{Appends-nil, Appends-trans, Consumes-nil, Consumes-trans, prepend_known-nil}
-use Rattle.std.proofs.lemmas.{List.map-append, List.Sums.fold-append, List.Elements.All-nil, List.Elements.All-push, Grind.flat_map-append}
+use Rattle.std.proofs.KnownBytes.{Appends-nil, Consumes-nil, Consumes-trans, prepend_known-nil}
+use Rattle.std.proofs.lemmas.{List.map-append, List.Elements.All-nil, List.Elements.All-push, Grind.flat_map-append}
 use Rattle.line_input.specs.Lines.{IsEndless, joined}
 use Rattle.book_rows.specs.Book.{Book}
 use Rattle.clerk_desk.specs.Below.office_step.declared.call.Capacity.{Capacity}
-use Rattle.batch_command.specs.Output.{Given, Told, told_of, one_more, batch_output}
+use Rattle.batch_command.specs.Output.{Given, told_of, batch_output}
 use Rattle.batch_command.specs.Batch.{line_limit, lines_in}
+use Rattle.batch_command.proofs.More.{book-more, written-more}
 
 -- a line of a batch: within one line, not too long, and on a day that the clock may show
 pub record IsTaken (shows : ℕ → Type 0) (given : Given) : Type 0 where
@@ -22,32 +23,8 @@ pub record SoFar (capacity : Capacity) (shows : ℕ → Type 0) (old new : Book)
   pub book : new ≡ (batch_output capacity old given).book
   pub written : Appends held held_now (batch_output capacity old given).text
 
--- the output with one line more
-pub batch_output-more : (capacity : Capacity) (book : Book) (given : List Given) (g : Given)
-    → batch_output capacity book (given ++ g ∷ []) ≡ one_more capacity (batch_output capacity book given) g
-batch_output-more capacity book given g = fold-append (one_more capacity) (record { text = []; book = book }) given (g ∷ [])
-
 pub joined-more : (given : List Given) (g : Given) → joined (lines_in (given ++ g ∷ [])) ≡ joined (lines_in given) ++ (g.line ++ 10 ∷ [])
 joined-more given g = simp (map-append, flat_map-append, append-nil)
-
--- the book after one line more
-pub book-more : (capacity : Capacity) (old mid new : Book) (given : List Given) (g : Given) → mid ≡ (batch_output capacity old given).book
-    → new ≡ (told_of capacity mid g).book → new ≡ (batch_output capacity old (given ++ g ∷ [])).book
-book-more capacity old mid new given g is next =
-    next ∙ ap (λ (b : Book). (told_of capacity b g).book) is ∙ ap (λ (t : Told). t.book) (sym (batch_output-more capacity old given g))
-
--- what was written with one line more
-pub text-more : (capacity : Capacity) (old mid : Book) (given : List Given) (g : Given) → mid ≡ (batch_output capacity old given).book
-    → (batch_output capacity old given).text ++ (told_of capacity mid g).text ≡ (batch_output capacity old (given ++ g ∷ [])).text
-text-more capacity old mid given g is =
-    ap (λ (b : Book). (batch_output capacity old given).text ++ (told_of capacity b g).text) is
-    ∙ ap (λ (t : Told). t.text) (sym (batch_output-more capacity old given g))
-
-pub written-more : (capacity : Capacity) (old mid : Book) (held held_mid held_now : Option (List ℕ)) (given : List Given) (g : Given)
-    → mid ≡ (batch_output capacity old given).book → Appends held held_mid (batch_output capacity old given).text
-    → Appends held_mid held_now (told_of capacity mid g).text → Appends held held_now (batch_output capacity old (given ++ g ∷ [])).text
-written-more capacity old mid held held_mid held_now given g is first next =
-    subst (Appends held held_now) (text-more capacity old mid given g is) (Appends-trans held held_mid held_now _ _ first next)
 
 module _ (capacity : Capacity) (shows : ℕ → Type 0) (old : Book) where
   -- a reader that holds nothing is at the start of its source
@@ -62,6 +39,6 @@ module _ (capacity : Capacity) (shows : ℕ → Type 0) (old : Book) where
   so_far_more mid new left known known_now held held_mid held_now given g so_far taken consumed book written = record {
     taken = All-push (IsTaken shows) given g so_far.taken taken;
     consumed = rw (joined-more given g) (Consumes-trans left known known_now _ _ so_far.consumed consumed);
-    book = book-more capacity old mid new given g so_far.book book;
-    written = written-more capacity old mid held held_mid held_now given g so_far.book so_far.written written;
+    book = book-more (told_of capacity) old mid new given g so_far.book book;
+    written = written-more (told_of capacity) old mid held held_mid held_now given g so_far.book so_far.written written;
   }

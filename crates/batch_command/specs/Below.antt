@@ -2,3 +2,4 @@
 pub use Rattle.clerk_desk.specs as clerk_desk
 pub use Rattle.clerk_desk.specs.Below.office_step
 pub use Rattle.clerk_desk.specs.Below.office_laws
+pub use Rattle.json_front.specs as json_front

@@ -1,4 +1,5 @@
 pub mod Below
 pub mod Output
 pub mod Line
+pub mod Answers
 pub mod Batch

@@ -49,13 +49,16 @@ abbrev pub told_of : Capacity → Book → Given → Told
 told_of capacity book given =
     if is_passed_over given.line then record { text = []; book = book } else told_by capacity book given.day (line_from given.line)
 
--- ---- all lines
+-- ---- all inputs, be they lines or rows
 
--- and then one more line
-abbrev pub one_more : Capacity → Told → Given → Told
-one_more capacity earlier given =
-    record { text = earlier.text ++ (told_of capacity earlier.book given).text; book = (told_of capacity earlier.book given).book }
+-- and then one more
+abbrev pub one_more : {X : Type 0} → (Book → X → Told) → Told → X → Told
+one_more told earlier input = record { text = earlier.text ++ (told earlier.book input).text; book = (told earlier.book input).book }
 
--- what the lines are answered with, one after another, and the book after them
+-- what inputs are answered with, one after another, and the book after them
+abbrev pub output : {X : Type 0} → (Book → X → Told) → Book → List X → Told
+output told book inputs = fold (one_more told) (record { text = []; book = book }) inputs
+
+-- what the lines are answered with, and the book after them
 abbrev pub batch_output : Capacity → Book → List Given → Told
-batch_output capacity book given = fold (one_more capacity) (record { text = []; book = book }) given
+batch_output capacity book given = output (told_of capacity) book given

@@ -2,7 +2,8 @@ ghost use Rattle.std.specs.Prelude.{◌≡◌};
 ghost use Rattle.book_rows.specs.Book.{Book};
 ghost use Rattle.keeper_core.specs.Keeping.{Keeps};
 ghost use Rattle.clerk_desk.specs.Serving.{ToldBefore};
-ghost use Rattle.batch_command.specs.Batch.{Ran, Blames, ending_of};
+ghost use Rattle.batch_command.specs.Answers.{Blames};
+ghost use Rattle.batch_command.specs.Batch.{Ran, ending_of};
 
 use crate::Ending;
 use crate::line::answer_line;

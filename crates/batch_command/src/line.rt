@@ -3,6 +3,7 @@ ghost use Rattle.book_rows.specs.Book.{Book};
 ghost use Rattle.clerk_desk.specs.Below.office_step.Step.{step, is_fit_call};
 ghost use Rattle.clerk_desk.specs.Below.office_answers.Answering.{answer_to};
 ghost use Rattle.json_front.specs.Lines.{line_from};
+ghost use Rattle.reply_text.specs.Replies.{bad_form_text};
 ghost use Rattle.keeper_core.specs.Keeping.{Keeps};
 ghost use Rattle.clerk_desk.specs.Serving.{ToldBefore};
 ghost use Rattle.batch_command.specs.Output.{session, is_passed_over, line_end, told_of, told_by, told_of_call, answered_text};
@@ -47,13 +48,13 @@ pub fn answer_line<K: Keeper, W: Sink, C: Clock>(
         return None;
     }
     match told(alloc, office, keeper, today, line) {
-        Ok(text) => written(sink, &text),
+        Ok(text) => write_answer(sink, &text),
         Err(ending) => Some(ending),
     }
 }
 
-/// Writes an answer.
-fn written<W: Sink>(sink: &mut W, text: &Text) -> Option<Ending>
+/// Writes an answer. None says that it was written whole.
+pub fn write_answer<W: Sink>(sink: &mut W, text: &Text) -> Option<Ending>
     ensures written { WritesText text.now (W.held sink.old) (W.held sink.new) result }
     ensures blames { SinkBlames (W.faults sink.old) (W.faults sink.new) result }
 {
@@ -88,16 +89,16 @@ fn told<K: Keeper>(
 {
     match line_of_bytes(alloc, line) {
         Ok(BatchLine::Act { today: day, call }) => {
-            replied(alloc, office, keeper, day.unwrap_or(today), call)
+            answer_call(alloc, office, keeper, day.unwrap_or(today), call)
         }
         Ok(BatchLine::Ask(question)) => answered(alloc, office, &question),
-        Err(FormFault::BadField(path)) => Ok(with_end(text_of_bad_form(alloc, path.as_str())?)?),
+        Err(FormFault::BadField(path)) => Ok(answer_bad_form(alloc, path.as_str())?),
         Err(FormFault::NoMemory) => Err(Ending::NoMemory),
     }
 }
 
-/// The office's reply to a call.
-fn replied<K: Keeper>(
+/// The office's reply to a call of that day, as a line with its end.
+pub fn answer_call<K: Keeper>(
     alloc: Global,
     office: &mut Office,
     keeper: &mut K,
@@ -132,6 +133,13 @@ fn answered(alloc: Global, office: &Office, question: &Question) -> Result<Text,
         }
         Err(Asked::NoMemory) => Err(Ending::NoMemory),
     }
+}
+
+/// What an input of another form is answered with, by its first bad path, as a line with its end.
+pub fn answer_bad_form(alloc: Global, path: &str) -> Result<Text, NoMemory>
+    ensures { IfOk result (λ answer. answer ≡ bad_form_text path.now ++ line_end) }
+{
+    with_end(text_of_bad_form(alloc, path)?)
 }
 
 /// The text with a line end.

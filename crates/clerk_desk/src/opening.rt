@@ -49,7 +49,7 @@ fn opened(alloc: Global, loaded: Loaded, capacity: Capacity) -> Result<Office, D
     ensures { Opens capacity loaded result }
 {
     match loaded {
-        Loaded::Rows(tables) => match Office::open(alloc, &tables, capacity) {
+        Loaded::Rows(tables) => match Office::open(alloc, tables, capacity) {
             Ok(office) => Ok(office),
             Err(OpenFault::BadBook(fault)) => Err(DeskFault::BadBook(fault)),
             Err(OpenFault::NoMemory) => Err(DeskFault::NoMemory),

@@ -1,5 +1,5 @@
 -- What the words of the command line ask.
-use Rattle.std.specs.Prelude.{ℕ, ◌==◌, if◌then◌else◌, Bool, false, Option, Some, None, option_map, List, [], ◌∷◌, codes, bytes_eq}
+use Rattle.std.specs.Prelude.{ℕ, ◌≤◌, ⊤, ◌==◌, if◌then◌else◌, Bool, false, Option, Some, None, option_map, List, [], ◌∷◌, codes, bytes_eq}
 use Rattle.std.specs.List.{list_any}
 use Rattle.days_core.specs.DayText.{◌>>=◌, day_from, month_from}
 use Rattle.numerals.specs.Numerals.{plain_number_between}
@@ -41,6 +41,11 @@ begins_with_hyphen (byte ∷ bytes) = byte == 45
 -- no word may begin with a hyphen
 abbrev pub subcommand_in : List (List ℕ) → Option Subcommand
 subcommand_in words = if list_any begins_with_hyphen words then None else subcommand_of_words words
+
+-- where a clerk is asked for, the number is a clerk's
+abbrev pub HasClerk : Option Subcommand → Type 0
+HasClerk (Some (Subcommand.Import clerk)) = (1 ≤ clerk) × (clerk ≤ 9999)
+HasClerk _ = ⊤
 
 -- ---- serving
 

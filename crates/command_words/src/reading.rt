@@ -1,7 +1,7 @@
 ghost use Rattle.std.specs.Prelude.{◌≡◌, IfOk, map, string_bytes};
 ghost use Rattle.std.specs.List.{list_any};
 ghost use Rattle.clap.specs.Words.{subcommand_rows_of};
-ghost use Rattle.command_words.specs.Words.{begins_with_hyphen, subcommand_in};
+ghost use Rattle.command_words.specs.Words.{begins_with_hyphen, subcommand_in, HasClerk};
 ghost use Rattle.command_words.specs.Command.{asked};
 
 use crate::Subcommand;
@@ -14,7 +14,8 @@ use std::alloc::Global;
 
 /// What the words ask of the program, and None for words that it doesn't know.
 pub fn subcommand_in<'a>(alloc: Global, words: &'a [String]) -> Result<Option<Subcommand>, NoMemory>
-    ensures { IfOk result (λ found. found ≡ subcommand_in (map string_bytes words.now)) }
+    ensures exact { IfOk result (λ found. found ≡ subcommand_in (map string_bytes words.now)) }
+    ensures clerk { IfOk result HasClerk }
 {
     if has_hyphens(words) {
         return Ok(None);
@@ -52,7 +53,8 @@ fn begins_with_hyphen(word: &[u8]) -> bool
 
 /// What the subcommand asks that `clap` found, with its value if it has one.
 fn asked(matches: &ArgMatches) -> Option<Subcommand>
-    ensures { result ≡ asked (subcommand_rows_of matches.now) }
+    ensures exact { result ≡ asked (subcommand_rows_of matches.now) }
+    ensures clerk { HasClerk result }
 {
     let (name, inner) = matches.subcommand()?;
     match inner.get_str("value") {

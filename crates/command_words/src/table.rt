@@ -1,7 +1,7 @@
 //! The table of the program's words, read by hand.
 
-ghost use Rattle.std.specs.Prelude.{◌≡◌};
-ghost use Rattle.command_words.specs.Words.{subcommand_alone, subcommand_with};
+ghost use Rattle.std.specs.Prelude.{◌≡◌, ◌≤◌, IfSome};
+ghost use Rattle.command_words.specs.Words.{subcommand_alone, subcommand_with, HasClerk};
 ghost use Rattle.numerals.specs.Numerals.{plain_number_between};
 
 use crate::Subcommand;
@@ -16,7 +16,8 @@ const HOUSEHOLDS_MOST: u32 = 300;
 
 /// What a word asks that stands alone.
 pub fn subcommand_alone(name: &str) -> Option<Subcommand>
-    ensures { result ≡ subcommand_alone name.now }
+    ensures exact { result ≡ subcommand_alone name.now }
+    ensures clerk { HasClerk result }
 {
     match name {
         "assess" => Some(Subcommand::Assess),
@@ -28,7 +29,8 @@ pub fn subcommand_alone(name: &str) -> Option<Subcommand>
 
 /// What a word asks that has a value after it.
 pub fn subcommand_with(name: &str, value: &str) -> Option<Subcommand>
-    ensures { result ≡ subcommand_with name.now value.now }
+    ensures exact { result ≡ subcommand_with name.now value.now }
+    ensures clerk { HasClerk result }
 {
     match name {
         "voucher" => Some(Subcommand::Voucher(month_of_text(value).ok()?)),
@@ -43,7 +45,9 @@ pub fn subcommand_with(name: &str, value: &str) -> Option<Subcommand>
 
 /// The number from 1 to `most` that the word writes, without a sign and without a zero in front.
 fn number_up_to(most: u32, word: &str) -> Option<u32>
-    ensures { result ≡ plain_number_between 1 most word.now }
+    ensures exact { result ≡ plain_number_between 1 most word.now }
+    ensures least { IfSome result (λ number. 1 ≤ number) }
+    ensures most { IfSome result (λ number. number ≤ most) }
 {
     plain_number_between(word.as_bytes(), 1, most)
 }

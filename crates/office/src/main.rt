@@ -1,17 +1,44 @@
-//! The office program over the real streams and clock.
+//! The office program over the real streams and clock, and a book in a file or in memory.
 #![tactic(auto)]
 
-use keeper_core::MemoryKeeper;
+use command_words::book_and_words;
+use keeper_core::{Keeper, MemoryKeeper};
+use keeper_sqlite::SqliteKeeper;
 use office_io::{StreamSink, StreamSource, SystemClock};
+use sqlite::{Connection, Error, ErrorCode};
 use std::process::ExitCode;
 use std::rt::Env;
 use std::{env, io};
 
+/// The status where the book's file doesn't open.
+const NOT_OPENED: u8 = 5;
 /// The status where memory runs out.
 const NO_MEMORY: u8 = 7;
 
 fn words_of<R: Env + AllocGlobal>(rt: &R) -> io::Result<Vec<String>> {
     Ok(env::args(rt)?.skip(1).collect(rt.alloc())?)
+}
+
+/// Runs the program that the words name over the real streams and clock, and a keeper.
+fn run_over<K: Keeper>(rt: &HostRuntime, words: &[String], keeper: &mut K) -> u8 {
+    let mut source = StreamSource::new(rt.stdin());
+    let mut sink = StreamSink::new(rt.stdout());
+    let clock = SystemClock::new(rt);
+    office_prog::run(rt.alloc(), words, &mut source, &mut sink, &clock, keeper)
+}
+
+/// The same, over the book in the file at the path.
+fn run_on_file(rt: &HostRuntime, path: &str, words: &[String]) -> u8 {
+    let connection = match Connection::open(rt, path) {
+        Ok(connection) => connection,
+        Err(Error::SqliteFailure(ErrorCode::OutOfMemory)) => return NO_MEMORY,
+        Err(_) => return NOT_OPENED,
+    };
+    let mut keeper = SqliteKeeper::adopt(connection);
+    let status = run_over(rt, words, &mut keeper);
+    // All that was acknowledged is kept by now. This copies the log into the file; where that fails, the next open does it.
+    let _ = keeper.release().close();
+    status
 }
 
 fn main(rt: HostRuntime) -> ExitCode {
@@ -23,17 +50,10 @@ fn main(rt: HostRuntime) -> ExitCode {
         // Arguments that can't be read are no words, and so are answered with the usage.
         Err(_) => Vec::new(rt.alloc()),
     };
-    let mut source = StreamSource::new(rt.stdin());
-    let mut sink = StreamSink::new(rt.stdout());
-    let clock = SystemClock::new(&rt);
-    let mut keeper = MemoryKeeper::new(rt.alloc());
-    let status = office_prog::run(
-        rt.alloc(),
-        &words,
-        &mut source,
-        &mut sink,
-        &clock,
-        &mut keeper,
-    );
+    let (book, others) = book_and_words(&words);
+    let status = match book {
+        Some(path) => run_on_file(&rt, path, others),
+        None => run_over(&rt, others, &mut MemoryKeeper::new(rt.alloc())),
+    };
     ExitCode::from(status)
 }

@@ -1,4 +1,7 @@
 pub mod Answer
-pub mod Words
+pub mod Task
 pub mod Run
+pub mod Opening
 pub mod Batch
+pub mod Report
+pub mod Import

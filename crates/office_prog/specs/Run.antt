@@ -1,11 +1,12 @@
 -- What the program answers to its words and its input.
 use Rattle.std.specs.Prelude.{ℕ, nat_le, if◌then◌else◌, List, [], length, codes}
 use Rattle.assess_command.specs.{declared.answer.Assessed.Assessed, Assess.assessed}
+use Rattle.made_office.specs.Lines.{made_text}
 use Rattle.office_prog.specs.Answer.{Answer}
 
 -- other words are answered with how the program is used
 abbrev pub usage : Answer
-usage = record { status = 2; text = codes "usage: office assess|batch\n" }
+usage = record { status = 2; text = codes "usage: office [--book PATH] assess|batch|voucher MONTH|export|import CLERK|due DAY|targets DAY|make N\n" }
 
 -- an assess object has at most 16,384 bytes
 abbrev pub input_limit : ℕ
@@ -19,3 +20,7 @@ answer_of (Assessed.Refused text) = record { status = 8; text = text }
 abbrev pub assess_answer : List ℕ → Answer
 assess_answer input =
     if nat_le (length input) input_limit then answer_of (assessed input) else record { status = 9; text = [] }
+
+-- what `make` writes
+abbrev pub made_answer : ℕ → Answer
+made_answer households = record { status = 0; text = made_text households }

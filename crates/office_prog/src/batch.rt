@@ -1,21 +1,17 @@
-ghost use Rattle.std.specs.Prelude.{◌≡◌, ◌≢◌, ℕ, IfOk, string_bytes};
-ghost use Rattle.office_prog.specs.Answer.{Ends};
-ghost use Rattle.office_prog.specs.Batch.{Batches, Door, status_of, bad_book, table_name};
+ghost use Rattle.std.specs.Prelude.{◌≡◌};
+ghost use Rattle.book_rows.specs.Book.{Book};
+ghost use Rattle.keeper_core.specs.Keeping.{Keeps};
+ghost use Rattle.batch_command.specs.Below.clerk_desk.Serving.{ToldBefore};
+ghost use Rattle.office_prog.specs.Batch.{Batched, status_of};
+ghost use Rattle.office_prog.specs.Opening.{Comes, door, largest};
 
-use crate::ending::finish;
-use batch_command::clerk_desk::{DeskFault, open_office};
-use batch_command::office_core::{Capacity, Fault};
+use crate::opening::{LARGEST, tell_unopened};
+use batch_command::clerk_desk::open_office;
+use batch_command::office_core::Office;
 use batch_command::{Ending, answer_lines};
-use book_rows::Table;
 use keeper_core::Keeper;
 use office_io::{Clock, Sink, Source};
-use std::alloc::{AllocError, Global};
-
-/// How much the program's book may hold.
-const LARGEST: Capacity = Capacity {
-    acts: 100_000,
-    lines: 4_000_000,
-};
+use std::alloc::Global;
 
 /// Opens the keeper's book, answers the lines of the source on it, and gives the status.
 pub fn run_batch<K: Keeper, S: Source, W: Sink, C: Clock>(
@@ -25,24 +21,44 @@ pub fn run_batch<K: Keeper, S: Source, W: Sink, C: Clock>(
     clock: &C,
     keeper: &mut K,
 ) -> u8
-    ensures { Batches (C.may_show clock.now) (K.holds keeper.old) (K.holds keeper.new) (K.bad keeper.new)
-        (record { left = S.left source.old; held = W.held sink.old; counts = record { source = S.faults source.old; sink = W.faults sink.old; keeper = K.faults keeper.old } })
-        (record { left = S.left source.new; held = W.held sink.new; counts = record { source = S.faults source.new; sink = W.faults sink.new; keeper = K.faults keeper.new } })
-        result }
+    ensures { Comes (Batched (C.may_show clock.now)) (K.holds keeper.old) (K.holds keeper.new) (K.bad keeper.new)
+        (door (S.left source.old) (W.held sink.old) (S.faults source.old) (W.faults sink.old) (K.faults keeper.old))
+        (door (S.left source.new) (W.held sink.new) (S.faults source.new) (W.faults sink.new) (K.faults keeper.new)) result }
 {
     match open_office(alloc, keeper, LARGEST) {
         Ok(mut office) => {
-            let ending = answer_lines(alloc, &mut office, source, sink, clock, keeper);
+            let status = answer_batch(alloc, &mut office, source, sink, clock, keeper);
             let _of_an_office = office.tables();
-            status_of(ending)
+            status
         }
-        Err(DeskFault::BadBook(fault)) => tell_bad_book(alloc, sink, fault),
-        Err(DeskFault::StoreFault) => 5,
-        Err(DeskFault::NoMemory) => 7,
+        Err(fault) => tell_unopened(alloc, sink, fault),
     }
 }
 
-fn status_of(ending: Ending) -> u8
+/// Answers the lines of the source, and gives the status.
+fn answer_batch<K: Keeper, S: Source, W: Sink, C: Clock>(
+    alloc: Global,
+    office: &mut Office,
+    source: &mut S,
+    sink: &mut W,
+    clock: &C,
+    keeper: &mut K,
+) -> u8
+    requires told { (book : Book) → K.holds keeper.old book → book ≡ office.old.book }
+    requires capacity { office.old.capacity ≡ largest }
+    ensures batched { Batched (C.may_show clock.now) office.old.book office.new.book
+        (door (S.left source.old) (W.held sink.old) (S.faults source.old) (W.faults sink.old) (K.faults keeper.old))
+        (door (S.left source.new) (W.held sink.new) (S.faults source.new) (W.faults sink.new) (K.faults keeper.new)) result }
+    ensures capacity { office.new.capacity ≡ office.old.capacity }
+    ensures kept { (book : Book) → K.holds keeper.new book → book ≡ office.new.book }
+    ensures told_before { ToldBefore (K.holds keeper.old) (K.holds keeper.new) }
+    ensures kept_row { Keeps (K.bad keeper.old) (K.bad keeper.new) }
+{
+    status_of(answer_lines(alloc, office, source, sink, clock, keeper))
+}
+
+/// The status of an ending.
+pub fn status_of(ending: Ending) -> u8
     ensures { result ≡ status_of ending }
 {
     match ending {
@@ -52,33 +68,5 @@ fn status_of(ending: Ending) -> u8
         Ending::StoreFault => 5,
         Ending::NoMemory => 7,
         Ending::TooLong => 9,
-    }
-}
-
-/// Writes where a book first goes wrong.
-fn tell_bad_book<W: Sink>(alloc: Global, sink: &mut W, fault: Fault) -> u8
-    ensures told { result ≢ 7 → Ends (bad_book fault) (W.held sink.old) (W.held sink.new) (W.faults sink.old) (W.faults sink.new) result }
-    ensures no_memory { result ≡ 7 → sink.new ≡ sink.old }
-{
-    match bad_book_line(alloc, fault) {
-        Ok(line) => finish(sink, 6, line.as_bytes()),
-        Err(_) => 7,
-    }
-}
-
-fn bad_book_line(alloc: Global, fault: Fault) -> Result<String, AllocError>
-    ensures { IfOk result (λ line. string_bytes line ≡ (bad_book fault).text) }
-{
-    let table = table_name(fault.table);
-    format!(in alloc; "bad book: {table} {}\n", fault.act)
-}
-
-fn table_name(table: Table) -> &'static str
-    ensures { result.now ≡ table_name table }
-{
-    match table {
-        Table::Acts => "acts",
-        Table::Records => "records",
-        Table::Lines => "lines",
     }
 }

@@ -3,8 +3,12 @@
 
 mod batch;
 mod ending;
+mod import;
+mod made;
+mod opening;
 mod program;
-mod words;
+mod report;
+mod task;
 
 pub use batch_command::{clerk_desk, office_core};
 pub use program::run;

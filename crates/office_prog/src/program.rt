@@ -4,14 +4,21 @@ ghost use Rattle.office_io.specs.Outside.{Faulted};
 ghost use Rattle.office_io.specs.Transfer.{Takes};
 ghost use Rattle.assess_command.specs.Assess.{assessed};
 ghost use Rattle.office_prog.specs.Answer.{Ends};
-ghost use Rattle.office_prog.specs.Words.{subcommand_in, asks_keeper};
-ghost use Rattle.office_prog.specs.declared.words.Subcommand.TheVariants as subcommand;
-ghost use Rattle.office_prog.specs.Run.{usage, input_limit, assess_answer, answer_of};
-ghost use Rattle.office_prog.specs.Batch.{Batches, Door};
+ghost use Rattle.office_prog.specs.Task.{task_in, asks_keeper};
+ghost use Rattle.office_prog.specs.declared.task.Task.TheVariants as task;
+ghost use Rattle.office_prog.specs.declared.report.Report.{Report};
+ghost use Rattle.office_prog.specs.Run.{usage, input_limit, assess_answer, answer_of, made_answer};
+ghost use Rattle.office_prog.specs.Opening.{Comes, door};
+ghost use Rattle.office_prog.specs.Batch.{Batched};
+ghost use Rattle.office_prog.specs.Report.{Reported};
+ghost use Rattle.office_prog.specs.Import.{Imported};
 
 use crate::batch::run_batch;
 use crate::ending::finish;
-use crate::words::{Subcommand, subcommand_in};
+use crate::import::run_import;
+use crate::made::run_make;
+use crate::report::run_report;
+use crate::task::{Task, task_in};
 use assess_command::{Assessed, assess};
 use keeper_core::Keeper;
 use office_io::{Clock, Input, Sink, Source, read_up_to};
@@ -20,10 +27,14 @@ use std::alloc::Global;
 /// The most bytes of an assess object.
 const INPUT_LIMIT: usize = 16_384;
 
+/// How the program is used.
+const USAGE: &[u8] =
+    b"usage: office [--book PATH] assess|batch|voucher MONTH|export|import CLERK|due DAY|targets DAY|make N\n";
+
 /// Runs the program that the words name, and gives its exit status.
 ///
 /// 0: answered. 2: other words. 3: the source failed. 4: the sink failed. 5: the keeper failed. 6: the book isn't an
-/// office's. 7: memory ran out. 8: the object is refused. 9: the input is too long.
+/// office's. 7: memory ran out. 8: the object or the header is refused. 9: the input is too long.
 pub fn run<K: Keeper, S: Source, W: Sink, C: Clock>(
     alloc: Global,
     words: &[String],
@@ -33,40 +44,64 @@ pub fn run<K: Keeper, S: Source, W: Sink, C: Clock>(
     keeper: &mut K,
 ) -> u8
     // Other words than the program's own are answered with its usage, and nothing is read.
-    ensures usage { subcommand_in words.now ≡ None →
+    ensures usage { task_in words.now ≡ None → result ≢ 7 →
         Ends usage (W.held sink.old) (W.held sink.new) (W.faults sink.old) (W.faults sink.new) result }
-    ensures unread { subcommand_in words.now ≡ None → source.new ≡ source.old }
+    ensures usage_no_memory { task_in words.now ≡ None → result ≡ 7 → sink.new ≡ sink.old }
+    ensures unread { task_in words.now ≡ None → source.new ≡ source.old }
 
     // Only what asks the keeper changes it.
-    ensures unkept { asks_keeper (subcommand_in words.now) ≡ false → keeper.new ≡ keeper.old }
+    ensures unkept { asks_keeper (task_in words.now) ≡ false → keeper.new ≡ keeper.old }
 
     // `assess` answers the bytes that it took, which are the whole input or one byte more than its limit.
-    ensures assess { subcommand_in words.now ≡ Some subcommand.Assess → result ≢ 3 → result ≢ 7 →
+    ensures assess { task_in words.now ≡ Some task.Assess → result ≢ 3 → result ≢ 7 →
         (input : List ℕ) × Takes input_limit (S.left source.old) (S.left source.new) input
         × (S.faults source.new ≡ S.faults source.old)
         × Ends (assess_answer input) (W.held sink.old) (W.held sink.new) (W.faults sink.old) (W.faults sink.new) result }
-    ensures told { subcommand_in words.now ≡ Some subcommand.Assess → result ≢ 3 → result ≢ 7 → IfSome (S.left source.old) (λ input.
+    ensures told { task_in words.now ≡ Some task.Assess → result ≢ 3 → result ≢ 7 → IfSome (S.left source.old) (λ input.
         Ends (assess_answer input) (W.held sink.old) (W.held sink.new) (W.faults sink.old) (W.faults sink.new) result) }
 
     // It writes nothing where the source failed or memory ran out.
-    ensures read_fault { subcommand_in words.now ≡ Some subcommand.Assess → result ≡ 3 →
+    ensures read_fault { task_in words.now ≡ Some task.Assess → result ≡ 3 →
         Faulted (S.faults source.old) (S.faults source.new) × (sink.new ≡ sink.old) }
-    ensures taken_at_fault { subcommand_in words.now ≡ Some subcommand.Assess → result ≡ 3 →
+    ensures taken_at_fault { task_in words.now ≡ Some task.Assess → result ≡ 3 →
         (input : List ℕ) × (length input ≤ input_limit) × Consumes (S.left source.old) (S.left source.new) input }
-    ensures no_memory { subcommand_in words.now ≡ Some subcommand.Assess → result ≡ 7 →
+    ensures no_memory { task_in words.now ≡ Some task.Assess → result ≡ 7 →
         (S.faults source.new ≡ S.faults source.old) × (sink.new ≡ sink.old) }
 
     // `batch` answers the lines of the input on the book that the keeper tells, and keeps each act before its reply.
-    ensures batch { subcommand_in words.now ≡ Some subcommand.Batch →
-        Batches (C.may_show clock.now) (K.holds keeper.old) (K.holds keeper.new) (K.bad keeper.new)
-        (record { left = S.left source.old; held = W.held sink.old; counts = record { source = S.faults source.old; sink = W.faults sink.old; keeper = K.faults keeper.old } })
-        (record { left = S.left source.new; held = W.held sink.new; counts = record { source = S.faults source.new; sink = W.faults sink.new; keeper = K.faults keeper.new } })
-        result }
+    ensures batch { task_in words.now ≡ Some task.Batch →
+        Comes (Batched (C.may_show clock.now)) (K.holds keeper.old) (K.holds keeper.new) (K.bad keeper.new)
+        (door (S.left source.old) (W.held sink.old) (S.faults source.old) (W.faults sink.old) (K.faults keeper.old))
+        (door (S.left source.new) (W.held sink.new) (S.faults source.new) (W.faults sink.new) (K.faults keeper.new)) result }
+
+    // A report is a function of the book that the keeper tells, which stays. Nothing is read.
+    ensures report { (report : Report) → task_in words.now ≡ Some (task.Report report) →
+        Comes (Reported report) (K.holds keeper.old) (K.holds keeper.new) (K.bad keeper.new)
+        (door (S.left source.old) (W.held sink.old) (S.faults source.old) (W.faults sink.old) (K.faults keeper.old))
+        (door (S.left source.new) (W.held sink.new) (S.faults source.new) (W.faults sink.new) (K.faults keeper.new)) result }
+
+    // `make` writes the lines of a made office. Nothing is read.
+    ensures make { (households : ℕ) → task_in words.now ≡ Some (task.Make households) → result ≢ 7 →
+        Ends (made_answer households) (W.held sink.old) (W.held sink.new) (W.faults sink.old) (W.faults sink.new) result }
+    ensures make_unread { (households : ℕ) → task_in words.now ≡ Some (task.Make households) → source.new ≡ source.old }
+    ensures make_no_memory { (households : ℕ) → task_in words.now ≡ Some (task.Make households) → result ≡ 7 → sink.new ≡ sink.old }
+
+    // `import` answers each row under the header as the clerk's call, as a batch answers its lines.
+    ensures import { (clerk : ℕ) → task_in words.now ≡ Some (task.Import clerk) →
+        Comes (Imported clerk (C.may_show clock.now)) (K.holds keeper.old) (K.holds keeper.new) (K.bad keeper.new)
+        (door (S.left source.old) (W.held sink.old) (S.faults source.old) (W.faults sink.old) (K.faults keeper.old))
+        (door (S.left source.new) (W.held sink.new) (S.faults source.new) (W.faults sink.new) (K.faults keeper.new)) result }
 {
-    match subcommand_in(words) {
-        Some(Subcommand::Assess) => read_and_assess(alloc, source, sink),
-        Some(Subcommand::Batch) => run_batch(alloc, source, sink, clock, keeper),
-        None => finish(sink, 2, b"usage: office assess|batch\n"),
+    let Ok(task) = task_in(alloc, words) else {
+        return 7;
+    };
+    match task {
+        Some(Task::Assess) => read_and_assess(alloc, source, sink),
+        Some(Task::Batch) => run_batch(alloc, source, sink, clock, keeper),
+        Some(Task::Report(report)) => run_report(alloc, report, sink, keeper),
+        Some(Task::Import(clerk)) => run_import(alloc, clerk, source, sink, clock, keeper),
+        Some(Task::Make(households)) => run_make(alloc, households, sink),
+        None => finish(sink, 2, USAGE),
     }
 }
 

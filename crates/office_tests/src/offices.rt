@@ -250,10 +250,10 @@ fn tables(rt: &impl Abort, alloc: Global, amount: i32) -> Tables {
 #[test]
 fn its_own_tables_are_opened(rt: HostRuntime) {
     let tables = tables(&rt, rt.alloc(), 548);
-    assert_opens(&rt, rt.alloc(), &tables);
+    assert_opens(&rt, rt.alloc(), tables);
 }
 
-fn assert_opens(rt: &impl Abort, alloc: Global, tables: &Tables) {
+fn assert_opens(rt: &impl Abort, alloc: Global, tables: Tables) {
     let january = on_first(5, CLOSE_JANUARY, closed(5, "2024-01"));
     match Office::open(alloc, tables, LARGEST) {
         Ok(mut office) => all_tried(rt, alloc, &mut office, &[january]),
@@ -269,6 +269,6 @@ fn a_changed_amount_is_a_fault(rt: HostRuntime) {
         table: Table::Lines,
         act: 5,
     };
-    let opened = Office::open(rt.alloc(), &tables, LARGEST);
+    let opened = Office::open(rt.alloc(), tables, LARGEST);
     assert!(rt; opened.err() == Some(OpenFault::BadBook(fault)));
 }

@@ -24,7 +24,8 @@ const EXEMPT: &str = "{\"adjusted\":0,\"annual\":0,\"assistance\":760,\"reimburs
 const HELPED: &str = "{\"adjusted\":8487,\"annual\":9600,\"assistance\":548,\"reimbursement\":0,\
     \"tenant_rent\":152,\"ttp\":212}\n";
 
-const USAGE: &str = "usage: office assess|batch\n";
+const USAGE: &str =
+    "usage: office [--book PATH] assess|batch|voucher MONTH|export|import CLERK|due DAY|targets DAY|make N\n";
 
 fn household(alloc: Global, old: &str, new: &str) -> Result<Vec<u8>, Fail> {
     let whole = HOUSEHOLD.replace(alloc, "FACTS", FACTS)?;
@@ -126,9 +127,25 @@ fn takes_16384_bytes(rt: HostRuntime) -> Result<(), Fail> {
 }
 
 #[test]
-fn takes_its_one_word(rt: HostRuntime) -> Result<(), Fail> {
+fn tells_its_usage_to_other_words(rt: HostRuntime) -> Result<(), Fail> {
     let alloc = rt.alloc();
-    for words in ["assess assess", "", "Assess", "batches"] {
+    for words in [
+        "assess assess",
+        "",
+        "Assess",
+        "batches",
+        "help",
+        "--help",
+        "export all",
+        "due",
+        "due 2024-02-30",
+        "targets 2024-1-01",
+        "import",
+        "import 0",
+        "import 01",
+        "import 10000",
+        "--book",
+    ] {
         let (status, written) = ran(alloc, words, Vec::new(alloc), None, None)?;
         assert_eq!(rt; status, 2, "{words}");
         assert_eq!(rt; written.as_slice(), USAGE.as_bytes());

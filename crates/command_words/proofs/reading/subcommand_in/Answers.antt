@@ -6,8 +6,8 @@ use Rattle.command_words.proofs.AllWords.{reads}
 use Rattle.command_words.proofs.Entering.{office_is_simple, office_is_simple_and_free}
 use Rattle.command_words.proofs.reading.subcommand_in.Goals as goal
 
-pub returns-in-Ok : goal.returns-in-Ok
-returns-in-Ok c =
+pub returns-in-Ok-clause-exact : goal.returns-in-Ok-clause-exact
+returns-in-Ok-clause-exact c =
     let words = map string_bytes c.args.words.now in
     let app : app_of c.in_ok-office.office ≡ office_app = c.in_ok-office.ensures in
     let plain = sym c.has_hyphens.ensures ∙ c.if-has_hyphens.false in
@@ -15,15 +15,15 @@ returns-in-Ok c =
     let rows = (c.in-Ok.ensures.matches (ap is_simple app ∙ office_is_simple)).1 ∙ ap (λ a. subcommand_of a words) app in
     let passed = ap (λ a. fault_of a words) (sym app) ∙ c.in-Ok.ensures.kinds (ap is_simple_and_free app ∙ office_is_simple_and_free) in
     elim (reads words plain) [
-      | inl taken ↦ c.asked.ensures ∙ ap asked rows ∙ taken.1 ∙ sym whole
+      | inl taken ↦ c.asked.ensures.exact ∙ ap asked rows ∙ taken.1 ∙ sym whole
       | inr refused ↦
           let (k, ks, fault, none) = refused in
           let never : k ∷ ks ≡ [] = sym fault ∙ passed in
           absurd (cc never)
     ]
 
-pub returns : goal.returns
-returns c =
+pub returns-clause-exact : goal.returns-clause-exact
+returns-clause-exact c =
     let words = map string_bytes c.args.words.now in
     let app : app_of c.in_ok-office.office ≡ office_app = c.in_ok-office.ensures in
     let plain = sym c.has_hyphens.ensures ∙ c.if-has_hyphens.false in

@@ -1,10 +1,20 @@
-use Rattle.std.proofs.Common.{inl}
+use Rattle.std.proofs.Common.{inl, inr, refl, ◌∙◌}
+use Rattle.office_prog.specs.Batch.{Batched}
 use Rattle.office_prog.proofs.Serving.{served}
 use Rattle.office_prog.proofs.batch.run_batch.Goals as goal
 
 pub returns-in-Ok : goal.returns-in-Ok
 returns-in-Ok g c =
-    inl (served _ _ _ _ _ _ _ _ _ _ _ _ _ _ _ _ _ _ _ _ _ c.in-Ok.ensures.valid c.in-Ok.ensures.capacity
-    c.answer_lines-ending.ensures.capacity c.tables-of_an_office.ensures.reached c.tables-of_an_office.ensures.upheld c.in-Ok.ensures.told c.in-Ok.ensures.kept
-    c.in-Ok.ensures.no_fault c.answer_lines-ending.ensures.kept c.answer_lines-ending.ensures.told_before c.answer_lines-ending.ensures.kept_row c.answer_lines-ending.ensures.ran
-    c.answer_lines-ending.ensures.blames c.status_of.ensures)
+    inl (served (Batched (g.C.Clock.may_show c.args.clock.now)) _ _ _ _ _ _ _ _ _ _ _ _ _ _ _ _ c.in-Ok.ensures.valid (c.answer_batch-status.ensures.capacity ∙ c.in-Ok.ensures.capacity)
+    c.tables-of_an_office.ensures.reached c.tables-of_an_office.ensures.upheld c.in-Ok.ensures.told c.in-Ok.ensures.kept c.in-Ok.ensures.no_fault
+    c.answer_batch-status.ensures.kept c.answer_batch-status.ensures.told_before c.answer_batch-status.ensures.kept_row c.answer_batch-status.ensures.batched)
+
+pub returns-in-Err : goal.returns-in-Err
+returns-in-Err g c = inr (record {
+  why = c.in-Err.fault;
+  is_why = c.in-Err.ensures.unopened;
+  kept = c.in-Err.ensures.kept;
+  unread = refl;
+  unfaulted = refl;
+  told = c.tell_unopened.ensures _ _ _ _ c.in-Err.ensures.cause;
+})

@@ -1,0 +1,6 @@
+mod Asked
+mod Counted
+mod Told
+mod Headed
+mod Parts
+mod Rows

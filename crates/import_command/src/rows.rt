@@ -1,0 +1,42 @@
+ghost use Rattle.std.specs.Prelude.{◌≡◌, ℕ, true, Some, All};
+ghost use Rattle.book_rows.specs.Book.{Book};
+ghost use Rattle.keeper_core.specs.Keeping.{Keeps};
+ghost use Rattle.applicant_rows.specs.Applicants.{is_fit_row};
+ghost use Rattle.batch_command.specs.Below.clerk_desk.Serving.{ToldBefore};
+ghost use Rattle.batch_command.specs.Line.{LineBlames};
+ghost use Rattle.import_command.specs.Rows.{RowsRan};
+
+use crate::row::answer_row;
+use applicant_rows::ImportRow;
+use batch_command::Ending;
+use batch_command::office_core::Office;
+use keeper_core::Keeper;
+use office_io::{Clock, Sink};
+use std::alloc::Global;
+
+/// Answers the rows, one after another. An answer is written once its act is kept.
+pub fn answer_rows<K: Keeper, W: Sink, C: Clock>(
+    alloc: Global,
+    office: &mut Office,
+    rows: Vec<ImportRow>,
+    sink: &mut W,
+    clock: &C,
+    keeper: &mut K,
+) -> Ending
+    requires told { (book : Book) → K.holds keeper.old book → book ≡ office.old.book }
+    requires fit { All (λ row. is_fit_row row ≡ true) rows.items }
+    ensures ran { RowsRan office.old.capacity (C.may_show clock.now) rows.items office.old.book office.new.book
+        (W.held sink.old) (W.held sink.new) result }
+    ensures capacity { office.new.capacity ≡ office.old.capacity }
+    ensures kept { (book : Book) → K.holds keeper.new book → book ≡ office.new.book }
+    ensures told_before { ToldBefore (K.holds keeper.old) (K.holds keeper.new) }
+    ensures kept_row { Keeps (K.bad keeper.old) (K.bad keeper.new) }
+    ensures blames { LineBlames (W.faults sink.old) (W.faults sink.new) (K.faults keeper.old) (K.faults keeper.new) (Some result) }
+{
+    for row in rows {
+        if let Some(ending) = answer_row(alloc, office, row, sink, clock, keeper) {
+            return ending;
+        }
+    }
+    Ending::Done
+}

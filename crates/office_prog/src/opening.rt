@@ -1,0 +1,57 @@
+ghost use Rattle.std.specs.Prelude.{◌≡◌, ℕ, Option, List, IfOk, string_bytes};
+ghost use Rattle.batch_command.specs.Below.clerk_desk.Opening.{BlamesKeeper};
+ghost use Rattle.office_prog.specs.Opening.{Says, Tells, bad_book, door, table_name};
+
+use crate::ending::finish;
+use batch_command::clerk_desk::DeskFault;
+use batch_command::office_core::{Capacity, Fault};
+use book_rows::Table;
+use office_io::Sink;
+use std::alloc::{AllocError, Global};
+
+/// How much the program's book may hold.
+pub const LARGEST: Capacity = Capacity {
+    acts: 100_000,
+    lines: 4_000_000,
+};
+
+/// Says why the keeper's book can't be opened, and gives the status.
+pub fn tell_unopened<W: Sink>(alloc: Global, sink: &mut W, fault: DeskFault) -> u8
+    ensures { (left : Option (List ℕ)) (source keeper keeper_now : ℕ) → BlamesKeeper keeper keeper_now fault →
+        Tells (door left (W.held sink.old) source (W.faults sink.old) keeper)
+        (door left (W.held sink.new) source (W.faults sink.new) keeper_now) fault result }
+{
+    match fault {
+        DeskFault::BadBook(found) => tell_bad_book(alloc, sink, found),
+        DeskFault::StoreFault => 5,
+        DeskFault::NoMemory => 7,
+    }
+}
+
+/// Writes where a book first goes wrong.
+fn tell_bad_book<W: Sink>(alloc: Global, sink: &mut W, fault: Fault) -> u8
+    ensures { (left : Option (List ℕ)) (source keeper : ℕ) → Says (bad_book fault)
+        (door left (W.held sink.old) source (W.faults sink.old) keeper) (door left (W.held sink.new) source (W.faults sink.new) keeper) result }
+{
+    match bad_book_line(alloc, fault) {
+        Ok(line) => finish(sink, 6, line.as_bytes()),
+        Err(_) => 7,
+    }
+}
+
+fn bad_book_line(alloc: Global, fault: Fault) -> Result<String, AllocError>
+    ensures { IfOk result (λ line. string_bytes line ≡ (bad_book fault).text) }
+{
+    let table = table_name(fault.table);
+    format!(in alloc; "bad book: {table} {}\n", fault.act)
+}
+
+fn table_name(table: Table) -> &'static str
+    ensures { result.now ≡ table_name table }
+{
+    match table {
+        Table::Acts => "acts",
+        Table::Records => "records",
+        Table::Lines => "lines",
+    }
+}
