@@ -1,4 +1,4 @@
-//! Tests of messages, responses and routes.
+//! Tests of messages, responses, routes and sessions.
 #![tactic(auto)]
 
 #[cfg(test)]
@@ -7,3 +7,5 @@ mod messages;
 mod responses;
 #[cfg(test)]
 mod routes;
+#[cfg(test)]
+mod sessions;

@@ -1,0 +1,4 @@
+pub mod Completeness
+pub mod Replies
+pub mod Sessions
+pub mod Turns
