@@ -6,7 +6,7 @@ use Rattle.serde_json.specs.Written.{compact_text}
 use Rattle.json.specs.Print.{escape_byte}
 use Rattle.json_form.specs.Written.{day_data, number_data}
 use Rattle.command_forms.specs.Commands.{body_of}
-use Rattle.made_office.specs.{declared.act.MadeAct.MadeAct, Lines.line_data, Lines.line_text}
+use Rattle.made_office.specs.{declared.act.MadeAct.MadeAct, Lines.line_data, Lines.made_line}
 
 concat_more : (parts : List (List ℕ)) (part : List ℕ) → concat (parts ++ part ∷ []) ≡ concat parts ++ part
 concat_more [] part = append-nil part
@@ -30,22 +30,19 @@ line_parts request asked =
     ++ (codes ",\"today\":" ++ (compact_text (day_data asked.day) ++ codes "}"))))))))
     (sym (decimal_digit 1 (omega arith)))
 
-pub line_grown : (request : ℕ) (asked : MadeAct) (old body number day t u v w x y z all : List ℕ)
+pub line_grown : (request : ℕ) (asked : MadeAct) (old body number day t u v w x y z : List ℕ)
     → body ≡ body_of asked.command → number ≡ decimal request → day ≡ compact_text (day_data asked.day)
-    → t ≡ old ++ codes "{\"act\":" → u ≡ t ++ body → v ≡ u ++ codes ",\"clerk\":1,\"request\":" → w ≡ v ++ number
-    → x ≡ w ++ codes ",\"today\":" → y ≡ x ++ day → z ≡ y ++ codes "}" → all ≡ z ++ 10 ∷ []
-    → all ≡ old ++ line_text (request, asked)
-line_grown request asked old body number day t u v w x y z all is_body is_number is_day e₁ e₂ e₃ e₄ e₅ e₆ e₇ e₈ =
+    → old ≡ [] → t ≡ old ++ codes "{\"act\":" → u ≡ t ++ body → v ≡ u ++ codes ",\"clerk\":1,\"request\":" → w ≡ v ++ number
+    → x ≡ w ++ codes ",\"today\":" → y ≡ x ++ day → z ≡ y ++ codes "}"
+    → z ≡ made_line (request, asked)
+line_grown request asked old body number day t u v w x y z is_body is_number is_day empty e₁ e₂ e₃ e₄ e₅ e₆ e₇ =
     let a = codes "{\"act\":" in
     let c = codes ",\"clerk\":1,\"request\":" in
     let e = codes ",\"today\":" in
-    let one = grown old [] a old t (sym (append-nil old)) e₁ in
-    let two = grown old (a ∷ []) body t u one e₂ in
-    let three = grown old (a ∷ body ∷ []) c u v two e₃ in
-    let four = grown old (a ∷ body ∷ c ∷ []) number v w three e₄ in
-    let five = grown old (a ∷ body ∷ c ∷ number ∷ []) e w x four e₅ in
-    let six = grown old (a ∷ body ∷ c ∷ number ∷ e ∷ []) day x y five e₆ in
-    let seven = grown old (a ∷ body ∷ c ∷ number ∷ e ∷ day ∷ []) (codes "}") y z six e₇ in
-    e₈ ∙ ap (λ text. text ++ 10 ∷ []) seven ∙ append_assoc old (concat (parts_of body number day)) (10 ∷ [])
-    ∙ (λ i. old ++ (concat (parts_of (is_body i) (is_number i) (is_day i)) ++ 10 ∷ []))
-    ∙ ap (λ text. old ++ (text ++ 10 ∷ [])) (line_parts request asked)
+    let two = grown [] (a ∷ []) body t u (e₁ ∙ ap (λ text. text ++ a) empty) e₂ in
+    let three = grown [] (a ∷ body ∷ []) c u v two e₃ in
+    let four = grown [] (a ∷ body ∷ c ∷ []) number v w three e₄ in
+    let five = grown [] (a ∷ body ∷ c ∷ number ∷ []) e w x four e₅ in
+    let six = grown [] (a ∷ body ∷ c ∷ number ∷ e ∷ []) day x y five e₆ in
+    let seven = grown [] (a ∷ body ∷ c ∷ number ∷ e ∷ day ∷ []) (codes "}") y z six e₇ in
+    seven ∙ (λ i. concat (parts_of (is_body i) (is_number i) (is_day i))) ∙ line_parts request asked

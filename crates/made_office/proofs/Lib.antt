@@ -1,2 +1,2 @@
 mod Grown
-mod Numbered
+pub mod Numbered

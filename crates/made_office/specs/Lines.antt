@@ -15,9 +15,13 @@ line_data request asked = object (
     member (codes "request") (number_data request) (
     member (codes "today") (day_data asked.day) no_members))))
 
--- compact JSON and a line end
+-- compact JSON
+abbrev pub made_line : ℕ × MadeAct → List ℕ
+made_line numbered = compact_text (line_data numbered.0 numbered.1)
+
+-- and a line end
 abbrev pub line_text : ℕ × MadeAct → List ℕ
-line_text numbered = compact_text (line_data numbered.0 numbered.1) ++ 10 ∷ []
+line_text numbered = made_line numbered ++ 10 ∷ []
 
 -- with requests from 1 on
 abbrev pub made_text : ℕ → List ℕ

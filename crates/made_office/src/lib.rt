@@ -12,5 +12,5 @@ mod months;
 mod opening;
 
 pub use act::MadeAct;
-pub use lines::made_lines;
+pub use lines::{made_line, made_lines};
 pub use months::made_acts;

@@ -4,7 +4,7 @@ ghost use Rattle.std.specs.Prelude.{◌≡◌, ◌++◌, IfOk, OnOk, flat_map};
 ghost use Rattle.std.specs.List.{enumerate_from};
 ghost use Rattle.serde_json.specs.Written.{compact_text};
 ghost use Rattle.json_form.specs.Written.{day_data};
-ghost use Rattle.made_office.specs.Lines.{line_text, made_text};
+ghost use Rattle.made_office.specs.Lines.{line_text, made_line, made_text};
 
 use crate::MadeAct;
 use crate::months::made_acts;
@@ -37,17 +37,27 @@ fn lines_of(alloc: Global, acts: &[MadeAct]) -> Result<Text, NoMemory>
 fn push_line(alloc: Global, text: &mut Vec<u8>, request: u64, act: &MadeAct) -> Result<(), NoMemory>
     ensures { OnOk result (text.new.items ≡ text.old.items ++ line_text (request, act.now)) }
 {
+    let line = made_line(alloc, request, act)?;
+    push(text, line.as_bytes())?;
+    push(text, b"\n")
+}
+
+/// The act as a line of a batch, without its line end: the call of clerk 1 with the request of that number.
+pub fn made_line(alloc: Global, request: u64, act: &MadeAct) -> Result<Text, NoMemory>
+    ensures { IfOk result (λ line. line ≡ made_line (request, act.now)) }
+{
     let body = body_of_command(alloc, &act.command)?;
     let request = number_text(alloc, request)?;
     let day = written_day(alloc, act.day)?;
-    push(text, b"{\"act\":")?;
-    push(text, body.as_bytes())?;
-    push(text, b",\"clerk\":1,\"request\":")?;
-    push(text, request.as_bytes())?;
-    push(text, b",\"today\":")?;
-    push(text, day.as_bytes())?;
-    push(text, b"}")?;
-    push(text, b"\n")
+    let mut line = Vec::new(alloc);
+    push(&mut line, b"{\"act\":")?;
+    push(&mut line, body.as_bytes())?;
+    push(&mut line, b",\"clerk\":1,\"request\":")?;
+    push(&mut line, request.as_bytes())?;
+    push(&mut line, b",\"today\":")?;
+    push(&mut line, day.as_bytes())?;
+    push(&mut line, b"}")?;
+    Ok(Text::new(line))
 }
 
 /// The day as JSON.
