@@ -9,4 +9,4 @@ pub use batch::answer_lines;
 pub use clerk_desk;
 pub use clerk_desk::office_core;
 pub use ending::Ending;
-pub use line::{answer_bad_form, answer_call, write_answer};
+pub use line::{answer_bad_form, answer_call, answer_of_line, write_answer};

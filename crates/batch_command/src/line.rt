@@ -43,14 +43,32 @@ pub fn answer_line<K: Keeper, W: Sink, C: Clock>(
     ensures kept_row { Keeps (K.bad keeper.old) (K.bad keeper.new) }
     ensures blames { LineBlames (W.faults sink.old) (W.faults sink.new) (K.faults keeper.old) (K.faults keeper.new) result }
 {
-    let today = clock.today();
-    if is_passed_over(line) {
-        return None;
-    }
-    match told(alloc, office, keeper, today, line) {
+    match answer_of_line(alloc, office, keeper, clock.today(), line) {
         Ok(text) => write_answer(sink, &text),
         Err(ending) => Some(ending),
     }
+}
+
+/// What a line is answered with while the clock shows the day, with its line end; nothing where it is passed over.
+pub fn answer_of_line<K: Keeper>(
+    alloc: Global,
+    office: &mut Office,
+    keeper: &mut K,
+    today: Day,
+    line: &[u8],
+) -> Result<Text, Ending>
+    requires { (book : Book) → K.holds keeper.old book → book ≡ office.old.book }
+    ensures told { Tells (told_of office.old.capacity office.old.book (record { line = line.now; day = today })) office.old.book office.new.book result }
+    ensures capacity { office.new.capacity ≡ office.old.capacity }
+    ensures kept { (book : Book) → K.holds keeper.new book → book ≡ office.new.book }
+    ensures told_before { ToldBefore (K.holds keeper.old) (K.holds keeper.new) }
+    ensures kept_row { Keeps (K.bad keeper.old) (K.bad keeper.new) }
+    ensures blames { TellBlames (K.faults keeper.old) (K.faults keeper.new) result }
+{
+    if is_passed_over(line) {
+        return Ok(Text::new(Vec::new(alloc)));
+    }
+    told(alloc, office, keeper, today, line)
 }
 
 /// Writes an answer. None says that it was written whole.
