@@ -1,5 +1,7 @@
 use crate::offices::office_after;
+use batch_command::office_core::Capacity;
 use made_office::made_lines;
+use office_trial::trial;
 use plain_data::{NoMemory, Text};
 use std::alloc::Global;
 use std::process::Abort;
@@ -68,5 +70,21 @@ fn each_line_of_one_unit_is_accepted(rt: HostRuntime) -> Result<(), Fail> {
     assert!(rt; lines.len() == 23);
     assert!(rt; total_of(alloc, lines, true)? == 13_478);
     assert!(rt; total_of(alloc, lines, false)? == -325);
+    Ok(())
+}
+
+#[test]
+fn one_unit_tried(rt: HostRuntime) -> Result<(), Fail> {
+    let capacity = Capacity {
+        acts: 34,
+        lines: 23,
+    };
+    match trial(rt.alloc(), capacity, 1) {
+        Ok(text) => {
+            let wanted = b"acts 34\nlines 23\nrequested 13478\nadjustments -325\ntotal 13153\n";
+            assert!(&rt; text.as_bytes() == wanted.as_slice(), "{text:?}");
+        }
+        Err(NoMemory) => panic!(&rt; "no memory"),
+    }
     Ok(())
 }
