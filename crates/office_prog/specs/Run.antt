@@ -2,11 +2,12 @@
 use Rattle.std.specs.Prelude.{ℕ, nat_le, if◌then◌else◌, List, [], length, codes}
 use Rattle.assess_command.specs.{declared.answer.Assessed.Assessed, Assess.assessed}
 use Rattle.made_office.specs.Lines.{made_text}
-use Rattle.office_prog.specs.Answer.{Answer}
+use Rattle.office_trial.specs.Trial.{trial_text}
+use Rattle.office_prog.specs.{Answer.Answer, Opening.largest}
 
 -- other words are answered with how the program is used
 abbrev pub usage : Answer
-usage = record { status = 2; text = codes "usage: office [--book PATH] assess|batch|voucher MONTH|export|import CLERK|due DAY|targets DAY|make N\n" }
+usage = record { status = 2; text = codes "usage: office [--book PATH] assess|batch|voucher MONTH|export|import CLERK|due DAY|targets DAY|make N|trial N\n" }
 
 -- an assess object has at most 16,384 bytes
 abbrev pub input_limit : ℕ
@@ -24,3 +25,7 @@ assess_answer input =
 -- what `make` writes
 abbrev pub made_answer : ℕ → Answer
 made_answer households = record { status = 0; text = made_text households }
+
+-- what `trial` writes
+abbrev pub trial_answer : ℕ → Answer
+trial_answer households = record { status = 0; text = trial_text largest households }

@@ -1,4 +1,4 @@
--- What the words of the command line ask, as far as the program is built.
+-- What the words of the command line ask.
 use Rattle.std.specs.Prelude.{◌≤◌, ⊤, Bool, true, false, Option, Some, None, List, map, String, string_bytes}
 use Rattle.std.specs.declared.alloc.Global.{Global}
 use Rattle.std.specs.Option.{option_and_then}
@@ -14,7 +14,7 @@ built (Subcommand.Targets day) = Some (Task.Report (Report.Targets day))
 built (Subcommand.Import clerk) = Some (Task.Import clerk)
 built (Subcommand.Voucher month) = Some (Task.Report (Report.Voucher month))
 built (Subcommand.Make households) = Some (Task.Make households)
-built (Subcommand.Trial households) = None
+built (Subcommand.Trial households) = Some (Task.Trial households)
 
 -- what the words ask
 abbrev pub task_in : List (String Global) → Option Task

@@ -1,10 +1,12 @@
 ghost use Rattle.std.specs.Prelude.{◌≡◌, ◌≢◌};
 ghost use Rattle.office_prog.specs.Answer.{Ends};
-ghost use Rattle.office_prog.specs.Run.{made_answer};
+ghost use Rattle.office_prog.specs.Run.{made_answer, trial_answer};
 
 use crate::ending::finish;
+use crate::opening::LARGEST;
 use made_office::made_lines;
 use office_io::Sink;
+use office_trial::trial;
 use std::alloc::Global;
 
 /// Writes the lines of a made office of so many households, and gives the status.
@@ -14,6 +16,18 @@ pub fn run_make<W: Sink>(alloc: Global, households: u32, sink: &mut W) -> u8
     ensures no_memory { result ≡ 7 → sink.new ≡ sink.old }
 {
     match made_lines(alloc, households) {
+        Ok(text) => finish(sink, 0, text.as_bytes()),
+        Err(_) => 7,
+    }
+}
+
+/// Answers these lines on an office in memory, writes what that comes to, and gives the status.
+pub fn run_trial<W: Sink>(alloc: Global, households: u32, sink: &mut W) -> u8
+    ensures trial { result ≢ 7 → Ends (trial_answer households) (W.held sink.old) (W.held sink.new)
+        (W.faults sink.old) (W.faults sink.new) result }
+    ensures no_memory { result ≡ 7 → sink.new ≡ sink.old }
+{
+    match trial(alloc, LARGEST, households) {
         Ok(text) => finish(sink, 0, text.as_bytes()),
         Err(_) => 7,
     }

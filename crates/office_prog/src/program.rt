@@ -7,7 +7,7 @@ ghost use Rattle.office_prog.specs.Answer.{Ends};
 ghost use Rattle.office_prog.specs.Task.{task_in, asks_keeper};
 ghost use Rattle.office_prog.specs.declared.task.Task.TheVariants as task;
 ghost use Rattle.office_prog.specs.declared.report.Report.{Report};
-ghost use Rattle.office_prog.specs.Run.{usage, input_limit, assess_answer, answer_of, made_answer};
+ghost use Rattle.office_prog.specs.Run.{usage, input_limit, assess_answer, answer_of, made_answer, trial_answer};
 ghost use Rattle.office_prog.specs.Opening.{Comes, door};
 ghost use Rattle.office_prog.specs.Batch.{Batched};
 ghost use Rattle.office_prog.specs.Report.{Reported};
@@ -16,7 +16,7 @@ ghost use Rattle.office_prog.specs.Import.{Imported};
 use crate::batch::run_batch;
 use crate::ending::finish;
 use crate::import::run_import;
-use crate::made::run_make;
+use crate::made::{run_make, run_trial};
 use crate::report::run_report;
 use crate::task::{Task, task_in};
 use assess_command::{Assessed, assess};
@@ -29,7 +29,7 @@ const INPUT_LIMIT: usize = 16_384;
 
 /// How the program is used.
 const USAGE: &[u8] =
-    b"usage: office [--book PATH] assess|batch|voucher MONTH|export|import CLERK|due DAY|targets DAY|make N\n";
+    b"usage: office [--book PATH] assess|batch|voucher MONTH|export|import CLERK|due DAY|targets DAY|make N|trial N\n";
 
 /// Runs the program that the words name, and gives its exit status.
 ///
@@ -86,6 +86,12 @@ pub fn run<K: Keeper, S: Source, W: Sink, C: Clock>(
     ensures make_unread { (households : ℕ) → task_in words.now ≡ Some (task.Make households) → source.new ≡ source.old }
     ensures make_no_memory { (households : ℕ) → task_in words.now ≡ Some (task.Make households) → result ≡ 7 → sink.new ≡ sink.old }
 
+    // `trial` sums up what these lines come to on an office in memory. Nothing is read.
+    ensures trial { (households : ℕ) → task_in words.now ≡ Some (task.Trial households) → result ≢ 7 →
+        Ends (trial_answer households) (W.held sink.old) (W.held sink.new) (W.faults sink.old) (W.faults sink.new) result }
+    ensures trial_unread { (households : ℕ) → task_in words.now ≡ Some (task.Trial households) → source.new ≡ source.old }
+    ensures trial_no_memory { (households : ℕ) → task_in words.now ≡ Some (task.Trial households) → result ≡ 7 → sink.new ≡ sink.old }
+
     // `import` answers each row under the header as the clerk's call, as a batch answers its lines.
     ensures import { (clerk : ℕ) → task_in words.now ≡ Some (task.Import clerk) →
         Comes (Imported clerk (C.may_show clock.now)) (K.holds keeper.old) (K.holds keeper.new) (K.bad keeper.new)
@@ -101,6 +107,7 @@ pub fn run<K: Keeper, S: Source, W: Sink, C: Clock>(
         Some(Task::Report(report)) => run_report(alloc, report, sink, keeper),
         Some(Task::Import(clerk)) => run_import(alloc, clerk, source, sink, clock, keeper),
         Some(Task::Make(households)) => run_make(alloc, households, sink),
+        Some(Task::Trial(households)) => run_trial(alloc, households, sink),
         None => finish(sink, 2, USAGE),
     }
 }

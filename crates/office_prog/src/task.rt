@@ -20,6 +20,8 @@ pub enum Task {
     Import(u32),
     /// To write the lines of a made office of so many households, from 1 to 300.
     Make(u32),
+    /// To answer these lines in memory, and to sum up what that comes to.
+    Trial(u32),
 }
 
 /// What the words ask, and None where they ask nothing that the program does.
@@ -47,6 +49,6 @@ fn built(subcommand: Subcommand) -> Option<Task>
         Subcommand::Import(clerk) => Some(Task::Import(clerk)),
         Subcommand::Voucher(month) => Some(Task::Report(Report::Voucher(month))),
         Subcommand::Make(households) => Some(Task::Make(households)),
-        Subcommand::Trial(_) => None,
+        Subcommand::Trial(households) => Some(Task::Trial(households)),
     }
 }

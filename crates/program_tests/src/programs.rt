@@ -25,7 +25,7 @@ const HELPED: &str = "{\"adjusted\":8487,\"annual\":9600,\"assistance\":548,\"re
     \"tenant_rent\":152,\"ttp\":212}\n";
 
 const USAGE: &str =
-    "usage: office [--book PATH] assess|batch|voucher MONTH|export|import CLERK|due DAY|targets DAY|make N\n";
+    "usage: office [--book PATH] assess|batch|voucher MONTH|export|import CLERK|due DAY|targets DAY|make N|trial N\n";
 
 fn household(alloc: Global, old: &str, new: &str) -> Result<Vec<u8>, Fail> {
     let whole = HOUSEHOLD.replace(alloc, "FACTS", FACTS)?;
