@@ -3,12 +3,12 @@ ghost use Rattle.days_core.specs.Calendar.{last_day};
 
 use days_core::Day;
 use keeper_core::MemoryKeeper;
-use office_io::{Clock, MemorySink, MemorySource};
-use office_prog::run;
+use office_io::Clock;
+use run_harness::{ran_by, without_fault};
 use sample_office::{PLAN, RENTS, UNIT, day, written};
+use std::alloc::Global;
 use std::cell::Cell;
 use std::process::Abort;
-use std::test::Fail;
 
 /// Shows the next day each time that it is asked.
 #[derive(Drop)]
@@ -31,26 +31,26 @@ const REPLIES: &str = "{'act':1,'day':'2024-01-01','made':null}\n\
     {'act':1,'day':'2024-01-01','made':null}\n\
     {'act':3,'day':'2024-01-04','made':null}\n";
 
+/// Lines that name no day: three acts, with the first once more as the third.
+fn dayless_lines(rt: &impl Abort, alloc: Global) -> Vec<u8> {
+    let text = format!(in alloc;
+        "{{'clerk':1,'request':1,'act':{PLAN}}}\n{{'clerk':1,'request':2,'act':{UNIT}}}\n\
+        {{'clerk':1,'request':1,'act':{PLAN}}}\n{{'clerk':1,'request':3,'act':{RENTS}}}\n"
+    );
+    let text = text.expect(rt, "memory");
+    written(alloc, &text).expect(rt, "memory").into_bytes()
+}
+
 // Each act is of the day that the clock shows for its line; a repeat keeps its own.
 #[test]
-fn a_clock_goes_on_between_lines(rt: HostRuntime) -> Result<(), Fail> {
+fn a_clock_goes_on_between_lines(rt: HostRuntime) {
     let alloc = rt.alloc();
-    let mut text = String::new(alloc);
-    for (request, act) in [(1u64, PLAN), (2, UNIT), (1, PLAN), (3, RENTS)] {
-        let line = format!(in alloc; "{{'clerk':1,'request':{request},'act':{act}}}\n")?;
-        text.push_str(&line)?;
-    }
-    let input = written(alloc, &text)?.into_bytes();
-    let mut source = MemorySource::new(input, Vec::new(alloc), 700);
-    let mut sink = MemorySink::new(alloc, 900, Vec::new(alloc), 40)?;
+    let input = dayless_lines(&rt, alloc);
     let clock = TurningClock {
         shown: Cell::new(day("2024-01-01").number()),
     };
     let mut keeper = MemoryKeeper::new(alloc);
-    let words = ["batch".to_string(alloc)?];
-    let status = run(alloc, &words, &mut source, &mut sink, &clock, &mut keeper);
-    assert_eq!(rt; status, 0);
-    let replies = String::from_utf8(sink.into_bytes())?;
-    assert_eq!(rt; replies.replace(alloc, "\"", "'")?.as_str(), REPLIES);
-    Ok(())
+    let trial = without_fault("batch");
+    let told = ran_by(&rt, alloc, &mut keeper, &clock, &trial, &input);
+    assert!(rt; told.is(0, REPLIES));
 }

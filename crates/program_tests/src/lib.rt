@@ -1,4 +1,4 @@
-//! Tests of the program over streams and keepers in memory.
+//! Tests of the program's `assess` and `batch` over streams and keepers in memory.
 #![tactic(auto)]
 
 #[cfg(test)]

@@ -1,0 +1,120 @@
+use keeper_core::Keeper;
+use office_io::{Clock, FixedClock, MemorySink, MemorySource};
+use office_prog::run;
+use sample_office::day;
+use std::alloc::Global;
+use std::process::Abort;
+
+/// The words of a run, with blanks between them; the calls of its source and its sink that are to fail; and the most bytes
+/// that one call takes.
+#[derive(Clone, Copy)]
+pub struct Trial<'a> {
+    pub words: &'a str,
+    pub unread: Option<u64>,
+    pub unwritten: Option<u64>,
+    pub at_once: usize,
+}
+
+/// A run on these words without a fault, by 40 bytes at once.
+pub fn without_fault(words: &str) -> Trial<'_> {
+    Trial {
+        words,
+        unread: None,
+        unwritten: None,
+        at_once: 40,
+    }
+}
+
+/// The status of a run, and what it wrote, with ' for ".
+#[derive(Drop)]
+pub struct Told {
+    pub status: u8,
+    pub text: String,
+}
+
+impl Told {
+    /// Whether the status is this one, and the text too.
+    pub fn is(&self, status: u8, text: &str) -> bool {
+        self.status == status && self.text.as_str() == text
+    }
+
+    /// Whether the status is this one, and the text has so many lines.
+    pub fn has_lines(&self, status: u8, count: usize) -> bool {
+        self.status == status && self.text.lines().count() == count
+    }
+
+    /// Whether the status is this one, and the text a beginning of the other.
+    pub fn begins(&self, status: u8, whole: &str) -> bool {
+        self.status == status && whole.starts_with(self.text.as_str())
+    }
+}
+
+/// Runs the program on the keeper's book, while the clock shows 2 January 2024.
+pub fn ran<K: Keeper>(
+    rt: &impl Abort,
+    alloc: Global,
+    keeper: &mut K,
+    trial: &Trial,
+    input: &[u8],
+) -> Told {
+    ran_by(
+        rt,
+        alloc,
+        keeper,
+        &FixedClock::new(day("2024-01-02")),
+        trial,
+        input,
+    )
+}
+
+/// Runs the program on the keeper's book, by that clock.
+pub fn ran_by<K: Keeper, C: Clock>(
+    rt: &impl Abort,
+    alloc: Global,
+    keeper: &mut K,
+    clock: &C,
+    trial: &Trial,
+    input: &[u8],
+) -> Told {
+    let mut source = source(rt, alloc, trial, input);
+    let mut sink = sink(rt, alloc, trial);
+    let words = words(rt, alloc, trial.words);
+    let status = run(alloc, &words, &mut source, &mut sink, clock, keeper);
+    Told {
+        status,
+        text: written(rt, alloc, sink),
+    }
+}
+
+fn words(rt: &impl Abort, alloc: Global, words: &str) -> Vec<String> {
+    let mut all = Vec::new(alloc);
+    for word in words.split_whitespace() {
+        let word = word.to_string(alloc).expect(rt, "memory");
+        all.push(word).expect(rt, "memory");
+    }
+    all
+}
+
+fn source(rt: &impl Abort, alloc: Global, trial: &Trial, input: &[u8]) -> MemorySource {
+    let bytes = input.to_vec(alloc).expect(rt, "memory");
+    let failing = calls(rt, alloc, trial.unread);
+    MemorySource::new(bytes, failing, trial.at_once.max(1))
+}
+
+fn sink(rt: &impl Abort, alloc: Global, trial: &Trial) -> MemorySink {
+    let failing = calls(rt, alloc, trial.unwritten);
+    MemorySink::new(alloc, 2_000, failing, trial.at_once.max(1)).expect(rt, "memory")
+}
+
+fn calls(rt: &impl Abort, alloc: Global, failing: Option<u64>) -> Vec<u64> {
+    let mut calls = Vec::new(alloc);
+    if let Some(call) = failing {
+        calls.push(call).expect(rt, "memory");
+    }
+    calls
+}
+
+fn written(rt: &impl Abort, alloc: Global, sink: MemorySink) -> String {
+    let text = String::from_utf8(sink.into_bytes()).expect(rt, "a text");
+    text.replace(alloc, "\"", "'").expect(rt, "memory")
+}
