@@ -1,0 +1,5 @@
+//! Tests of the program's reports over keepers in memory.
+#![tactic(auto)]
+
+#[cfg(test)]
+mod reports;
