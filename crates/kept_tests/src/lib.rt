@@ -1,0 +1,5 @@
+//! Tests of the program over a book in a file, on a connection in memory.
+#![tactic(auto)]
+
+#[cfg(test)]
+mod kept;
