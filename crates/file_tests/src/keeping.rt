@@ -65,6 +65,8 @@ fn numbers_out_of_range_are_told(rt: HostRuntime) {
         ("UPDATE records SET kind = 0", Table::Records, 1),
         ("UPDATE records SET extremely = 2", Table::Records, 1),
         ("UPDATE records SET event = NULL", Table::Records, 1),
+        ("UPDATE records SET notice = NULL", Table::Records, 1),
+        ("UPDATE records SET done = NULL", Table::Records, 1),
         ("UPDATE acts SET session = -1 WHERE n = 2", Table::Acts, 2),
         ("UPDATE acts SET day = 84006", Table::Acts, 1),
         ("UPDATE acts SET n = 4294967296 WHERE n = 2", Table::Acts, 0),
@@ -78,6 +80,38 @@ fn numbers_out_of_range_are_told(rt: HostRuntime) {
     ] {
         assert!(rt; bad_row(&rt, alloc, change) == (table, act));
     }
+}
+
+/// Sets each of the columns of a row to the number before the first day, which is below the range of all but amounts, and
+/// tests that this row is the bad one.
+fn assert_bounded(
+    rt: &impl Abort,
+    alloc: Global,
+    table: &str,
+    columns: &str,
+    row: &str,
+    wanted: (Table, u32),
+) {
+    for column in columns.split_whitespace() {
+        let change = format!(in alloc; "UPDATE {table} SET {column} = -32873 WHERE {row}");
+        let change = change.expect(rt, "memory");
+        assert!(rt; bad_row(rt, alloc, &change) == wanted, "{column}");
+    }
+}
+
+/// Each column has its least number.
+#[test]
+fn each_column_has_its_range(rt: HostRuntime) {
+    let alloc = rt.alloc();
+    let acts = "session clerk request day";
+    assert_bounded(&rt, alloc, "acts", acts, "n = 2", (Table::Acts, 2));
+    let records =
+        "household number kind first corrects unit persons size extremely annual adjusted ttp \
+        contract_rent utility assistance event notice done";
+    let first = (Table::Records, 1);
+    assert_bounded(&rt, alloc, "records", records, "act = 1", first);
+    let lines = "place month household for_month first last old new";
+    assert_bounded(&rt, alloc, "lines", lines, "place = 2", (Table::Lines, 1));
 }
 
 /// A file with one of the three tables alone fails, and a fault is counted.
