@@ -1,4 +1,4 @@
-//! Tests of the program's `assess` and `batch` over streams and keepers in memory.
+//! Tests of the program over streams and keepers in memory.
 #![tactic(auto)]
 
 #[cfg(test)]
@@ -6,4 +6,8 @@ mod batches;
 #[cfg(test)]
 mod clocks;
 #[cfg(test)]
+mod imports;
+#[cfg(test)]
 mod programs;
+#[cfg(test)]
+mod reports;
