@@ -17,13 +17,13 @@ fn worked(
     conn: Connection<MemStore>,
 ) -> (Told, Connection<MemStore>) {
     let mut keeper = SqliteKeeper::adopt(conn);
-    let told = five_months(rt, alloc, &mut keeper);
+    let told = five_months(alloc, &mut keeper).expect(rt, "memory");
     (told, keeper.release())
 }
 
 /// What the nine acts are told on the book of the file.
 fn told_on(rt: &impl Abort, alloc: Global, conn: Connection<MemStore>) -> Told {
-    five_months(rt, alloc, &mut SqliteKeeper::adopt(conn))
+    five_months(alloc, &mut SqliteKeeper::adopt(conn)).expect(rt, "memory")
 }
 
 /// A file with the book of the nine acts.
@@ -57,7 +57,7 @@ fn are_same(some: &Tables, others: &Tables) -> bool {
 fn file_keeps_what_memory_keeps(rt: HostRuntime) {
     let alloc = rt.alloc();
     let mut memory = MemoryKeeper::new(alloc);
-    assert!(rt; five_months(&rt, alloc, &mut memory).has_lines(0, 9));
+    assert!(rt; five_months(alloc, &mut memory).is_some_and(|told| told.has_lines(0, 9)));
     let tables = loaded(&rt, alloc, file(&rt, alloc));
     assert!(rt; tables.acts.len() == 9 && tables.records.len() == 1 && tables.lines.len() == 5);
     assert!(rt; are_same(&tables, memory.tables()));

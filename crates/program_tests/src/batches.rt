@@ -1,6 +1,7 @@
+use crate::runs::{lines, ran};
 use book_rows::{Table, Tables};
 use keeper_core::{DamagedKeeper, MemoryKeeper, PlannedKeeper};
-use run_harness::{Told, Trial, lines, ran, without_fault};
+use run_harness::{Told, Trial, without_fault};
 use sample_office::{CLOSE_JANUARY, PLAN, RENTS, START, UNIT, written};
 use std::alloc::Global;
 use std::process::Abort;

@@ -1,10 +1,11 @@
 ghost use Rattle.std.specs.Prelude.{◌≤◌};
 ghost use Rattle.days_core.specs.Calendar.{last_day};
 
+use crate::runs::ran_by;
 use days_core::Day;
 use keeper_core::MemoryKeeper;
 use office_io::Clock;
-use run_harness::{ran_by, without_fault};
+use run_harness::without_fault;
 use sample_office::{PLAN, RENTS, UNIT, day, written};
 use std::alloc::Global;
 use std::cell::Cell;

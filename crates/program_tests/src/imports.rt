@@ -1,6 +1,7 @@
+use crate::runs::{act, ran};
 use book_rows::Table;
 use keeper_core::{DamagedKeeper, Keeper, MemoryKeeper, PlannedKeeper};
-use run_harness::{Told, Trial, act, ran, without_fault};
+use run_harness::{Told, Trial, without_fault};
 use sample_office::PLAN;
 use std::alloc::Global;
 use std::process::Abort;

@@ -11,3 +11,5 @@ mod imports;
 mod programs;
 #[cfg(test)]
 mod reports;
+#[cfg(test)]
+mod runs;

@@ -1,5 +1,6 @@
+use crate::runs::ran;
 use keeper_core::MemoryKeeper;
-use run_harness::{Told, Trial, ran};
+use run_harness::{Told, Trial};
 use sample_office::{FACTS, written};
 use std::alloc::Global;
 use std::process::Abort;

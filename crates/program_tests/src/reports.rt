@@ -1,6 +1,7 @@
+use crate::runs::{act, five_months, ran};
 use book_rows::Table;
 use keeper_core::{DamagedKeeper, Keeper, MemoryKeeper, PlannedKeeper};
-use run_harness::{Told, Trial, act, five_months, ran, without_fault};
+use run_harness::{Told, Trial, without_fault};
 use sample_office::{ADMIT, APPLY, LIMITS, PLAN, RENTS, UNIT};
 use std::alloc::Global;
 use std::process::Abort;

@@ -3,7 +3,6 @@ use office_io::{Clock, FixedClock, MemorySink, MemorySource};
 use office_prog::run;
 use sample_office::day;
 use std::alloc::Global;
-use std::process::Abort;
 
 /// The words of a run, with blanks between them; the calls of its source and its sink that are to fail; and the most bytes
 /// that one call takes.
@@ -49,72 +48,57 @@ impl Told {
     }
 }
 
-/// Runs the program on the keeper's book, while the clock shows 2 January 2024.
-pub fn ran<K: Keeper>(
-    rt: &impl Abort,
-    alloc: Global,
-    keeper: &mut K,
-    trial: &Trial,
-    input: &[u8],
-) -> Told {
-    ran_by(
-        rt,
-        alloc,
-        keeper,
-        &FixedClock::new(day("2024-01-02")),
-        trial,
-        input,
-    )
+/// Runs the program on the keeper's book, while the clock shows 2 January 2024. None is want of memory.
+pub fn ran<K: Keeper>(alloc: Global, keeper: &mut K, trial: &Trial, input: &[u8]) -> Option<Told> {
+    let clock = FixedClock::new(day("2024-01-02"));
+    ran_by(alloc, keeper, &clock, trial, input)
 }
 
-/// Runs the program on the keeper's book, by that clock.
+/// Runs the program on the keeper's book, by that clock. None is want of memory.
 pub fn ran_by<K: Keeper, C: Clock>(
-    rt: &impl Abort,
     alloc: Global,
     keeper: &mut K,
     clock: &C,
     trial: &Trial,
     input: &[u8],
-) -> Told {
-    let mut source = source(rt, alloc, trial, input);
-    let mut sink = sink(rt, alloc, trial);
-    let words = words(rt, alloc, trial.words);
+) -> Option<Told> {
+    let words = words(alloc, trial.words)?;
+    let mut source = source(alloc, trial, input)?;
+    let mut sink = sink(alloc, trial)?;
     let status = run(alloc, &words, &mut source, &mut sink, clock, keeper);
-    Told {
-        status,
-        text: written(rt, alloc, sink),
-    }
+    let text = written(alloc, sink)?;
+    Some(Told { status, text })
 }
 
-fn words(rt: &impl Abort, alloc: Global, words: &str) -> Vec<String> {
+fn words(alloc: Global, words: &str) -> Option<Vec<String>> {
     let mut all = Vec::new(alloc);
     for word in words.split_whitespace() {
-        let word = word.to_string(alloc).expect(rt, "memory");
-        all.push(word).expect(rt, "memory");
+        all.push(word.to_string(alloc).ok()?).ok()?;
     }
-    all
+    Some(all)
 }
 
-fn source(rt: &impl Abort, alloc: Global, trial: &Trial, input: &[u8]) -> MemorySource {
-    let bytes = input.to_vec(alloc).expect(rt, "memory");
-    let failing = calls(rt, alloc, trial.unread);
-    MemorySource::new(bytes, failing, trial.at_once.max(1))
+fn source(alloc: Global, trial: &Trial, input: &[u8]) -> Option<MemorySource> {
+    let failing = calls(alloc, trial.unread)?;
+    let bytes = input.to_vec(alloc).ok()?;
+    Some(MemorySource::new(bytes, failing, trial.at_once.max(1)))
 }
 
-fn sink(rt: &impl Abort, alloc: Global, trial: &Trial) -> MemorySink {
-    let failing = calls(rt, alloc, trial.unwritten);
-    MemorySink::new(alloc, 2_000, failing, trial.at_once.max(1)).expect(rt, "memory")
+fn sink(alloc: Global, trial: &Trial) -> Option<MemorySink> {
+    let failing = calls(alloc, trial.unwritten)?;
+    MemorySink::new(alloc, 2_000, failing, trial.at_once.max(1)).ok()
 }
 
-fn calls(rt: &impl Abort, alloc: Global, failing: Option<u64>) -> Vec<u64> {
+fn calls(alloc: Global, failing: Option<u64>) -> Option<Vec<u64>> {
     let mut calls = Vec::new(alloc);
     if let Some(call) = failing {
-        calls.push(call).expect(rt, "memory");
+        calls.push(call).ok()?;
     }
-    calls
+    Some(calls)
 }
 
-fn written(rt: &impl Abort, alloc: Global, sink: MemorySink) -> String {
-    let text = String::from_utf8(sink.into_bytes()).expect(rt, "a text");
-    text.replace(alloc, "\"", "'").expect(rt, "memory")
+/// What the sink holds, with ' for ".
+fn written(alloc: Global, sink: MemorySink) -> Option<String> {
+    let text = String::from_utf8(sink.into_bytes()).ok()?;
+    text.replace(alloc, "\"", "'").ok()
 }
