@@ -1,0 +1,4 @@
+pub mod Below
+pub mod Told
+pub mod Answers
+pub mod Desk

@@ -1,0 +1,75 @@
+ghost use Rattle.std.specs.Prelude.{◌≡◌, true, false, IfOk};
+ghost use Rattle.clerk_desk.specs.Below.office_answers.Answering.{answer_to};
+ghost use Rattle.http_session.specs.Replies.{refuses};
+ghost use Rattle.http_front.specs.Told.{IsLed, question_of, said_of_answer, bad_form};
+ghost use Rattle.http_front.specs.Answers.{IsSaid};
+
+use crate::said::{Said, Silence};
+use clerk_desk::office_answers::{Asked as Unasked, Question, Reply};
+use clerk_desk::office_core::Office;
+use http_messages::Message;
+use http_responses::{Body, Status};
+use http_routes::{Asked, Routed, Routes};
+use plain_data::NoMemory;
+use reply_text::{text_of_answer, text_of_bad_form, text_of_reply};
+use std::alloc::Global;
+
+/// Where a message leads.
+pub(crate) fn lead(routes: &Routes, message: &Message) -> Routed
+    ensures { IsLed message.now result }
+{
+    let Ok(method) = str::from_utf8(message.method.as_bytes()) else {
+        return Routed::NoRoute;
+    };
+    let Ok(target) = str::from_utf8(message.target.as_bytes()) else {
+        return Routed::NoRoute;
+    };
+    routes.lead(method, target)
+}
+
+/// The question that is asked; an act is none.
+pub(crate) fn question_of(asked: Asked) -> Option<Question>
+    ensures { result ≡ question_of asked }
+{
+    match asked {
+        Asked::Act => None,
+        Asked::Household { household } => Some(Question::Household { household }),
+        Asked::Record { household, record } => Some(Question::Record {
+            household,
+            target: record,
+        }),
+        Asked::Paid { household, month } => Some(Question::Paid { household, month }),
+        Asked::Next { unit, day } => Some(Question::Next { unit, day }),
+        Asked::Voucher { month } => Some(Question::Voucher { month }),
+        Asked::Due { day } => Some(Question::Due { day }),
+        Asked::Targets { day } => Some(Question::Targets { day }),
+    }
+}
+
+/// The answer to a question, or why there is none.
+pub(crate) fn answered(alloc: Global, office: &Office, question: &Question) -> Result<Said, Silence>
+    ensures said { IsSaid (said_of_answer (answer_to office.now.book question.now)) result }
+    ensures taken { IfOk result (λ said. refuses said.status ≡ false) }
+{
+    match office.ask(alloc, question) {
+        Ok(answer) => Ok(Said {
+            status: Status::Okay,
+            body: Body::Text(text_of_answer(alloc, &answer)?),
+        }),
+        Err(Unasked::Refused(refusal)) => Ok(Said {
+            status: Status::Conflict,
+            body: Body::Text(text_of_reply(alloc, &Reply::Refused(refusal))?),
+        }),
+        Err(Unasked::NoMemory) => Err(Silence::NoMemory),
+    }
+}
+
+/// What is said of the first place that isn't of its form.
+pub(crate) fn said_of_bad_form(alloc: Global, path: &str) -> Result<Said, NoMemory>
+    ensures { IfOk result (λ said. said ≡ bad_form path.now) }
+{
+    Ok(Said {
+        status: Status::UnprocessableEntity,
+        body: Body::Text(text_of_bad_form(alloc, path)?),
+    })
+}

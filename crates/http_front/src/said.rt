@@ -1,0 +1,31 @@
+ghost use Rattle.std.specs.Prelude.{◌≡◌};
+ghost use Rattle.http_front.specs.Told.{status_of};
+
+use clerk_desk::office_answers::Reply;
+use http_responses::{Body, Refusal, Status};
+use plain_data::{NoMemory, Text};
+
+/// What is said of a message: all of its reply but the point.
+#[derive(Debug, Drop)]
+pub(crate) struct Said {
+    pub(crate) status: Status,
+    pub(crate) body: Body,
+}
+
+/// Why the office says nothing.
+#[derive(Clone, Copy, Debug)]
+pub(crate) enum Silence {
+    /// The keeper failed.
+    Store,
+    NoMemory,
+}
+
+impl From<NoMemory> for Silence {
+    ghost use Rattle.http_front.specs.declared.said.Silence.TheVariants as silence;
+
+    ghost from_gives = { λ _ why. why ≡ silence.NoMemory };
+
+    fn from(_error: NoMemory) -> Silence {
+        Silence::NoMemory
+    }
+}
