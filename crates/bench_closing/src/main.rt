@@ -12,7 +12,7 @@ use std::alloc::Global;
 use std::process::ExitCode;
 use std::rt::Env;
 use std::{env, io};
-use voucher_core::{Line, close_lines};
+use voucher_core::{Closing, Line, close_lines};
 
 /// 2024-01
 const FIRST_MONTH: u32 = 1728;
@@ -59,16 +59,13 @@ fn close(alloc: Global, history: &History, place: u32) -> Result<Vec<Line>, NoMe
     if history.households() > 100_000 {
         return Ok(Vec::new(alloc));
     }
-    let first = Month::from_number(FIRST_MONTH).unwrap();
-    let month = Month::from_number(FIRST_MONTH + place).unwrap();
-    close_lines(
-        alloc,
-        history,
-        month,
-        first,
-        1000 * place,
-        1000 * place + 1000,
-    )
+    let closing = Closing {
+        closed: Month::from_number(FIRST_MONTH + place).unwrap(),
+        first_month: Month::from_number(FIRST_MONTH).unwrap(),
+        last_close: 1000 * place,
+        act: 1000 * place + 1000,
+    };
+    close_lines(alloc, history, &closing)
 }
 
 fn history_of(alloc: Global, households: u32, months: u32) -> Result<History, NoMemory>

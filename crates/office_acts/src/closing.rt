@@ -3,7 +3,7 @@
 ghost use Rattle.std.specs.Prelude.{◌<◌, ◌^◌, length, ◌≡◌, ◌≤◌, ◌+◌, [], None, option_and_then, IfSome, IfOk, IsOk};
 ghost use Rattle.std.specs.Option.{option_map, option_map_or};
 ghost use Rattle.days_core.specs.OfficeDays.{last_office_month};
-ghost use Rattle.office_step.specs.Made.{last_close, lines_of_close, lines_of};
+ghost use Rattle.office_step.specs.Made.{last_close, closing_by, lines_of_close, lines_of};
 ghost use Rattle.office_step.specs.Against.{next_month, wrong_month, rent_due, overdue};
 ghost use Rattle.office_acts.specs.Judged.{ClosesBy};
 
@@ -18,7 +18,7 @@ use plain_data::NoMemory;
 use record_history::{Dates, Record};
 use rent_table::Plan;
 use std::alloc::Global;
-use voucher_core::{Line, close_lines};
+use voucher_core::{Closing, Line, close_lines};
 use wait_list::Candidate;
 
 /// Refused where it isn't the next month to close.
@@ -94,15 +94,24 @@ fn lines_of_close(
     ensures few { IfOk result (λ lines. length lines.items < 2 ^ 32) }
 {
     match register.plan() {
-        Some(plan) => close_lines(
-            alloc,
-            register.history(),
-            close.month,
-            plan.first,
-            last_close(register),
-            register.count() + 1,
-        ),
+        Some(plan) => {
+            let closing = closing_by(register, close, plan);
+            close_lines(alloc, register.history(), &closing)
+        }
         None => Ok(Vec::new(alloc)),
+    }
+}
+
+/// The closing of the month by the next act.
+fn closing_by(register: &Register, close: &CloseAct, plan: &Plan) -> Closing
+    ensures value { result ≡ closing_by register.now.known close.now plan.now (register.now.known.count + 1) }
+    ensures earlier { result.last_close ≤ result.act }
+{
+    Closing {
+        closed: close.month,
+        first_month: plan.first,
+        last_close: last_close(register),
+        act: register.count() + 1,
     }
 }
 

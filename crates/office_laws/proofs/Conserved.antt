@@ -1,9 +1,9 @@
 -- After any acts the lines total what was certified at the last closing.
-use Rattle.office_laws.proofs.Words.{Book, Capacity, ◌≡◌, ◌∙◌, sym, refl, subst, ℕ, ◌+◌, ◌<◌, ◌≤◌, inl, inr, arith, pos, false, ◌&&◌, List, [], ◌++◌, Option, Some, None, length, All, IfSome, if◌then◌else◌, nat_le, option_map, option_map_or, option_or, append-nil, Record, Plan, Line, closing_lines, placed, paid, none_settled, closing_settles, pays_no_other, settled_stays, Command, Closed, plan_in, Known, known_of, own_in, record_of, lines_of, next_to_close, is_plan, Passed, IsReached, reached_empty, reached_more, IsOneOf, records_past, IfSome_then, nat_tests, common_steps}
+use Rattle.office_laws.proofs.Words.{Book, Capacity, ◌≡◌, ◌∙◌, sym, refl, subst, ℕ, ◌+◌, ◌<◌, ◌≤◌, inl, inr, arith, pos, false, ◌&&◌, List, [], ◌++◌, Option, Some, None, length, All, IfSome, if◌then◌else◌, nat_le, option_map, option_map_or, option_or, append-nil, Record, Plan, Closing, Line, closing_lines, placed, paid, none_settled, closing_settles, pays_no_other, settled_stays, Command, Closed, plan_in, Known, known_of, own_in, record_of, lines_of, next_to_close, is_plan, Passed, IsReached, reached_empty, reached_more, IsOneOf, records_past, IfSome_then, nat_tests, common_steps}
 use Rattle.std.specs.Prelude.{ℤ}
 use Rattle.voucher_core.specs.Law.{IsSettled}
 use Rattle.office_step.specs.Refusals as test
-use Rattle.office_laws.specs.Conserved.{AreSettled, LinesAreSettled, due_for}
+use Rattle.office_laws.specs.Conserved.{span_of, AreSettled, LinesAreSettled, due_for}
 use Rattle.office_laws.proofs.{Inversion.accepted, Inversion.passes, Reached.plan_there, Known.next, Known.known_next, Known.by_acts, Own.own_after, Own.more_of, Own.later_than}
 
 -- ---- the last closing is one of the acts
@@ -30,7 +30,7 @@ quiet own more count lines later given None (Some closing) there settled = absur
 quiet own more count lines later given (Some plan) (Some closing) there settled = (
   settled.0,
   rw (append-nil lines)
-      (settled_stays own more lines plan.first (closing.month + 1) closing.act (λ household. later household closing.act there.most) settled.1),
+      (settled_stays own more (span_of plan closing) lines (λ household. later household closing.act there.most) settled.1),
 )
 
 -- ---- a closing
@@ -39,22 +39,30 @@ pub next_closed : (first month : ℕ) (closing : Option Closed) → test.wrong_m
     option_map_or (λ closing. closing.month + 1) closing first ≡ month
 next_closed first month closing right = grind (arith, common_steps, nat_tests, right)
 
+-- the closing of a month by the act of that number, after the last one
+abbrev after : Plan → Option Closed → Closed → Closing
+after plan closing next = record {
+  closed = next.month;
+  first_month = plan.first;
+  last_close = option_map_or (λ closing. closing.act) closing 0;
+  act = next.act;
+}
+
 close_settles : (own : ℕ → List Record) (count : ℕ) → ((household : ℕ) → count < household → own household ≡ []) →
-    (plan : Plan) (closing : Option Closed) (acts : ℕ) → IfSome closing (λ closing. IsOneOf acts closing.act) → (month act : ℕ) (lines : List Line) →
-    test.wrong_month (next_to_close plan.first (option_map (λ closing. closing.month) closing)) month ≡ None →
+    (plan : Plan) (closing : Option Closed) (acts : ℕ) → IfSome closing (λ closing. IsOneOf acts closing.act) → (next : Closed) (lines : List Line) →
+    test.wrong_month (next_to_close plan.first (option_map (λ closing. closing.month) closing)) next.month ≡ None →
     AreSettled (Some plan) closing own lines →
-    (plan.first ≤ month)
-    × IsSettled own plan.first (month + 1) act (lines ++ placed 1 (closing_lines own count month plan.first (option_map_or (λ closing. closing.act) closing 0) act))
-close_settles own count past plan None acts there month act lines right settled =
-    let same : plan.first ≡ month = next_closed plan.first month None right in (
+    (plan.first ≤ next.month) × IsSettled own (span_of plan next) (lines ++ placed 1 (closing_lines own count (after plan closing next)))
+close_settles own count past plan None acts there next lines right settled =
+    let same : plan.first ≡ next.month = next_closed plan.first next.month None right in (
       omega arith,
-      closing_settles own count lines plan.first month 0 act 1 past (omega arith) (λ zero. sym same)
+      closing_settles own count (after plan None next) 1 lines past (omega arith) (λ zero. sym same)
           (rw (settled, ← same) (none_settled own plan.first 0)),
     )
-close_settles own count past plan (Some closing) acts there month act lines right settled =
-    let same : closing.month + 1 ≡ month = next_closed plan.first month (Some closing) right in (
+close_settles own count past plan (Some closing) acts there next lines right settled =
+    let same : closing.month + 1 ≡ next.month = next_closed plan.first next.month (Some closing) right in (
       omega (arith, settled.0),
-      closing_settles own count lines plan.first month closing.act act 1 past (omega (arith, settled.0))
+      closing_settles own count (after plan (Some closing) next) 1 lines past (omega (arith, settled.0))
           (λ zero. absurd (omega (arith, there.least))) (rw same at settled.1),
     )
 
@@ -66,8 +74,8 @@ settled_more : (known : Known) (most today : ℕ) (asked : Command) → (is_plan
 settled_more known most today (Command.Close close) planned free lines there settled =
     let plan = planned refl in
     rw (plan.1, append-nil known.households)
-    (close_settles (own_in known) (length known.households) (records_past known.households) plan.0 known.closing known.count there close.month
-    (known.count + 1) lines (rw plan.1 at free.wrong_month) (rw plan.1 at settled))
+    (close_settles (own_in known) (length known.households) (records_past known.households) plan.0 known.closing known.count there
+    (record { act = known.count + 1; month = close.month }) lines (rw plan.1 at free.wrong_month) (rw plan.1 at settled))
 settled_more known most today asked planned free lines there settled =
     subst (λ (own : ℕ → List Record). AreSettled (next known asked).plan (next known asked).closing own (lines ++ lines_of known asked))
     (λ i household. sym (own_after known asked free.no_such household) i)
@@ -91,8 +99,8 @@ month_total own (Some plan) None lines settled household month low = rw settled 
 month_total own None (Some closing) lines settled household month low = absurd settled
 month_total own (Some plan) (Some closing) lines settled household month low =
     by_span (paid household month lines) _ plan.first closing.month (settled.1.months household month low)
-    (λ early. pays_no_other own lines plan.first (closing.month + 1) closing.act household month settled.1 (inl early))
-    (λ late. pays_no_other own lines plan.first (closing.month + 1) closing.act household month settled.1 (inr late))
+    (λ early. pays_no_other own (span_of plan closing) lines household month settled.1 (inl early))
+    (λ late. pays_no_other own (span_of plan closing) lines household month settled.1 (inr late))
   where
     by_span : (total : ℤ) (due first last : ℕ) → (first ≤ month → month < last + 1 → total ≡ pos due) →
         (month < first → total ≡ pos 0) → (last + 1 ≤ month → total ≡ pos 0) → total ≡ pos (if nat_le first month && nat_le month last then due else 0)

@@ -1,5 +1,5 @@
 -- The record of an act names it and a household that is there, or the next; and its lines name it.
-use Rattle.office_laws.proofs.Words.{◌≡◌, ℕ, zero, suc, ◌+◌, ◌<◌, arith, List, [], ◌∷◌, Option, Some, None, length, All, slice_index_or, All-nil, All-append, Record, as_of, Plan, Line, month_lines, known_before, lines_for, adjustment_lines, closing_lines, placed, Command, Known, own_in, record_of, last_close, lines_of, option_map_or, made_is_headed, all_earlier, refl, names_given, no_such, or_none, household_there, IsHeaded, of_household, IsOneOf, next_under}
+use Rattle.office_laws.proofs.Words.{◌≡◌, ℕ, zero, suc, ◌+◌, ◌<◌, arith, List, [], ◌∷◌, Option, Some, None, length, All, slice_index_or, All-nil, All-append, Record, as_of, Plan, Closing, Line, month_lines, known_before, lines_for, adjustment_lines, closing_lines, placed, Command, Known, own_in, record_of, closing_by, lines_of, option_map_or, made_is_headed, all_earlier, refl, names_given, no_such, or_none, household_there, IsHeaded, of_household, IsOneOf, next_under}
 use Rattle.list_laws.proofs.Pieces.{all_pieces}
 use Rattle.voucher_core.proofs.Paid.{each_line, all_placed}
 
@@ -21,7 +21,7 @@ made_within known asked r named is =
 -- the lines that closing a month makes, from the plan's first
 abbrev pub lines_from : Known → ℕ → Plan → List Line
 lines_from known month plan =
-    placed 1 (closing_lines (own_in known) (length known.households) month plan.first (last_close known) (known.count + 1))
+    placed 1 (closing_lines (own_in known) (length known.households) (closing_by known (record { month = month }) plan (known.count + 1)))
 
 -- what holds of no lines and of those of each closing holds of those of each act
 lines_are : (P : List Line → Type 0) (known : Known) → P [] → ((month : ℕ) (plan : Plan) → P (lines_from known month plan)) →
@@ -31,25 +31,25 @@ lines_are P known none closing (Command.Close close) =
 lines_are P known none closing _ = none
 
 -- they name the act, and the month that it closes
-module _ (own : ℕ → List Record) (count act closed : ℕ) where
+module _ (own : ℕ → List Record) (count : ℕ) (closing : Closing) where
   abbrev Names : Line → Type 0
-  Names line = (line.act ≡ act) × (line.month ≡ closed)
+  Names line = (line.act ≡ closing.act) × (line.month ≡ closing.closed)
 
-  month_names : (before : Option ℕ) (month : ℕ) → All Names (lines_for own count act closed before month)
+  month_names : (before : Option ℕ) (month : ℕ) → All Names (lines_for own count closing before month)
   month_names before month =
-      all_pieces Names (λ h. month_lines act closed h month (known_before before (own h)) (as_of act (own h))) 1 count
-      (λ h low high. each_line Names act closed h month (known_before before (own h)) (as_of act (own h)) (λ run. (refl, refl)))
+      all_pieces Names (λ h. month_lines closing h month (known_before before (own h)) (as_of closing.act (own h))) 1 count
+      (λ h low high. each_line Names closing h month (known_before before (own h)) (as_of closing.act (own h)) (λ run. (refl, refl)))
 
-  closing_names : (first last : ℕ) → All Names (placed 1 (closing_lines own count closed first last act))
-  closing_names first last =
-      all_placed Names (λ line place is. is) 1 (closing_lines own count closed first last act)
-      (All-append Names (adjustment_lines own count act closed first last) (lines_for own count act closed None closed)
-      (all_earlier own count act closed first last Names (λ month low high. month_names (Some last) month))
-      (month_names None closed))
+  closing_names : All Names (placed 1 (closing_lines own count closing))
+  closing_names =
+      all_placed Names (λ line place is. is) 1 (closing_lines own count closing)
+      (All-append Names (adjustment_lines own count closing) (lines_for own count closing None closing.closed)
+      (all_earlier own count closing Names (λ month low high. month_names (Some closing.last_close) month))
+      (month_names None closing.closed))
 
 pub lines_name_month : (known : Known) (month : ℕ) (plan : Plan) → All (λ line. (line.act ≡ known.count + 1) × (line.month ≡ month)) (lines_from known month plan)
 lines_name_month known month plan =
-    closing_names (own_in known) (length known.households) (known.count + 1) month plan.first (last_close known)
+    closing_names (own_in known) (length known.households) (closing_by known (record { month = month }) plan (known.count + 1))
 
 pub lines_name_act : (known : Known) (asked : Command) → All (λ line. line.act ≡ known.count + 1) (lines_of known asked)
 lines_name_act known =

@@ -1,5 +1,5 @@
 -- What every book of an office upholds, of all that it holds.
-use Rattle.office_laws.proofs.Words.{Done, again, subst, ◌≤◌, All-nil, IsLater, get_or_default, option_or, Plan, ◌≡◌, ◌∙◌, sym, ap, refl, ℕ, ◌+◌, ◌<◌, arith, true, ◌==◌, List, [], ◌∷◌, ◌++◌, Option, Some, option_map_or, IfSome, length, All, Contains, get_or, option_to_list, append-nil, eq-eqb, All-contains, Contains-push, filter_map_more, places_push, option_map_none, option_or-none, Record, as_of, Line, ActRow, Batch, Book, appended, CloseAct, Command, command_in, Capacity, acts_of, plan_in, plan_of, closing_of, Closed, last_in, known_of, own_in, last_close, is_plan, IsAppended, IsReached, reached_empty, reached_more, Past, RowsCameByActs}
+use Rattle.office_laws.proofs.Words.{Done, again, subst, ◌≤◌, All-nil, IsLater, get_or_default, option_or, Plan, ◌≡◌, ◌∙◌, sym, ap, refl, ℕ, ◌+◌, ◌<◌, arith, true, ◌==◌, List, [], ◌∷◌, ◌++◌, Option, Some, option_map_or, IfSome, length, All, Contains, get_or, option_to_list, append-nil, eq-eqb, All-contains, Contains-push, filter_map_more, places_push, option_map_none, option_or-none, Record, as_of, Line, ActRow, Batch, Book, appended, CloseAct, Command, command_in, Capacity, acts_of, plan_in, plan_of, closing_of, Closed, last_in, known_of, own_in, last_close, closing_by, is_plan, IsAppended, IsReached, reached_empty, reached_more, Past, RowsCameByActs}
 use Rattle.std.proofs.Common.{subst₂}
 use Rattle.std.proofs.lemmas.List.Elements.{All-contains_itself}
 use Rattle.list_laws.proofs.Filters.{All-passing}
@@ -47,9 +47,9 @@ module _ (capacity : Capacity) (found : Book) (rows : Batch) (reached : IsReache
 
       by_command : (asked : Command) → appends.call.command ≡ asked → All (NamesItsRecords book) rows.lines
       by_command (Command.Close close) closes =
-          let its : NameTheirPairs (own_in (known_of book)) close.month (last_close (known_of (book_before book rows.act.n))) rows.act.n rows.lines =
-          subst (λ (found : Book). NameTheirPairs (own_in (known_of book)) close.month (last_close (known_of found)) rows.act.n rows.lines) is
-          (pairs capacity found rows reached appends close closes book later) in
+          let named = pairs capacity found rows reached appends close closes book later in
+          let its : NameTheirPairs (own_in (known_of book)) (closing_by (known_of (book_before book rows.act.n)) close named.0 rows.act.n) rows.lines =
+          subst (λ (found : Book). NameTheirPairs (own_in (known_of book)) (closing_by (known_of found) close named.0 rows.act.n) rows.lines) is named.2 in
           λ k d within.
           names_it book rows.act close.month there (appends.read ∙ ap (λ (c : Command). Some c) closes) (get_or rows.lines k d) (of_closing close closes k d within)
           (its.months k d within) (its.earlier k d within) (its.none_before k d within) (its.closed_month k d within)

@@ -25,7 +25,7 @@ pub use Rattle.office_step.specs.After.{households_after, known_after, names_giv
 pub use Rattle.office_step.specs.Against.{is_plan, no_such, no_such_in, tests_of, refused_by, plan_day, rent_due, move_in_for, of_move_in, out_of_turn, of_made, may_collide_in}
 pub use Rattle.office_step.specs.Households.{change_by, own_of, households_of, record_at, continued}
 pub use Rattle.office_step.specs.Known.{Known, known_of, own_in, known_by}
-pub use Rattle.office_step.specs.Made.{record_of, last_close, lines_of, heading_of, rents_in_unit, withdrawal_heading, Basis, from_facts, carried, nothing, certifies, basis_for, basis_of, made_on, heading_for, correction_heading, new_heading}
+pub use Rattle.office_step.specs.Made.{record_of, last_close, closing_by, lines_of, heading_of, rents_in_unit, withdrawal_heading, Basis, from_facts, carried, nothing, certifies, basis_for, basis_of, made_on, heading_for, correction_heading, new_heading}
 pub use Rattle.office_step.specs.Refusals.{unit_taken, next_to_close, disorder, first_of, repeated, request_reused, plan_given, no_plan, no_applicant, no_unit, household_rent_due, first_household, is_request_of, not_next}
 pub use Rattle.office_step.specs.Reply.{acts_up_to, made_by, done_of}
 pub use Rattle.office_step.specs.Step.{reached_empty, reached_more, IsReached, IsAppended, last_act_day, day_after, act_day, refusal_of, rows_for, step, appends, unless_refused, unless_repeated, is_fit_call, Outcome, again}
@@ -39,6 +39,6 @@ pub use Rattle.tenancy_rules.proofs.Numbers.{rise, none_above}
 pub use Rattle.tenancy_rules.specs.{Changed.without, Changed.changed_records, Changed.NumbersRise, Occupancy.occupied_unit_on, Occupancy.unit_kept, Order.first_out_of_order, Order.may_begin, Order.is_in_order, Order.is_transfer, Order.is_move_out, Order.record_before}
 unfoldable pub use Rattle.tenancy_rules.specs.Order.{is_out_of_order}
 pub use Rattle.voucher_core.proofs.Settled.{none_settled, closing_settles, pays_no_other, settled_stays, all_earlier, known_stays}
-pub use Rattle.voucher_core.specs.{Lines.closing_lines, Lines.placed, Lines.paid, Lines.month_lines, Lines.known_before, Lines.lines_for, Lines.adjustment_lines, declared.line.Line.Line}
+pub use Rattle.voucher_core.specs.{Lines.closing_lines, Lines.placed, Lines.paid, Lines.month_lines, Lines.known_before, Lines.lines_for, Lines.adjustment_lines, declared.closing.Closing.Closing, declared.line.Line.Line}
 pub use Rattle.wait_list.specs.{declared.applicant.Applicant.Applicant, declared.ask.Candidate.Candidate, Waiting.is_listed}
 pub use Rattle.office_laws.specs.{Accepted.Accepted, Accepted.AppendedIsAccepted, Tenancy.IsInOrder, Tenancy.HouseholdsAreInOrder, AtHand.made_now, AtHand.UnitReplies, Closing.KnownAsOfStays, Closing.HasItsRents, Closing.RentsAreDoneAtClosings, History.later_same, History.later_more, History.Past, History.CameByActs, History.RowsCameByActs, History.IsLater, Kept.IsOneOf, Kept.AreActs, Kept.NamesOnlyThose, Kept.IsOfOffice, Kept.Kept, Kept.BooksAreKept, Kept.BatchesFollow}

@@ -6,7 +6,7 @@ use Rattle.rent_table.specs.declared.plan.Plan.{Plan}
 use Rattle.due_dates.specs.Stale.{ends_assistance, unit_rents_on}
 use Rattle.voucher_core.specs.Naming.{NameTheirPairs}
 use Rattle.book_rows.specs.{declared.rows.Batch.Batch, declared.closings.CloseAct.CloseAct, Book.Book, Book.appended, declared.command.Command.Command}
-use Rattle.office_step.specs.{declared.call.Capacity.Capacity, Known.Known, Known.known_of, Known.own_in, Made.last_close, Step.IsAppended, Step.IsReached}
+use Rattle.office_step.specs.{declared.call.Capacity.Capacity, Known.Known, Known.known_of, Known.own_in, Made.closing_by, Step.IsAppended, Step.IsReached}
 use Rattle.office_laws.specs.History.{IsLater}
 
 -- what was known of a household as of an act stays known
@@ -15,12 +15,13 @@ KnownAsOfStays = (capacity : Capacity) (book later : Book) → IsReached capacit
     (act household : ℕ) → act ≤ length book.acts →
     as_of act (own_in (known_of later) household) ≡ as_of act (own_in (known_of book) household)
 
--- On every later book each line of a closing names its records: one of an earlier month those of the last closing and of
--- this one, and one of the closed month that of this one alone.
+-- There is a plan at a closing, and on every later book each of its lines names its records: one of an earlier month those
+-- of the last closing and of this one, and one of the closed month that of this one alone.
 abbrev pub ClosingsNameTheirPairs : Type 0
 ClosingsNameTheirPairs = (capacity : Capacity) (book : Book) (rows : Batch) → IsReached capacity book → (appends : IsAppended capacity book rows) →
     (close : CloseAct) → appends.call.command ≡ Command.Close close → (later : Book) → IsLater capacity (appended book rows) later →
-    NameTheirPairs (own_in (known_of later)) close.month (last_close (known_of book)) rows.act.n rows.lines
+    (plan : Plan) × ((known_of book).plan ≡ Some plan)
+    × NameTheirPairs (own_in (known_of later)) (closing_by (known_of book) close plan rows.act.n) rows.lines
 
 -- on each day from the plan's first through the month's last, a record in force that is neither a move-out nor a
 -- termination has the rents that its unit has on that day

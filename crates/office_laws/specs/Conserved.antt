@@ -2,16 +2,20 @@
 use Rattle.std.specs.Prelude.{◌≡◌, ◌≤◌, ℕ, ◌+◌, ◌&&◌, nat_le, if◌then◌else◌, pos, Option, Some, None, List, []}
 use Rattle.record_history.specs.{declared.records.Record.Record, Records.as_of}
 use Rattle.rent_table.specs.declared.plan.Plan.{Plan}
-use Rattle.voucher_core.specs.{declared.line.Line.Line, Certified.certified_amount, Lines.paid, Law.IsSettled}
+use Rattle.voucher_core.specs.{declared.line.Line.Line, Certified.certified_amount, Lines.paid, Law.Span, Law.IsSettled}
 use Rattle.book_rows.specs.Book.{Book}
 use Rattle.office_step.specs.{declared.call.Capacity.Capacity, declared.known.Closed.Closed, Known.known_of, Known.own_in, Step.IsReached}
+
+-- the months from the plan's first through the closed one, as of the closing
+abbrev pub span_of : Plan → Closed → Span
+span_of plan closing = record { first_month = plan.first; next = closing.month + 1; act = closing.act }
 
 -- before the first closing there is no line; after a closing the lines pay each household for each month, from the plan's
 -- first through the closed one, what it was certified for as of the closing, and nothing for another month
 abbrev pub AreSettled : Option Plan → Option Closed → (ℕ → List Record) → List Line → Type 0
 AreSettled plan None own lines = lines ≡ []
 AreSettled None (Some closing) own lines = ⊥
-AreSettled (Some plan) (Some closing) own lines = (plan.first ≤ closing.month) × IsSettled own plan.first (closing.month + 1) closing.act lines
+AreSettled (Some plan) (Some closing) own lines = (plan.first ≤ closing.month) × IsSettled own (span_of plan closing) lines
 
 abbrev pub LinesAreSettled : Type 0
 LinesAreSettled = (capacity : Capacity) (book : Book) → IsReached capacity book →

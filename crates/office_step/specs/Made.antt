@@ -4,10 +4,10 @@ use Rattle.std.specs.Option.{option_map, option_map_or}
 use Rattle.days_core.specs.declared.rents.Rents.{Rents}
 use Rattle.record_history.specs.{declared.records.Dates.Dates, declared.records.Kind.Kind, declared.records.Record.Record, Records.newest_number}
 use Rattle.facts_core.specs.declared.facts.Facts.{Facts}
-use Rattle.rent_table.specs.{declared.rows.LimitRow.LimitRow, Table.limits_on, Admission.has_extremely_low_income}
+use Rattle.rent_table.specs.{declared.plan.Plan.Plan, declared.rows.LimitRow.LimitRow, Table.limits_on, Admission.has_extremely_low_income}
 use Rattle.tenancy_rules.specs.Order.{is_move_in}
 use Rattle.due_dates.specs.Stale.{unit_rents_on}
-use Rattle.voucher_core.specs.{declared.line.Line.Line, Lines.closing_lines, Lines.placed}
+use Rattle.voucher_core.specs.{declared.closing.Closing.Closing, declared.line.Line.Line, Lines.closing_lines, Lines.placed}
 use Rattle.certified_figures.specs.{declared.figures.Figures.Figures, Figures.figures_of, Figures.carried_figures, Figures.no_figures}
 use Rattle.book_rows.specs.declared.{command.Command.Command, household.HouseholdChange.HouseholdChange, closings.CloseAct.CloseAct}
 use Rattle.office_step.specs.{declared.heading.Heading.Heading, Known.Known, Known.own_in, Households.record_at, Households.continued, Households.unit_continued}
@@ -169,10 +169,15 @@ record_of known asked = option_and_then (made_on known (basis_of asked)) (headin
 abbrev pub last_close : Known → ℕ
 last_close known = option_map_or (λ closing. closing.act) known.closing 0
 
+-- the closing of the month by the act of that number
+abbrev pub closing_by : Known → CloseAct → Plan → ℕ → Closing
+closing_by known close plan act =
+    record { closed = close.month; first_month = plan.first; last_close = last_close known; act = act }
+
 -- the lines that closing the month makes
 abbrev pub lines_of_close : Known → CloseAct → List Line
 lines_of_close known close =
-    option_map_or (λ plan. placed 1 (closing_lines (own_in known) (length known.households) close.month plan.first (last_close known) (known.count + 1)))
+    option_map_or (λ plan. placed 1 (closing_lines (own_in known) (length known.households) (closing_by known close plan (known.count + 1))))
     known.plan []
 
 -- the lines that the next act makes

@@ -2,7 +2,7 @@ use record_history::{History, Kind, Record};
 use sample_office::{day, hold, month, record};
 use std::alloc::Global;
 use std::process::Abort;
-use voucher_core::{Line, LineBook, close_lines};
+use voucher_core::{Closing, Line, LineBook, close_lines};
 
 /// Household, number, act, kind, first day, what it corrects, assistance.
 type Held = (u32, u32, u32, Kind, &'static str, u32, u32);
@@ -16,14 +16,19 @@ fn held(held: Held) -> Record {
 }
 
 /// The first month of the office, the month that is closed, the act of the closing before, or 0, and that of this one.
-type Closing = (&'static str, &'static str, u32, u32);
+type Closes = (&'static str, &'static str, u32, u32);
 
-fn close(rt: &impl Abort, alloc: Global, history: &History, closing: Closing) -> Vec<Line> {
-    let (first, closed, last_close, act) = closing;
-    let (first, closed) = (month(first), month(closed));
+fn close(rt: &impl Abort, alloc: Global, history: &History, row: Closes) -> Vec<Line> {
+    let (first_month, closed, last_close, act) = row;
+    let closing = Closing {
+        closed: month(closed),
+        first_month: month(first_month),
+        last_close,
+        act,
+    };
     assert!(rt; last_close <= act && history.households() <= 100_000);
-    assert!(rt; 1440 <= first.number() && closed.number() <= 2639);
-    close_lines(alloc, history, closed, first, last_close, act).expect(rt, "memory")
+    assert!(rt; 1440 <= closing.first_month.number() && closing.closed.number() <= 2639);
+    close_lines(alloc, history, &closing).expect(rt, "memory")
 }
 
 /// Household, month, first and last day, old and new record, amount.
@@ -51,11 +56,11 @@ fn closes(
     rt: &impl Abort,
     alloc: Global,
     history: &History,
-    closing: Closing,
+    row: Closes,
     wanted: &[Told],
 ) -> Vec<Line> {
-    let (_, closed, _, act) = closing;
-    let lines = close(rt, alloc, history, closing);
+    let (_, closed, _, act) = row;
+    let lines = close(rt, alloc, history, row);
     assert!(rt; lines.len() == wanted.len());
     for index in 0..lines.len() {
         let place = lines[index].place;
@@ -82,17 +87,17 @@ fn closes_and_keeps(
     alloc: Global,
     history: &History,
     book: &mut LineBook,
-    closing: Closing,
+    row: Closes,
     wanted: &[Told],
 ) {
-    let lines = closes(rt, alloc, history, closing, wanted);
+    let lines = closes(rt, alloc, history, row, wanted);
     keep(rt, book, &lines);
 }
 
 // By record 1 of act 4, 548 a month is paid for January to May 2024, in closings of the acts 5 to 9.
 const CERTIFIED: Held = (1, 1, 4, Kind::IC, "2024-01-01", 0, 548);
 
-const PAID: [(Closing, [Told; 1]); 5] = [
+const PAID: [(Closes, [Told; 1]); 5] = [
     (
         ("2024-01", "2024-01", 0, 5),
         [(1, "2024-01", "2024-01-01", "2024-01-31", 0, 1, 548)],
@@ -117,8 +122,8 @@ const PAID: [(Closing, [Told; 1]); 5] = [
 
 fn pay_until_may(rt: &impl Abort, alloc: Global, history: &mut History, book: &mut LineBook) {
     assert!(rt; hold(history, held(CERTIFIED)));
-    for (closing, wanted) in &PAID {
-        closes_and_keeps(rt, alloc, history, book, *closing, wanted);
+    for (row, wanted) in &PAID {
+        closes_and_keeps(rt, alloc, history, book, *row, wanted);
     }
 }
 

@@ -1,5 +1,5 @@
 -- Each line of a closing names its pair.
-use Rattle.voucher_core.proofs.Words.{common_steps, ◌≡◌, ℕ, ◌+◌, ◌-◌, ◌<◌, ◌≤◌, List, [], ◌∷◌, get_or, pos, ◌-ℤ◌, true, Option, Some, None, refl, arith, All, IfSome, find, not, ◌==◌, ne_eqb, eq-eqb, Decides-int_eq, first_of-suc, Record, as_of, in_force, AreNumbered, int_eq, days_in, first_of, Stretch, Change, Line, assistance_on, day_at, change_on, is_same_change, changes, difference, line_of, month_lines, known_before, lines_for, adjustment_lines, closing_lines, placed, IsOfItsDays, Cover, IsOther, of_their_days, option_map_or, number_on, in_force_is, assistance_of, shares_of, NamesItsPair, NameTheirPairs, LinesNameTheirPairs, IsOtherPair, CoverByPairs, ChangesAreLongest, NumberTellsAssistance, is_same_pair, NumbersMakeTheRuns, Decides, same_from_decides, with_day, newest_first, reverse, ap, ◌∙◌, zero, suc, cond_both, Bool, find_first, find_fails}
+use Rattle.voucher_core.proofs.Words.{common_steps, ◌≡◌, ℕ, ◌+◌, ◌-◌, ◌<◌, ◌≤◌, List, [], ◌∷◌, get_or, pos, ◌-ℤ◌, true, Option, Some, None, refl, arith, All, IfSome, find, not, ◌==◌, ne_eqb, eq-eqb, Decides-int_eq, first_of-suc, Record, as_of, in_force, AreNumbered, int_eq, days_in, first_of, Stretch, Change, Closing, Line, assistance_on, day_at, change_on, is_same_change, changes, difference, line_of, month_lines, known_before, lines_for, adjustment_lines, closing_lines, placed, IsOfItsDays, Cover, IsOther, of_their_days, option_map_or, number_on, in_force_is, assistance_of, shares_of, NamesItsPair, NameTheirPairs, LinesNameTheirPairs, IsOtherPair, CoverByPairs, ChangesAreLongest, NumberTellsAssistance, is_same_pair, NumbersMakeTheRuns, Decides, same_from_decides, with_day, newest_first, reverse, ap, ◌∙◌, zero, suc, cond_both, Bool, find_first, find_fails}
 use Rattle.list_laws.proofs.Pieces.{all_pieces}
 use Rattle.voucher_core.proofs.{Covered.exact_change, Covered.exact_numbers, Covered.change_at, Covered.month_covered, Paid.each_passing, Settled.all_earlier, Settled.all_months, Settled.all_for, Settled.all_closing}
 
@@ -85,25 +85,25 @@ module _ (records before now : List Record)
         )
 
     -- the line of a change amounts to the shares of the two records
-    pub line_amount : (act closed household : ℕ) (run : Stretch Change) → IsOfItsDays (change_at before now month) 1 (1 + days_in month) run →
+    pub line_amount : (closing : Closing) (household : ℕ) (run : Stretch Change) → IsOfItsDays (change_at before now month) 1 (1 + days_in month) run →
         difference month run
-        ≡ pos (shares_of records run.key.new.number (line_of act closed household month run)) -ℤ pos (shares_of records run.key.old.number (line_of act closed household month run))
-    line_amount act closed household run is =
+        ≡ pos (shares_of records run.key.new.number (line_of closing household month run)) -ℤ pos (shares_of records run.key.old.number (line_of closing household month run))
+    line_amount closing household run is =
         let first : run.first ≡ day_at month run.first + 1 - first_of month = omega (arith, is.from) in
         let last : run.last ≡ day_at month run.last + 1 - first_of month = omega (arith, is.from, is.in_order) in
         let first_day = is.key run.first (omega arith) is.in_order in
         cc (old_found run.key run.first first_day, new_found run.key run.first first_day)
 
     -- the line of a change that isn't for 0 names its pair
-    line_names : (act closed household : ℕ) (run : Stretch Change) → IsOfItsDays (change_at before now month) 1 (1 + days_in month) run →
-        not (int_eq (difference month run) (pos 0)) ≡ true → NamesItsPair records before now (line_of act closed household month run)
-    line_names act closed household run is passes = record {
+    line_names : (closing : Closing) (household : ℕ) (run : Stretch Change) → IsOfItsDays (change_at before now month) 1 (1 + days_in month) run →
+        not (int_eq (difference month run) (pos 0)) ≡ true → NamesItsPair records before now (line_of closing household month run)
+    line_names closing household run is passes = record {
       from = omega arith;
       in_order = omega (arith, is.in_order);
       to = omega (arith, first_of-suc month, is.to, is.from, is.in_order);
       old = λ day low high. rw (on_day day low high) refl;
       new = λ day low high. rw (on_day day low high) refl;
-      amount = line_amount act closed household run is;
+      amount = line_amount closing household run is;
       not_for_nothing = λ none. (let test = (Decides-int_eq (difference month run) (pos 0)).1 none in let passed = rw test at passes in cc);
     }
       where
@@ -113,9 +113,9 @@ module _ (records before now : List Record)
             rw place at (is.key (day + 1 - first_of month) (omega (arith, low, is.from)) (omega (arith, high, is.from, is.in_order)))
 
     -- and so do all lines of a month
-    month_names : (act closed household : ℕ) → All (λ run. not (int_eq (difference month run) (pos 0)) ≡ true → NamesItsPair records before now (line_of act closed household month run)) (changes before now month)
-    month_names act closed household k d within passes =
-        line_names act closed household (get_or (changes before now month) k d) (changes_of_days before now month k d within) passes
+    month_names : (closing : Closing) (household : ℕ) → All (λ run. not (int_eq (difference month run) (pos 0)) ≡ true → NamesItsPair records before now (line_of closing household month run)) (changes before now month)
+    month_names closing household k d within passes =
+        line_names closing household (get_or (changes before now month) k d) (changes_of_days before now month k d within) passes
 
 -- All lines ----
 
@@ -123,35 +123,35 @@ module _ (records before now : List Record)
 moved : (records before now : List Record) (l : Line) (place : ℕ) → NamesItsPair records before now l → NamesItsPair records before now (record l { place = place })
 moved records before now l place names = assumption
 
-module _ (own : ℕ → List Record) (count closed first_month last_close act place : ℕ) (numbered : (household : ℕ) → AreNumbered (own household)) where
+module _ (own : ℕ → List Record) (count : ℕ) (closing : Closing) (place : ℕ) (numbered : (household : ℕ) → AreNumbered (own household)) where
   -- the line names what was known before of its household, and what is known now
   abbrev Names : Option ℕ → Line → Type 0
-  Names before l = NamesItsPair (own l.household) (known_before before (own l.household)) (as_of act (own l.household)) l
+  Names before l = NamesItsPair (own l.household) (known_before before (own l.household)) (as_of closing.act (own l.household)) l
 
-  lines_name : (before : Option ℕ) (month : ℕ) → All (Names before) (lines_for own count act closed before month)
+  lines_name : (before : Option ℕ) (month : ℕ) → All (Names before) (lines_for own count closing before month)
   lines_name before month =
-      all_pieces (Names before) (λ (h : ℕ). month_lines act closed h month (known_before before (own h)) (as_of act (own h))) 1 count
-      (λ h low high. each_passing (Names before) act closed h month (known_before before (own h)) (as_of act (own h))
-      (month_names (own h) (known_before before (own h)) (as_of act (own h)) (leads_before (own h) (numbered h) before) (leads (own h) (numbered h) act) month act closed h))
+      all_pieces (Names before) (λ (h : ℕ). month_lines closing h month (known_before before (own h)) (as_of closing.act (own h))) 1 count
+      (λ h low high. each_passing (Names before) closing h month (known_before before (own h)) (as_of closing.act (own h))
+      (month_names (own h) (known_before before (own h)) (as_of closing.act (own h)) (leads_before (own h) (numbered h) before) (leads (own h) (numbered h) closing.act) month closing h))
 
-  are_before : All (λ l. l.for_month < closed) (adjustment_lines own count act closed first_month last_close)
-  are_before = all_months own count act closed first_month last_close (λ (m : ℕ). m < closed) (λ m low high. high)
+  are_before : All (λ l. l.for_month < closing.closed) (adjustment_lines own count closing)
+  are_before = all_months own count closing (λ (m : ℕ). m < closing.closed) (λ m low high. high)
 
-  are_of_it : All (λ l. l.for_month ≡ closed) (lines_for own count act closed None closed)
-  are_of_it = all_for own count act closed None closed (λ (m : ℕ). m ≡ closed) refl
+  are_of_it : All (λ l. l.for_month ≡ closing.closed) (lines_for own count closing None closing.closed)
+  are_of_it = all_for own count closing None closing.closed (λ (m : ℕ). m ≡ closing.closed) refl
 
-  all_now : All (λ l. l.for_month ≡ closed → Names None l) (placed place (closing_lines own count closed first_month last_close act))
+  all_now : All (λ l. l.for_month ≡ closing.closed → Names None l) (placed place (closing_lines own count closing))
   all_now =
-      all_closing own count act closed first_month last_close (λ (l : Line). l.for_month ≡ closed → Names None l) (λ l at names now. moved _ _ _ l at (names now)) place
-      (λ k d within now. absurd (omega (arith, are_before k d within, now))) (λ k d within now. lines_name None closed k d within)
+      all_closing own count closing (λ (l : Line). l.for_month ≡ closing.closed → Names None l) (λ l at names now. moved _ _ _ l at (names now)) place
+      (λ k d within now. absurd (omega (arith, are_before k d within, now))) (λ k d within now. lines_name None closing.closed k d within)
 
-  pub name_their_pairs : NameTheirPairs own closed last_close act (placed place (closing_lines own count closed first_month last_close act))
+  pub name_their_pairs : NameTheirPairs own closing (placed place (closing_lines own count closing))
   name_their_pairs = record {
-    months = all_closing own count act closed first_month last_close (λ (l : Line). l.for_month ≤ closed) (λ l at p. p) place
+    months = all_closing own count closing (λ (l : Line). l.for_month ≤ closing.closed) (λ l at p. p) place
         (λ k d within. omega (arith, are_before k d within)) (λ k d within. omega (arith, are_of_it k d within));
-    earlier = all_closing own count act closed first_month last_close (λ (l : Line). l.for_month < closed → Names (Some last_close) l)
+    earlier = all_closing own count closing (λ (l : Line). l.for_month < closing.closed → Names (Some closing.last_close) l)
         (λ l at names before. moved _ _ _ l at (names before)) place
-        (all_earlier own count act closed first_month last_close (λ (l : Line). l.for_month < closed → Names (Some last_close) l) (λ month from to k d within before. lines_name (Some last_close) month k d within))
+        (all_earlier own count closing (λ (l : Line). l.for_month < closing.closed → Names (Some closing.last_close) l) (λ month from to k d within before. lines_name (Some closing.last_close) month k d within))
         (λ k d within before. absurd (omega (arith, are_of_it k d within, before)));
     none_before = λ k d within now. (let names = all_now k d within now in names.old _ (omega arith) names.in_order);
     closed_month = all_now;

@@ -1,5 +1,5 @@
 -- What lines pay for a household and month.
-use Rattle.voucher_core.proofs.Words.{◌≡◌, ◌≢◌, ℕ, zero, suc, ◌+◌, ◌<◌, ◌≤◌, List, [], ◌∷◌, ◌++◌, length, take, pos, ◌+ℤ◌, ◌-ℤ◌, true, false, refl, ap, ◌∙◌, arith, All, get_or, filter, map, not, nat_le, nat_lt, ◌&&◌, if◌then◌else◌, range_with_len, flat_map, int_eq, ints, ne_eqb, eq-eqb, and_right, nat_tests, take_more, Decides-int_eq, filter-append, All-head, All-tail, All-filter, All-map, All-append, All-nil, All-cons, filter_passes, Record, Stretch, Change, Line, changes, difference, line_of, month_lines, placed, is_for, total, paid, certified_amount, PaidIsTheSum, filter_none, common_steps}
+use Rattle.voucher_core.proofs.Words.{◌≡◌, ◌≢◌, ℕ, zero, suc, ◌+◌, ◌<◌, List, [], ◌∷◌, ◌++◌, length, take, pos, ◌+ℤ◌, ◌-ℤ◌, true, false, refl, ap, ◌∙◌, arith, All, get_or, filter, map, not, nat_le, nat_lt, ◌&&◌, if◌then◌else◌, range_with_len, flat_map, int_eq, ints, ne_eqb, eq-eqb, and_right, nat_tests, take_more, Decides-int_eq, filter-append, All-head, All-tail, All-filter, All-map, All-nil, All-cons, filter_passes, Record, Stretch, Change, Closing, Line, changes, difference, line_of, month_lines, placed, is_for, total, paid, certified_amount, PaidIsTheSum, filter_none, common_steps}
 use Rattle.voucher_core.proofs.DayShares.{differences, changes_come_to}
 
 total-append : (xs ys : List Line) → total (xs ++ ys) ≡ total xs +ℤ total ys
@@ -47,32 +47,32 @@ pays_its_own : (household month : ℕ) (l : Line) (lines : List Line) → is_for
 pays_its_own household month l lines own = grind (arith, ints, common_steps, Decides-int_eq l.amount (pos 0))
 
 -- the lines of a household and month pay its changes there
-of_runs : (act closed household month : ℕ) (runs : List (Stretch Change)) →
-    paid household month (filter (λ l. not (int_eq l.amount (pos 0))) (map (line_of act closed household month) runs)) ≡ differences month runs
-of_runs act closed household month [] = refl
-of_runs act closed household month (run ∷ runs) =
-    pays_its_own household month (line_of act closed household month run) _ (rw (eq-eqb household household refl, eq-eqb month month refl))
-    ∙ ap (λ rest. difference month run +ℤ rest) (of_runs act closed household month runs)
+of_runs : (closing : Closing) (household month : ℕ) (runs : List (Stretch Change)) →
+    paid household month (filter (λ l. not (int_eq l.amount (pos 0))) (map (line_of closing household month) runs)) ≡ differences month runs
+of_runs closing household month [] = refl
+of_runs closing household month (run ∷ runs) =
+    pays_its_own household month (line_of closing household month run) _ (rw (eq-eqb household household refl, eq-eqb month month refl))
+    ∙ ap (λ rest. difference month run +ℤ rest) (of_runs closing household month runs)
 
 -- the lines of a month for a household
-pub paid_month : (act closed household month : ℕ) (old new : List Record) →
-    paid household month (month_lines act closed household month old new) ≡ pos (certified_amount new month) -ℤ pos (certified_amount old month)
-paid_month act closed household month old new = of_runs act closed household month (changes old new month) ∙ changes_come_to old new month
+pub paid_month : (closing : Closing) (household month : ℕ) (old new : List Record) →
+    paid household month (month_lines closing household month old new) ≡ pos (certified_amount new month) -ℤ pos (certified_amount old month)
+paid_month closing household month old new = of_runs closing household month (changes old new month) ∙ changes_come_to old new month
 
 module _ (P : Line → Type 0) where
   -- what is true of each line of a month, where it need be true only of those that aren't for 0
-  pub each_passing : (act closed household month : ℕ) (old new : List Record) →
-      All (λ run. not (int_eq (difference month run) (pos 0)) ≡ true → P (line_of act closed household month run)) (changes old new month) →
-      All P (month_lines act closed household month old new)
-  each_passing act closed household month old new each = λ k d within.
+  pub each_passing : (closing : Closing) (household month : ℕ) (old new : List Record) →
+      All (λ run. not (int_eq (difference month run) (pos 0)) ≡ true → P (line_of closing household month run)) (changes old new month) →
+      All P (month_lines closing household month old new)
+  each_passing closing household month old new each = λ k d within.
       (All-filter (λ (l : Line). not (int_eq l.amount (pos 0))) (λ (l : Line). not (int_eq l.amount (pos 0)) ≡ true → P l)
-      (map (line_of act closed household month) (changes old new month))
-      (All-map (λ (l : Line). not (int_eq l.amount (pos 0)) ≡ true → P l) (line_of act closed household month) (changes old new month) each) k d within
-      (filter_passes (λ (l : Line). not (int_eq l.amount (pos 0))) (map (line_of act closed household month) (changes old new month)) k d within))
+      (map (line_of closing household month) (changes old new month))
+      (All-map (λ (l : Line). not (int_eq l.amount (pos 0)) ≡ true → P l) (line_of closing household month) (changes old new month) each) k d within
+      (filter_passes (λ (l : Line). not (int_eq l.amount (pos 0))) (map (line_of closing household month) (changes old new month)) k d within))
 
-  pub each_line : (act closed household month : ℕ) (old new : List Record) → ((run : Stretch Change) → P (line_of act closed household month run)) →
-      All P (month_lines act closed household month old new)
-  each_line act closed household month old new each = each_passing act closed household month old new (λ k d within passes. each (get_or (changes old new month) k d))
+  pub each_line : (closing : Closing) (household month : ℕ) (old new : List Record) → ((run : Stretch Change) → P (line_of closing household month run)) →
+      All P (month_lines closing household month old new)
+  each_line closing household month old new each = each_passing closing household month old new (λ k d within passes. each (get_or (changes old new month) k d))
 
   -- what is true of a line at each place is true of lines with their places
   pub all_placed : ((l : Line) (place : ℕ) → P l → P (record l { place = place })) → (place : ℕ) (lines : List Line) → All P lines → All P (placed place lines)
@@ -82,10 +82,10 @@ module _ (P : Line → Type 0) where
       (all_placed moves (place + 1) lines (All-tail P l lines all))
 
 -- they pay other households nothing
-pub paid_other : (act closed household other month : ℕ) (old new : List Record) → household ≢ other →
-    paid other month (month_lines act closed household month old new) ≡ pos 0
-paid_other act closed household other month old new apart =
-    paid_none other month _ (each_line (λ (l : Line). is_for other month l ≡ false) act closed household month old new (λ run. rw (ne_eqb household other apart) refl))
+pub paid_other : (closing : Closing) (household other month : ℕ) (old new : List Record) → household ≢ other →
+    paid other month (month_lines closing household month old new) ≡ pos 0
+paid_other closing household other month old new apart =
+    paid_none other month _ (each_line (λ (l : Line). is_for other month l ≡ false) closing household month old new (λ run. rw (ne_eqb household other apart) refl))
 
 pub paid_is_the_sum : PaidIsTheSum
 paid_is_the_sum = record {

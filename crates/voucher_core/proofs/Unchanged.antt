@@ -1,5 +1,5 @@
 -- A household with no new record has no changes, so it adds no lines.
-use Rattle.voucher_core.proofs.Words.{◌≡◌, ℕ, suc, ◌+◌, ◌-◌, ◌≤◌, List, [], ◌∷◌, ◌++◌, Bool, true, false, Some, pos, refl, ap, ◌∙◌, arith, ints, All, All-nil, All-cons, All-head, All-tail, filter, map, not, max, fold, nat_le, nat_lt, if◌then◌else◌, flat_map, range_with_len, int_eq, ltb-false, le-leb, Decides-int_eq, filter-append, filter_all, common_steps, Record, Stretch, as_of, newest_act, Change, changes, difference, line_of, month_lines, lines_for, household_lines, changed_since, range_more}
+use Rattle.voucher_core.proofs.Words.{◌≡◌, ℕ, suc, ◌+◌, ◌-◌, ◌≤◌, List, [], ◌∷◌, ◌++◌, Bool, true, false, Some, pos, refl, ap, ◌∙◌, arith, ints, All, All-nil, All-cons, All-head, All-tail, filter, map, not, max, fold, nat_le, nat_lt, if◌then◌else◌, flat_map, range_with_len, int_eq, ltb-false, le-leb, Decides-int_eq, filter-append, filter_all, common_steps, Record, Stretch, as_of, newest_act, Change, Closing, Line, changes, difference, line_of, month_lines, lines_for, household_lines, changed_since, range_more}
 use Rattle.voucher_core.proofs.Named.{changes_of_days}
 
 -- items that give nothing can be left out
@@ -33,8 +33,8 @@ unchanged records month k d within =
     let key = is.key _ (omega arith) is.in_order in
     cc
 
-module _ (act closed household month : ℕ) where
-  pub no_line : (runs : List (Stretch Change)) → All IsUnchanged runs → filter (λ l. not (int_eq l.amount (pos 0))) (map (line_of act closed household month) runs) ≡ []
+module _ (closing : Closing) (household month : ℕ) where
+  pub no_line : (runs : List (Stretch Change)) → All IsUnchanged runs → filter (λ l. not (int_eq l.amount (pos 0))) (map (line_of closing household month) runs) ≡ []
   no_line [] all = refl
   no_line (run ∷ runs) all =
       let same : run.key.old ≡ run.key.new = All-head IsUnchanged run runs all in
@@ -42,18 +42,22 @@ module _ (act closed household month : ℕ) where
       let zero : int_eq (difference month run) (pos 0) ≡ true = (Decides-int_eq (difference month run) (pos 0)).1 none in
       rw zero (no_line runs (All-tail IsUnchanged run runs all))
 
-  none_of_same : (records : List Record) → month_lines act closed household month records records ≡ []
+  none_of_same : (records : List Record) → month_lines closing household month records records ≡ []
   none_of_same records = no_line (changes records records month) (unchanged records month)
 
 -- so the households with new records have all lines
-pub all_of_changed : (own : ℕ → List Record) (count act closed last_close month : ℕ) → last_close ≤ act →
-    flat_map (household_lines own act closed (Some last_close) month) (changed_since last_close own count) ≡ lines_for own count act closed (Some last_close) month
-all_of_changed own count act closed last_close month order =
-    flat_map-filter (household_lines own act closed (Some last_close) month) (λ (h : ℕ). nat_lt last_close (newest_act (own h))) (range_with_len 1 count)
-    (λ h test. none h (ltb-false last_close (newest_act (own h)) test))
+pub all_of_changed : (own : ℕ → List Record) (count : ℕ) (closing : Closing) (month : ℕ) → closing.last_close ≤ closing.act →
+    flat_map (λ h. household_lines own closing (Some closing.last_close) h month) (changed_since closing.last_close own count)
+    ≡ lines_for own count closing (Some closing.last_close) month
+all_of_changed own count closing month order =
+    flat_map-filter of_household (λ (h : ℕ). nat_lt closing.last_close (newest_act (own h))) (range_with_len 1 count)
+    (λ h test. none h (ltb-false closing.last_close (newest_act (own h)) test))
   where
-    none : (h : ℕ) → newest_act (own h) ≤ last_close → household_lines own act closed (Some last_close) month h ≡ []
-    none h newest = rw (all_known last_close (own h) newest, all_known act (own h) (omega arith)) (none_of_same act closed h month (own h))
+    of_household : ℕ → List Line
+    of_household h = household_lines own closing (Some closing.last_close) h month
+
+    none : (h : ℕ) → newest_act (own h) ≤ closing.last_close → household_lines own closing (Some closing.last_close) h month ≡ []
+    none h newest = rw (all_known closing.last_close (own h) newest, all_known closing.act (own h) (omega arith)) (none_of_same closing h month (own h))
 
 -- one household more, where it passes and where it doesn't
 filtered-one_more : (p : ℕ → Bool) (k : ℕ) → 1 ≤ k → filter p (range_with_len 1 (k + 1 - 1)) ≡ filter p (range_with_len 1 (k - 1)) ++ (if p k then k ∷ [] else [])

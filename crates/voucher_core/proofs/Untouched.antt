@@ -1,5 +1,5 @@
 -- Before the first day that new records touch, nothing has changed.
-use Rattle.voucher_core.proofs.Words.{◌≡◌, ℕ, ◌<◌, ◌≤◌, List, [], ◌∷◌, Bool, true, false, Some, refl, ap, sym, ◌∙◌, arith, nat_tests, common_steps, All, filter, nat_le, nat_lt, ◌==◌, ◌&&◌, get_or, list_any, or_parts, ltb-false, le-leb, lt-leb, last_of, first_of-suc, filter_alike, filter-filter, Record, Stretch, as_of, is_live, latest, in_force, Change, day_at, force_on, changes, household_lines, is_newly_corrected, is_touched, TouchesFrom}
+use Rattle.voucher_core.proofs.Words.{◌≡◌, ℕ, ◌<◌, ◌≤◌, List, [], ◌∷◌, Bool, true, false, Some, refl, ap, sym, ◌∙◌, arith, nat_tests, common_steps, All, filter, nat_le, nat_lt, ◌==◌, ◌&&◌, get_or, list_any, or_parts, ltb-false, le-leb, lt-leb, last_of, first_of-suc, filter_alike, filter-filter, Record, Stretch, as_of, is_live, latest, in_force, Change, Closing, day_at, force_on, changes, household_lines, is_newly_corrected, is_touched, TouchesFrom}
 use Rattle.voucher_core.proofs.{Alike.force_of, Alike.force_is, Named.changes_of_days, Unchanged.IsUnchanged, Unchanged.no_line}
 
 never : (a b : Bool) → (a && (b && false)) ≡ false
@@ -46,16 +46,18 @@ module _ (last act : ℕ) (order : last ≤ act) where
         force_is (as_of last own) day ∙ ap force_of (counted last ∙ ap latest (filter_alike (counts last) (counts act) own counts_alike) ∙ sym (counted act))
         ∙ sym (force_is (as_of act own) day)
 
-  -- so a month that ends before it has no lines
-  pub none_before : (own : ℕ → List Record) (closed household month first : ℕ) → TouchesFrom last (own household) first → last_of month < first →
-      household_lines own act closed (Some last) month household ≡ []
-  none_before own closed household month first touches before =
-      no_line act closed household month (changes (as_of last (own household)) (as_of act (own household)) month) unchanged
-    where
-      unchanged : All IsUnchanged (changes (as_of last (own household)) (as_of act (own household)) month)
-      unchanged k d within =
-          let run : Stretch Change = get_or (changes (as_of last (own household)) (as_of act (own household)) month) k d in
-          let is = changes_of_days (as_of last (own household)) (as_of act (own household)) month k d within in
-          let key = is.key run.first (omega arith) is.in_order in
-          let earlier : day_at month run.first < first = omega (arith, first_of-suc month, is.to, is.from, is.in_order) in
-          cc (same_force (own household) first (day_at month run.first) touches earlier)
+-- so a month that ends before it has no lines
+pub none_before : (own : ℕ → List Record) (closing : Closing) → closing.last_close ≤ closing.act → (household month first : ℕ) →
+    TouchesFrom closing.last_close (own household) first → last_of month < first → household_lines own closing (Some closing.last_close) household month ≡ []
+none_before own closing order household month first touches before = no_line closing household month (changes (known closing.last_close) (known closing.act) month) unchanged
+  where
+    known : ℕ → List Record
+    known last = as_of last (own household)
+
+    unchanged : All IsUnchanged (changes (known closing.last_close) (known closing.act) month)
+    unchanged k d within =
+        let run : Stretch Change = get_or (changes (known closing.last_close) (known closing.act) month) k d in
+        let is = changes_of_days (known closing.last_close) (known closing.act) month k d within in
+        let key = is.key run.first (omega arith) is.in_order in
+        let earlier : day_at month run.first < first = omega (arith, first_of-suc month, is.to, is.from, is.in_order) in
+        cc (same_force closing.last_close closing.act order (own household) first (day_at month run.first) touches earlier)

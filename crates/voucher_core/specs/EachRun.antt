@@ -4,16 +4,16 @@
 use Rattle.std.specs.Prelude.{ℕ, ◌+◌, ◌-◌, ◌⊎◌, ◌<◌, ◌≤◌, ◌≡◌, ◌≢◌, ◌==◌, pos, ◌-ℤ◌, if◌then◌else◌, List, length, All, Any, AllPairs, slice_index_or}
 use Rattle.days_core.specs.Calendar.{first_of, last_of}
 use Rattle.record_history.specs.{declared.records.Record.Record, Records.as_of, Runs.number_on, Held.AreNumbered}
-use Rattle.voucher_core.specs.{declared.line.Line.Line, Naming.shares_of, Lines.closing_lines, Lines.placed}
+use Rattle.voucher_core.specs.{declared.closing.Closing.Closing, declared.line.Line.Line, Naming.shares_of, Lines.closing_lines, Lines.placed}
 
 -- The number of the record by which the household's day of that month was paid before: of the one in force as of the last
 -- closing, and 0 in the month that is closed only now.
-abbrev pub old_on : (ℕ → List Record) → ℕ → ℕ → ℕ → ℕ → ℕ → ℕ
-old_on own closed last_close household month day = if month == closed then 0 else number_on (as_of last_close (own household)) day
+abbrev pub old_on : (ℕ → List Record) → Closing → ℕ → ℕ → ℕ → ℕ
+old_on own closing household month day = if month == closing.closed then 0 else number_on (as_of closing.last_close (own household)) day
 
 -- the number of the record by which it is paid now: of the one in force as of this act
-abbrev pub new_on : (ℕ → List Record) → ℕ → ℕ → ℕ → ℕ
-new_on own act household day = number_on (as_of act (own household)) day
+abbrev pub new_on : (ℕ → List Record) → Closing → ℕ → ℕ → ℕ
+new_on own closing household day = number_on (as_of closing.act (own household)) day
 
 -- on the day these two are the old record and the new one
 abbrev pub HasPair : (ℕ → ℕ) → (ℕ → ℕ) → ℕ → ℕ → ℕ → Type 0
@@ -30,17 +30,18 @@ pub record IsLongestRun (old_on new_on : ℕ → ℕ) (lowest highest first last
   pub after : last < highest → ¬ (HasPair old_on new_on old new (last + 1))
 
 -- a closing pays for the month that it closes, and where there was one before, for each from the first month up to it
-abbrev pub IsPaidFor : ℕ → ℕ → ℕ → ℕ → Type 0
-IsPaidFor closed first_month last_close month = (month ≡ closed) ⊎ ((last_close ≢ 0) × (first_month ≤ month) × (month < closed))
+abbrev pub IsPaidFor : Closing → ℕ → Type 0
+IsPaidFor closing month =
+    (month ≡ closing.closed) ⊎ ((closing.last_close ≢ 0) × (closing.first_month ≤ month) × (month < closing.closed))
 
 -- A line tells a run that the closing is to pay: a longest run of one of its households and months. It amounts to the
 -- shares of these days by the new record less those by the old one, and isn't for 0.
-pub record TellsRun (own : ℕ → List Record) (count closed first_month last_close act : ℕ) (l : Line) : Type 0 where
-  pub of_act : l.act ≡ act
-  pub closes : l.month ≡ closed
+pub record TellsRun (own : ℕ → List Record) (count : ℕ) (closing : Closing) (l : Line) : Type 0 where
+  pub of_act : l.act ≡ closing.act
+  pub closes : l.month ≡ closing.closed
   pub is_household : (1 ≤ l.household) × (l.household ≤ count)
-  pub is_paid_for : IsPaidFor closed first_month last_close l.for_month
-  pub run : IsLongestRun (old_on own closed last_close l.household l.for_month) (new_on own act l.household) (first_of l.for_month) (last_of l.for_month) l.first l.last l.old l.new
+  pub is_paid_for : IsPaidFor closing l.for_month
+  pub run : IsLongestRun (old_on own closing l.household l.for_month) (new_on own closing l.household) (first_of l.for_month) (last_of l.for_month) l.first l.last l.old l.new
   pub amount : l.amount ≡ pos (shares_of (own l.household) l.new l) -ℤ pos (shares_of (own l.household) l.old l)
   pub not_for_nothing : l.amount ≢ pos 0
 
@@ -51,14 +52,14 @@ ComesBefore a b = (a.for_month < b.for_month)
 
 -- Each line tells a run, and each run that a line could tell is told; a line comes before the next ones, so that no run is
 -- told twice; and the places count up from the first.
-pub record TellEachRun (own : ℕ → List Record) (count closed first_month last_close act place : ℕ) (lines : List Line) : Type 0 where
-  pub each_line : All (TellsRun own count closed first_month last_close act) lines
-  pub each_run : (l : Line) → TellsRun own count closed first_month last_close act l → Any (λ told. told ≡ record l { place = told.place }) lines
+pub record TellEachRun (own : ℕ → List Record) (count : ℕ) (closing : Closing) (place : ℕ) (lines : List Line) : Type 0 where
+  pub each_line : All (TellsRun own count closing) lines
+  pub each_run : (l : Line) → TellsRun own count closing l → Any (λ told. told ≡ record l { place = told.place }) lines
   pub in_order : AllPairs ComesBefore lines
   pub places : (at : ℕ) (d : Line) → at < length lines → (slice_index_or lines at d).place ≡ place + at
 
 -- Where each household's records are numbered from 1, the lines of a closing tell each run, once.
 abbrev pub LinesTellEachRun : Type 0
-LinesTellEachRun = (own : ℕ → List Record) (count closed first_month last_close act place : ℕ) →
+LinesTellEachRun = (own : ℕ → List Record) (count : ℕ) (closing : Closing) (place : ℕ) →
     ((household : ℕ) → AreNumbered (own household)) →
-    TellEachRun own count closed first_month last_close act place (placed place (closing_lines own count closed first_month last_close act))
+    TellEachRun own count closing place (placed place (closing_lines own count closing))

@@ -6,7 +6,7 @@ use Rattle.std.specs.{List.range_with_len, List.flat_map, Ordering.int_eq}
 use Rattle.days_core.specs.Calendar.{days_in}
 use Rattle.record_history.specs.{declared.records.Record.Record, declared.stretch.Stretch.Stretch, Records.as_of, Runs.number_on, Stretch.stretches}
 use Rattle.share_rules.specs.Shares.{run_share}
-use Rattle.voucher_core.specs.{declared.changes.InForce.InForce, declared.changes.Change.Change, declared.line.Line.Line, Certified.assistance_on, Certified.day_at}
+use Rattle.voucher_core.specs.{declared.changes.InForce.InForce, declared.changes.Change.Change, declared.closing.Closing.Closing, declared.line.Line.Line, Certified.assistance_on, Certified.day_at}
 
 -- the number and the assistance of the record in force on the day, and 0 and 0 where none is
 abbrev pub force_on : List Record → ℕ → InForce
@@ -34,12 +34,12 @@ difference month run =
     pos (run_share run.key.new.assistance run.first run.last (days_in month)) -ℤ pos (run_share run.key.old.assistance run.first run.last (days_in month))
 
 -- the line of a run, without its place
-abbrev pub line_of : ℕ → ℕ → ℕ → ℕ → Stretch Change → Line
-line_of act closed household month run =
+abbrev pub line_of : Closing → ℕ → ℕ → Stretch Change → Line
+line_of closing household month run =
     record {
-      act = act;
+      act = closing.act;
       place = 0;
-      month = closed;
+      month = closing.closed;
       household = household;
       for_month = month;
       first = day_at month run.first;
@@ -50,9 +50,9 @@ line_of act closed household month run =
     }
 
 -- the lines of one household for one month: a run whose difference is 0 has none
-abbrev pub month_lines : ℕ → ℕ → ℕ → ℕ → List Record → List Record → List Line
-month_lines act closed household month old new =
-    filter (λ l. not (int_eq l.amount (pos 0))) (map (line_of act closed household month) (changes old new month))
+abbrev pub month_lines : Closing → ℕ → ℕ → List Record → List Record → List Line
+month_lines closing household month old new =
+    filter (λ l. not (int_eq l.amount (pos 0))) (map (line_of closing household month) (changes old new month))
 
 -- the records known at the last closing where it paid for the month, and none where no closing did
 abbrev pub known_before : Option ℕ → List Record → List Record
@@ -60,20 +60,20 @@ known_before None records = []
 known_before (Some last_close) records = as_of last_close records
 
 -- the lines of all households for one month
-abbrev pub lines_for : (ℕ → List Record) → ℕ → ℕ → ℕ → Option ℕ → ℕ → List Line
-lines_for own count act closed before month =
-    flat_map (λ h. month_lines act closed h month (known_before before (own h)) (as_of act (own h))) (range_with_len 1 count)
+abbrev pub lines_for : (ℕ → List Record) → ℕ → Closing → Option ℕ → ℕ → List Line
+lines_for own count closing before month =
+    flat_map (λ h. month_lines closing h month (known_before before (own h)) (as_of closing.act (own h))) (range_with_len 1 count)
 
 -- The lines for the months that were closed before: what has changed since the last closing. Its act is 0 where there
 -- was none, and then there is no such line.
-abbrev pub adjustment_lines : (ℕ → List Record) → ℕ → ℕ → ℕ → ℕ → ℕ → List Line
-adjustment_lines own count act closed first_month last_close =
-    if last_close == 0 then [] else flat_map (lines_for own count act closed (Some last_close)) (range_with_len first_month (closed - first_month))
+abbrev pub adjustment_lines : (ℕ → List Record) → ℕ → Closing → List Line
+adjustment_lines own count closing =
+    if closing.last_close == 0 then []
+    else flat_map (lines_for own count closing (Some closing.last_close)) (range_with_len closing.first_month (closing.closed - closing.first_month))
 
 -- The lines of a closing: the adjustments, and then the lines of the closed month.
-abbrev pub closing_lines : (ℕ → List Record) → ℕ → ℕ → ℕ → ℕ → ℕ → List Line
-closing_lines own count closed first_month last_close act =
-    adjustment_lines own count act closed first_month last_close ++ lines_for own count act closed None closed
+abbrev pub closing_lines : (ℕ → List Record) → ℕ → Closing → List Line
+closing_lines own count closing = adjustment_lines own count closing ++ lines_for own count closing None closing.closed
 
 -- the lines with their places, from this one on
 abbrev pub placed : ℕ → List Line → List Line

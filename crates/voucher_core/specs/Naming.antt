@@ -4,7 +4,7 @@ use Rattle.std.specs.Option.{option_map_or}
 use Rattle.days_core.specs.Calendar.{days_in, first_of, last_of}
 use Rattle.record_history.specs.{declared.records.Record.Record, declared.stretch.Stretch.Stretch, Records.as_of, Runs.number_on, Stretch.stretches, Held.AreNumbered}
 use Rattle.share_rules.specs.Shares.{run_share}
-use Rattle.voucher_core.specs.{declared.line.Line.Line, declared.changes.Change.Change, Certified.assistance_on, Certified.day_at}
+use Rattle.voucher_core.specs.{declared.closing.Closing.Closing, declared.line.Line.Line, declared.changes.Change.Change, Certified.assistance_on, Certified.day_at}
 use Rattle.voucher_core.specs.Lines.{known_before, change_on, changes, closing_lines, placed}
 
 -- the assistance of the household's record of that number, and 0 where it has none
@@ -30,17 +30,17 @@ pub record NamesItsPair (records before now : List Record) (l : Line) : Type 0 w
 
 -- Each line of a closing is for the closed month or an earlier one. One for an earlier month names what was in force as
 -- of the last closing, and what is as of this act; one for the closed month names none for old.
-pub record NameTheirPairs (own : ℕ → List Record) (closed last_close act : ℕ) (lines : List Line) : Type 0 where
-  pub months : All (λ l. l.for_month ≤ closed) lines
-  pub earlier : All (λ l. l.for_month < closed → NamesItsPair (own l.household) (as_of last_close (own l.household)) (as_of act (own l.household)) l) lines
-  pub none_before : All (λ l. l.for_month ≡ closed → l.old ≡ 0) lines
-  pub closed_month : All (λ l. l.for_month ≡ closed → NamesItsPair (own l.household) [] (as_of act (own l.household)) l) lines
+pub record NameTheirPairs (own : ℕ → List Record) (closing : Closing) (lines : List Line) : Type 0 where
+  pub months : All (λ l. l.for_month ≤ closing.closed) lines
+  pub earlier : All (λ l. l.for_month < closing.closed → NamesItsPair (own l.household) (as_of closing.last_close (own l.household)) (as_of closing.act (own l.household)) l) lines
+  pub none_before : All (λ l. l.for_month ≡ closing.closed → l.old ≡ 0) lines
+  pub closed_month : All (λ l. l.for_month ≡ closing.closed → NamesItsPair (own l.household) [] (as_of closing.act (own l.household)) l) lines
 
 -- Where each household's records are numbered from 1, the lines of a closing name their pairs.
 abbrev pub LinesNameTheirPairs : Type 0
-LinesNameTheirPairs = (own : ℕ → List Record) (count closed first_month last_close act place : ℕ) →
+LinesNameTheirPairs = (own : ℕ → List Record) (count : ℕ) (closing : Closing) (place : ℕ) →
     ((household : ℕ) → AreNumbered (own household)) →
-    NameTheirPairs own closed last_close act (placed place (closing_lines own count closed first_month last_close act))
+    NameTheirPairs own closing (placed place (closing_lines own count closing))
 
 -- the next run, if any, has another old or another new record
 abbrev pub IsOtherPair : Change → List (Stretch Change) → Type 0

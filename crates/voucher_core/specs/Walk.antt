@@ -2,12 +2,12 @@
 use Rattle.std.specs.Prelude.{ℕ, ◌<◌, ◌≤◌, ◌≡◌, ◌==◌, ◌&&◌, ◌||◌, nat_lt, Bool, true, All, List, [], ◌∷◌, filter, Option}
 use Rattle.std.specs.{List.range_with_len, List.list_any}
 use Rattle.record_history.specs.{declared.records.Record.Record, declared.stretch.Stretch.Stretch, Records.as_of, Records.newest_act}
-use Rattle.voucher_core.specs.{declared.line.Line.Line, declared.touched.Touched.Touched, Lines.month_lines, Lines.known_before}
+use Rattle.voucher_core.specs.{declared.closing.Closing.Closing, declared.line.Line.Line, declared.touched.Touched.Touched, Lines.month_lines, Lines.known_before}
 
 -- the lines of one household for one month
-abbrev pub household_lines : (ℕ → List Record) → ℕ → ℕ → Option ℕ → ℕ → ℕ → List Line
-household_lines own act closed before month household =
-    month_lines act closed household month (known_before before (own household)) (as_of act (own household))
+abbrev pub household_lines : (ℕ → List Record) → Closing → Option ℕ → ℕ → ℕ → List Line
+household_lines own closing before household month =
+    month_lines closing household month (known_before before (own household)) (as_of closing.act (own household))
 
 -- the households of which an act after that one made a record
 abbrev pub changed_since : ℕ → (ℕ → List Record) → ℕ → List ℕ

@@ -10,53 +10,47 @@ use plain_data::NoMemory;
 use record_history::History;
 use std::alloc::Global;
 
-/// The lines of the closing of a month by an act, in the order of their months, households and first days.
+/// How a month is closed.
+#[derive(Clone, Copy)]
+pub struct Closing {
+    /// The month that is closed.
+    pub closed: Month,
+    /// The first month of the plan.
+    pub first_month: Month,
+    /// The act of the last closing, and 0 where there was none.
+    pub last_close: u32,
+    /// The act that closes the month.
+    pub act: u32,
+}
+
+/// The lines of a closing, in the order of their months, households and first days.
 ///
-/// The first month is that of the plan, and the last closing is told by its act, which is 0 where there was none. Only
-/// months from 2000-01 to 2099-12 are closed, for at most 100,000 households.
+/// Only months from 2000-01 to 2099-12 are closed, for at most 100,000 households.
 pub fn close_lines(
     alloc: Global,
     history: &History,
-    month: Month,
-    first_month: Month,
-    last_close: u32,
-    act: u32,
+    closing: &Closing,
 ) -> Result<Vec<Line>, NoMemory>
-    requires last_close { last_close ≤ act }
+    requires last_close { closing.now.last_close ≤ closing.now.act }
     requires households { length history.now.households ≤ 100000 }
-    requires first_month { first_office_month ≤ first_month }
-    requires month { month ≤ last_office_month }
-    ensures lines { IfOk result (λ lines. lines.items ≡ placed 1 (closing_lines (records_of history.now.households) (length history.now.households) month first_month last_close act)) }
+    requires first_month { first_office_month ≤ closing.now.first_month }
+    requires month { closing.now.closed ≤ last_office_month }
+    ensures lines { IfOk result (λ lines. lines.items ≡ placed 1 (closing_lines (records_of history.now.households) (length history.now.households) closing.now)) }
     ensures few { IfOk result (λ lines. length lines.items < 2 ^ 32) }
 {
-    let mut lines = gathered(alloc, history, month, first_month, last_close, act)?;
+    let mut lines = gathered(alloc, history, closing)?;
     number_lines(&mut lines);
     Ok(lines)
 }
 
 /// The lines without their places.
-fn gathered(
-    alloc: Global,
-    history: &History,
-    month: Month,
-    first_month: Month,
-    last_close: u32,
-    act: u32,
-) -> Result<Vec<Line>, NoMemory>
-    requires last_close { last_close ≤ act }
+fn gathered(alloc: Global, history: &History, closing: &Closing) -> Result<Vec<Line>, NoMemory>
+    requires last_close { closing.now.last_close ≤ closing.now.act }
     requires households { length history.now.households ≤ 100000 }
-    ensures { IfOk result (λ lines. lines.items ≡ closing_lines (records_of history.now.households) (length history.now.households) month first_month last_close act) }
+    ensures { IfOk result (λ lines. lines.items ≡ closing_lines (records_of history.now.households) (length history.now.households) closing.now) }
 {
     let mut lines = Vec::new(alloc);
-    add_adjustments(
-        alloc,
-        &mut lines,
-        history,
-        month,
-        first_month,
-        last_close,
-        act,
-    )?;
-    add_month(alloc, &mut lines, history, month, month, None, act)?;
+    add_adjustments(alloc, &mut lines, history, closing)?;
+    add_month(alloc, &mut lines, history, closing, closing.closed, None)?;
     Ok(lines)
 }

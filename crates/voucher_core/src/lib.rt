@@ -13,7 +13,7 @@ mod touched;
 
 pub use book::LineBook;
 pub use certified::certified_amount;
-pub use closing::close_lines;
+pub use closing::{Closing, close_lines};
 pub use laws::{
     certified_stays, lines_name_their_pairs, lines_tell_each_run, numbers_make_the_runs,
     one_closing_settles, paid_is_the_sum,

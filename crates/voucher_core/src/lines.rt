@@ -10,9 +10,9 @@ ghost use Rattle.voucher_core.specs.Lines.{line_of, lines_for, adjustment_lines,
 ghost use Rattle.voucher_core.specs.Bounds.{IsUsable};
 ghost use Rattle.voucher_core.specs.Walk.{household_lines, touched_household, BeginsUntouched};
 
-use crate::Line;
 use crate::changes::{Change, changes_of_month};
 use crate::touched::{Touched, touched_since};
+use crate::{Closing, Line};
 use days_core::{Day, Month, days_in, last_of};
 use plain_data::NoMemory;
 use record_history::{History, Stretch};
@@ -27,25 +27,20 @@ pub fn add_adjustments(
     alloc: Global,
     lines: &mut Vec<Line>,
     history: &History,
-    closed: Month,
-    first_month: Month,
-    last_close: u32,
-    act: u32,
+    closing: &Closing,
 ) -> Result<(), NoMemory>
-    requires last_close { last_close ≤ act }
+    requires last_close { closing.now.last_close ≤ closing.now.act }
     requires households { length history.now.households ≤ 100000 }
-    ensures { OnOk result (lines.new.items ≡ lines.old.items ++ adjustment_lines (records_of history.now.households) (length history.now.households) act closed first_month last_close) }
+    ensures { OnOk result (lines.new.items ≡ lines.old.items ++ adjustment_lines (records_of history.now.households) (length history.now.households) closing.now) }
 {
-    if last_close == 0 {
+    if closing.last_close == 0 {
         return Ok(());
     }
-    let changed = touched_since(alloc, history, last_close)?;
+    let changed = touched_since(alloc, history, closing.last_close)?;
     let mut runs = Vec::new(alloc);
-    for month in first_month.number()..closed.number() {
+    for month in closing.first_month.number()..closing.closed.number() {
         let month = Month::from_number(month).unwrap();
-        add_changed(
-            lines, &mut runs, history, &changed, closed, month, last_close, act,
-        )?;
+        add_changed(lines, &mut runs, history, &changed, closing, month)?;
     }
     Ok(())
 }
@@ -56,28 +51,19 @@ fn add_changed(
     runs: &mut Vec<Stretch<Change>>,
     history: &History,
     changed: &[Touched],
-    closed: Month,
+    closing: &Closing,
     month: Month,
-    last_close: u32,
-    act: u32,
 ) -> Result<(), NoMemory>
-    requires last_close { last_close ≤ act }
-    requires untouched { All (BeginsUntouched last_close (records_of history.now.households)) changed.now }
-    ensures { OnOk result (lines.new.items ≡ lines.old.items ++ flat_map (household_lines (records_of history.now.households) act closed (Some last_close) month) (map touched_household changed.now)) }
+    requires last_close { closing.now.last_close ≤ closing.now.act }
+    requires untouched { All (BeginsUntouched closing.now.last_close (records_of history.now.households)) changed.now }
+    ensures { OnOk result (lines.new.items ≡ lines.old.items ++ flat_map (λ h. household_lines (records_of history.now.households) closing.now (Some closing.now.last_close) h month) (map touched_household changed.now)) }
 {
     let last = last_of(month).number();
+    let paid_at = Some(closing.last_close);
     for touched in changed {
         if touched.first <= last {
-            add_household(
-                lines,
-                runs,
-                history,
-                closed,
-                touched.household,
-                month,
-                Some(last_close),
-                act,
-            )?;
+            let household = touched.household;
+            add_household(lines, runs, history, closing, household, month, paid_at)?;
         }
     }
     Ok(())
@@ -88,18 +74,17 @@ pub fn add_month(
     alloc: Global,
     lines: &mut Vec<Line>,
     history: &History,
-    closed: Month,
+    closing: &Closing,
     month: Month,
     paid_at: Option<u32>,
-    act: u32,
 ) -> Result<(), NoMemory>
     requires { length history.now.households ≤ 100000 }
-    ensures { OnOk result (lines.new.items ≡ lines.old.items ++ lines_for (records_of history.now.households) (length history.now.households) act closed paid_at month) }
+    ensures { OnOk result (lines.new.items ≡ lines.old.items ++ lines_for (records_of history.now.households) (length history.now.households) closing.now paid_at month) }
 {
     let mut runs = Vec::new(alloc);
     for household in 1..history.households() + 1 {
         add_household(
-            lines, &mut runs, history, closed, household, month, paid_at, act,
+            lines, &mut runs, history, closing, household, month, paid_at,
         )?;
     }
     Ok(())
@@ -110,32 +95,30 @@ fn add_household(
     lines: &mut Vec<Line>,
     runs: &mut Vec<Stretch<Change>>,
     history: &History,
-    closed: Month,
+    closing: &Closing,
     household: u32,
     month: Month,
     paid_at: Option<u32>,
-    act: u32,
 ) -> Result<(), NoMemory>
-    ensures { OnOk result (lines.new.items ≡ lines.old.items ++ household_lines (records_of history.now.households) act closed paid_at month household) }
+    ensures { OnOk result (lines.new.items ≡ lines.old.items ++ household_lines (records_of history.now.households) closing.now paid_at household month) }
 {
-    changes_of_month(runs, history, household, month, paid_at, act)?;
-    add_lines(lines, act, closed, household, month, runs)
+    changes_of_month(runs, history, household, month, paid_at, closing.act)?;
+    add_lines(lines, closing, household, month, runs)
 }
 
 /// Adds a line for each of these changes that isn't for 0.
 fn add_lines(
     lines: &mut Vec<Line>,
-    act: u32,
-    closed: Month,
+    closing: &Closing,
     household: u32,
     month: Month,
     runs: &[Stretch<Change>],
 ) -> Result<(), NoMemory>
     requires { All (IsUsable month) runs.now }
-    ensures { OnOk result (lines.new.items ≡ lines.old.items ++ filter (λ l. not (int_eq l.amount (pos 0))) (map (line_of act closed household month) runs.now)) }
+    ensures { OnOk result (lines.new.items ≡ lines.old.items ++ filter (λ l. not (int_eq l.amount (pos 0))) (map (line_of closing.now household month) runs.now)) }
 {
     for run in runs {
-        let line = line_of(act, closed, household, month, run);
+        let line = line_of(closing, household, month, run);
         if line.amount != 0 {
             lines.push(line)?;
         }
@@ -143,17 +126,17 @@ fn add_lines(
     Ok(())
 }
 
-fn line_of(act: u32, closed: Month, household: u32, month: Month, run: &Stretch<Change>) -> Line
+fn line_of(closing: &Closing, household: u32, month: Month, run: &Stretch<Change>) -> Line
     requires { IsUsable month run.now }
-    ensures { result ≡ line_of act closed household month run.now }
+    ensures { result ≡ line_of closing.now household month run.now }
 {
     let days = days_in(month);
     let new = share_run(run.key.new.assistance, run.first, run.last, days);
     let old = share_run(run.key.old.assistance, run.first, run.last, days);
     Line {
-        act,
+        act: closing.act,
         place: 0,
-        month: closed,
+        month: closing.closed,
         household,
         for_month: month,
         first: day_at(month, run.first),

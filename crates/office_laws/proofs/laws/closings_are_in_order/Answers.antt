@@ -1,5 +1,6 @@
 -- What was known as of an act stays known, each line of a closing names its records on every later book, and rents are done.
-use Rattle.office_laws.proofs.Words.{common_steps, ◌≡◌, ◌∙◌, ap, refl, ℕ, ◌+◌, ◌-◌, ◌≤◌, arith, List, [], ◌++◌, length, if◌then◌else◌, ◌==◌, range_with_len, flat_map, length_push, Record, as_of, month_lines, closing_lines, Batch, Book, appended, Command, Capacity, Known, known_of, own_in, record_of, last_close, names_given, IsAppended, IsReached, reached_more, is_plan, Accepted, IsLater, later_same, later_more, KnownAsOfStays, known_stays}
+use Rattle.office_laws.proofs.Words.{common_steps, ◌≡◌, ◌∙◌, ap, refl, ℕ, ◌+◌, ◌-◌, ◌≤◌, arith, List, [], ◌++◌, Some, length, if◌then◌else◌, ◌==◌, range_with_len, flat_map, length_push, Record, as_of, Plan, Closing, month_lines, closing_lines, Batch, Book, appended, Command, Capacity, Known, known_of, own_in, record_of, last_close, closing_by, names_given, IsAppended, IsReached, reached_more, is_plan, Accepted, IsLater, later_same, later_more, KnownAsOfStays, known_stays}
+use Rattle.voucher_core.specs.Naming.{NameTheirPairs}
 use Rattle.voucher_core.proofs.Named.{lines_name_their_pairs}
 use Rattle.office_laws.proofs.{Inversion.accepted, Inversion.passes, Known.next, Known.known_next, Reached.plan_there, Replies.reached_later, InOrder.own_in_order, Conserved.closing_there, Own.own-longer, Own.own_after, Own.later_than, Own.more_of, RentsDone.rents_are_done_at_closings}
 use Rattle.office_laws.proofs.laws.closings_are_in_order.Goals as goal
@@ -33,24 +34,20 @@ returns-clause-stays c = known_as_of_stays
 -- ---- the lines of a closing
 
 -- they are made of what was known at the last closing and is known at this one
-same_lines : (count closed first last act : ℕ) (own other : ℕ → List Record) → ((household : ℕ) → as_of last (own household) ≡ as_of last (other household)) →
-    ((household : ℕ) → as_of act (own household) ≡ as_of act (other household)) →
-    closing_lines own count closed first last act ≡ closing_lines other count closed first last act
-same_lines count closed first last act own other before now =
-    λ i. (if last == 0 then [] else flat_map (λ month. flat_map (λ h. month_lines act closed h month (before h i) (now h i)) (range_with_len 1 count)) (range_with_len first (closed - first)))
-    ++ flat_map (λ h. month_lines act closed h closed [] (now h i)) (range_with_len 1 count)
+same_lines : (count : ℕ) (closing : Closing) (own other : ℕ → List Record) →
+    ((household : ℕ) → as_of closing.last_close (own household) ≡ as_of closing.last_close (other household)) →
+    ((household : ℕ) → as_of closing.act (own household) ≡ as_of closing.act (other household)) →
+    closing_lines own count closing ≡ closing_lines other count closing
+same_lines count closing own other before now =
+    λ i. (if closing.last_close == 0 then []
+    else flat_map (λ month. flat_map (λ h. month_lines closing h month (before h i) (now h i)) (range_with_len 1 count))
+    (range_with_len closing.first_month (closing.closed - closing.first_month)))
+    ++ flat_map (λ h. month_lines closing h closing.closed [] (now h i)) (range_with_len 1 count)
 
 pub returns-clause-lines : goal.returns-clause-lines
 returns-clause-lines c capacity book rows reached appends close closes later is_later =
-    let is : Accepted capacity book appends.call rows = accepted capacity book rows appends in
-    let known : Known = known_of book in
     let plan = plan_there capacity book rows reached appends (ap is_plan closes) in
-    let same = same_lines (length known.households) close.month plan.0.first (last_close known) (length book.acts + 1) (own_in (known_of later)) (own_in known)
-    (λ household. known_same (last_close known) household (grind (arith, common_steps, closing_there capacity book reached)))
-    (λ household. known_same (length book.acts + 1) household (omega arith)) in
-    rw (is.n, is.lines, closes, plan.1, ← same)
-    (lines_name_their_pairs (own_in (known_of later)) (length known.households) close.month plan.0.first (last_close known) (length book.acts + 1) 1
-    (λ household. (own_in_order capacity later (reached_later capacity (appended book rows) later (reached_more reached appends) is_later) household).numbered))
+    (plan.0, plan.1, by_plan plan.0 plan.1)
   where
     -- the closing makes no record
     own_same : (household : ℕ) → own_in (known_of (appended book rows)) household ≡ own_in (known_of book) household
@@ -64,6 +61,19 @@ returns-clause-lines c capacity book rows reached appends close closes later is_
         known_as_of_stays capacity (appended book rows) later (reached_more reached appends) is_later act household
         (omega (arith, length_push book.acts rows.act))
         ∙ ap (as_of act) (own_same household)
+
+    by_plan : (plan : Plan) → (known_of book).plan ≡ Some plan →
+        NameTheirPairs (own_in (known_of later)) (closing_by (known_of book) close plan rows.act.n) rows.lines
+    by_plan plan planned =
+        let is : Accepted capacity book appends.call rows = accepted capacity book rows appends in
+        let known : Known = known_of book in
+        let closing : Closing = closing_by known close plan (length book.acts + 1) in
+        let same = same_lines (length known.households) closing (own_in (known_of later)) (own_in known)
+        (λ household. known_same (last_close known) household (grind (arith, common_steps, closing_there capacity book reached)))
+        (λ household. known_same (length book.acts + 1) household (omega arith)) in
+        rw (is.n, is.lines, closes, planned, ← same)
+        (lines_name_their_pairs (own_in (known_of later)) (length known.households) closing 1
+        (λ household. (own_in_order capacity later (reached_later capacity (appended book rows) later (reached_more reached appends) is_later) household).numbered))
 
 -- ---- rents
 

@@ -5,8 +5,8 @@ use Rattle.voucher_core.proofs.lines.add_adjustments.Goals as goal
 pub loop-month-init : goal.loop-month-init
 loop-month-init c = record {
   lines =
-      pieces-none (lines_for (records_of c.args.history.now.households) (length c.args.history.now.households) c.args.act c.args.closed (Some c.args.last_close))
-      c.args.first_month c.number-month.result c.args.lines.now.items c.number-month.ensures.value;
+      pieces-none (lines_for (records_of c.args.history.now.households) (length c.args.history.now.households) c.args.closing.now (Some c.args.closing.now.last_close))
+      c.args.closing.now.first_month c.number-month.result c.args.lines.now.items c.number-month.ensures.value;
   within = omega arith;
 }
 
@@ -15,20 +15,20 @@ loop-month-preserved c =
     let found : c.unwrap-month.result ≡ c.loop-month.month = unwrapped c.from_number.result _ c.loop-month.month c.unwrap-month.result c.from_number.ensures c.unwrap-month.ensures in
     record {
       lines =
-          pieces-more (lines_for (records_of c.args.history.now.households) (length c.args.history.now.households) c.args.act c.args.closed (Some c.args.last_close))
-          c.args.first_month c.loop-month.month c.args.lines.now.items c.loop-month.lines.items c.add_changed.new.lines.items (omega arith) c.loop-month.invariant.lines
+          pieces-more (lines_for (records_of c.args.history.now.households) (length c.args.history.now.households) c.args.closing.now (Some c.args.closing.now.last_close))
+          c.args.closing.now.first_month c.loop-month.month c.args.lines.now.items c.loop-month.lines.items c.add_changed.new.lines.items (omega arith) c.loop-month.invariant.lines
           (c.in_ok-add_changed.ensures
           ∙ ap (λ (m : ℕ). c.loop-month.lines.items
-          ++ flat_map (household_lines (records_of c.args.history.now.households) c.args.act c.args.closed (Some c.args.last_close) m) (map touched_household c.deref.result.now)) found
+          ++ flat_map (λ h. household_lines (records_of c.args.history.now.households) c.args.closing.now (Some c.args.closing.now.last_close) h m) (map touched_household c.deref.result.now)) found
           ∙ ap (λ (hs : List ℕ). c.loop-month.lines.items
-          ++ flat_map (household_lines (records_of c.args.history.now.households) c.args.act c.args.closed (Some c.args.last_close) c.loop-month.month) hs)
+          ++ flat_map (λ h. household_lines (records_of c.args.history.now.households) c.args.closing.now (Some c.args.closing.now.last_close) h c.loop-month.month) hs)
           (ap (map touched_household) c.deref.ensures.value ∙ c.in_ok-changed.ensures.households)
           ∙ ap (λ (more : List Line). c.loop-month.lines.items ++ more)
-          (all_of_changed (records_of c.args.history.now.households) (length c.args.history.now.households) c.args.act c.args.closed c.args.last_close c.loop-month.month c.requires.last_close));
+          (all_of_changed (records_of c.args.history.now.households) (length c.args.history.now.households) c.args.closing.now c.loop-month.month c.requires.last_close));
       within = omega arith;
     }
 
 pub returns : goal.returns
 returns c =
-    adjustments-all (records_of c.args.history.now.households) (length c.args.history.now.households) c.args.act c.args.closed c.args.first_month c.args.last_close
-    c.loop-month.month c.args.lines.now.items c.loop-month.lines.items c.if-last_close-eq0.false (omega arith) (omega arith) c.loop-month.invariant.within c.loop-month.invariant.lines
+    adjustments-all (records_of c.args.history.now.households) (length c.args.history.now.households) c.args.closing.now
+    c.loop-month.month c.args.lines.now.items c.loop-month.lines.items c.if-closing-eq0.false (omega arith) (omega arith) c.loop-month.invariant.within c.loop-month.invariant.lines

@@ -6,6 +6,6 @@ invariant-loop-month l = record {
   lines :
       l.lines.items
       ≡ l.fn.lines.items
-      ++ flat_map (lines_for (records_of l.history.households) (length l.history.households) l.act l.closed (Some l.last_close)) (range_with_len l.fn.first_month (l.month - l.fn.first_month));
-  within : l.month ≤ max l.fn.first_month l.closed;
+      ++ flat_map (lines_for (records_of l.history.households) (length l.history.households) l.closing (Some l.closing.last_close)) (range_with_len l.closing.first_month (l.month - l.closing.first_month));
+  within : l.month ≤ max l.closing.first_month l.closing.closed;
 }

@@ -6,14 +6,14 @@ use Rattle.voucher_core.proofs.lines.add_changed.Goals as goal
 pub loop-touched-preserved : goal.loop-touched-preserved
 loop-touched-preserved c =
     let touched : Touched = get_or c.args.changed.now c.loop-touched.touched-index (record { household = 0; first = 0 }) in
-    some-more (household_lines (records_of c.args.history.now.households) c.args.act c.args.closed (Some c.args.last_close) c.args.month) touched_household
+    some-more (λ h. household_lines (records_of c.args.history.now.households) c.args.closing.now (Some c.args.closing.now.last_close) h c.args.month) touched_household
     c.args.changed.now c.loop-touched.touched-index (record { household = 0; first = 0 }) c.args.lines.now.items c.loop-touched.lines.items c.if-touched-last.lines.items
     c.loop-touched-test.true c.loop-touched.invariant
     (elim c.if-touched-last.branch [
       | then-touched-last+in_ok-add_household w ↦ ap vec_items w.lines-is ∙ w.in_ok-add_household.ensures
       | else-touched-last w ↦
           none-more c.loop-touched.lines.items c.if-touched-last.lines.items _ (ap vec_items w.lines-is)
-          (none_before c.args.last_close c.args.act c.requires.last_close (records_of c.args.history.now.households) c.args.closed touched.household c.args.month touched.first
+          (none_before (records_of c.args.history.now.households) c.args.closing.now c.requires.last_close touched.household c.args.month touched.first
           (c.requires.untouched c.loop-touched.touched-index (record { household = 0; first = 0 }) c.loop-touched-test.true)
           (let last : c.number-last.result ≡ last_of c.args.month = c.number-last.ensures.value ∙ c.last_of.ensures in rw last at w.if-touched-last.false))
     ])

@@ -4,4 +4,4 @@ use Rattle.voucher_core.proofs.lines.add_changed.Given as goal
 abbrev pub invariant-loop-touched : goal.invariant-loop-touched
 invariant-loop-touched l =
     l.lines.items
-    ≡ l.fn.lines.items ++ flat_map (household_lines (records_of l.history.households) l.act l.closed (Some l.last_close) l.month) (map touched_household (take l.touched-index l.changed))
+    ≡ l.fn.lines.items ++ flat_map (λ h. household_lines (records_of l.history.households) l.closing (Some l.closing.last_close) h l.month) (map touched_household (take l.touched-index l.changed))

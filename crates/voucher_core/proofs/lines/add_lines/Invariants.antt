@@ -3,4 +3,4 @@ use Rattle.voucher_core.proofs.lines.add_lines.Given as goal
 
 abbrev pub invariant-loop-run : goal.invariant-loop-run
 invariant-loop-run l =
-    l.lines.items ≡ l.fn.lines.items ++ filter (λ line. not (int_eq line.amount (pos 0))) (map (line_of l.act l.closed l.household l.month) (take l.run-index l.runs))
+    l.lines.items ≡ l.fn.lines.items ++ filter (λ line. not (int_eq line.amount (pos 0))) (map (line_of l.closing l.household l.month) (take l.run-index l.runs))

@@ -3,4 +3,4 @@ use Rattle.voucher_core.proofs.lines.add_month.Given as goal
 
 abbrev pub invariant-loop-household : goal.invariant-loop-household
 invariant-loop-household l =
-    l.lines.items ≡ l.fn.lines.items ++ lines_for (records_of l.history.households) (l.household - 1) l.act l.closed l.paid_at l.month
+    l.lines.items ≡ l.fn.lines.items ++ lines_for (records_of l.history.households) (l.household - 1) l.closing l.paid_at l.month
