@@ -15,7 +15,7 @@ no_withdrawal Kind.WD other = absurd (other refl)
 no_withdrawal _ other = refl
 
 -- what passes for one element passes for some
-some_passes : {X : Type 0} (p : X → Bool) (xs : List X) (x : X) → Contains xs x → p x ≡ true → list_any p xs ≡ true
+pub some_passes : {X : Type 0} (p : X → Bool) (xs : List X) (x : X) → Contains xs x → p x ≡ true → list_any p xs ≡ true
 some_passes p xs x held passes = All-contains (λ y. p y ≡ true → list_any p xs ≡ true) xs x (λ k d within passes. list_any_at p xs k d within passes) held passes
 
 -- both parts of a test that passes
@@ -70,7 +70,7 @@ module _ (known : List Record) (IsKnown : Record → Type 0) (exact : (r : Recor
   })
 
 -- records that are numbered have numbers of their own
-numbers_own : (records : List Record) → AreNumbered records → (a b : Record) → Contains records a → Contains records b → a.number ≡ b.number → a ≡ b
+pub numbers_own : (records : List Record) → AreNumbered records → (a b : Record) → Contains records a → Contains records b → a.number ≡ b.number → a ≡ b
 numbers_own records numbered a b (k, within, is) (j, there, that) same =
     let at_k = numbered.number k a within in
     let at_j = numbered.number j b there in

@@ -1,5 +1,5 @@
 -- What is kept of the records of each household.
-use Rattle.record_history.proofs.Words.{◌≡◌, ◌⊎◌, ℕ, ◌+◌, ◌-◌, ◌<◌, ◌≤◌, List, [], ◌∷◌, ◌++◌, length, get_or, set, refl, arith, length-append, All, nat_lt, length-set, All-nil, All-push, All-set, nat_tests, Record, newest_number, newest_act, All-cons, fold, max, all_pairs_push, Held, IsWithin, AreNumbered, ActsRise, AreKept, AreSound, records_of, room_of, with_place, All-place, places_push, get_or_past, cond_both, common_steps}
+use Rattle.record_history.proofs.Words.{◌≡◌, ◌⊎◌, ℕ, ◌+◌, ◌-◌, ◌<◌, ◌≤◌, List, [], ◌∷◌, ◌++◌, length, get_or, refl, arith, All, All-nil, All-push, nat_tests, Record, newest_number, newest_act, All-cons, fold, max, all_pairs_push, IsWithin, AreNumbered, ActsRise, AreKept, Follows, records_of, room_of, places_push, get_or_past, common_steps}
 
 pub kept_none : AreKept []
 kept_none = record {
@@ -10,7 +10,7 @@ kept_none = record {
 }
 
 -- no act is later than the newest
-acts_by : (most : ℕ) (records : List Record) → (most ≤ fold (λ most r. max most r.act) most records) ×
+pub acts_by : (most : ℕ) (records : List Record) → (most ≤ fold (λ most r. max most r.act) most records) ×
     All (λ r. r.act ≤ fold (λ most r. max most r.act) most records) records
 acts_by most [] = (omega arith, All-nil (λ (r : Record). r.act ≤ most))
 acts_by most (r ∷ rs) =
@@ -27,6 +27,15 @@ numbered_push records held numbered next = record {
   newest = grind (arith, common_steps, next, numbered.newest);
 }
 
+-- a record more is kept
+pub kept_push : (records : List Record) (held : Record) → AreKept records → Follows records held → AreKept (records ++ held ∷ [])
+kept_push records held kept follows = record {
+  within = All-push IsWithin records held kept.within follows.within;
+  numbered = numbered_push records held kept.numbered follows.number;
+  acts = acts_push records held kept.acts follows.act;
+  earlier = All-push (λ (r : Record). r.corrects < r.number) records held kept.earlier follows.earlier;
+}
+
 -- a household is there where there is room for it
 pub is_household : (room : List ℕ) (household : ℕ) → 1 ≤ room_of room household → 1 ≤ household
 is_household room household has = grind (arith, nat_tests)
@@ -41,28 +50,3 @@ records_cases households household = grind (arith, nat_tests, get_or_past)
 
 pub records_past : (households : List (List Record)) (household : ℕ) → length households < household → records_of households household ≡ []
 records_past households household past = grind (arith, nat_tests, get_or_past)
-
--- a record more is kept, in the list of its household
-pub sound_push : (old : Held) (lists : List (List Record)) (next later : List Record) (held : Record) → lists ≡ old.households →
-    AreSound lists next → IsWithin held → held.household ≤ 4294967295 → later ≡ [] →
-    1 ≤ room_of old.room held.household → held.number ≡ newest_number (records_of old.households held.household) + 1 →
-    newest_act (records_of old.households held.household) < held.act → held.corrects < held.number →
-    AreSound (set (with_place lists (held.household - 1)) (held.household - 1) (get_or lists (held.household - 1) [] ++ held ∷ [])) later
-sound_push old lists next later held same sound within fits none room number act earlier =
-    let place : ℕ = held.household - 1 in
-    let own : List Record = get_or lists place [] in
-    let before : AreKept own = All-place AreKept lists place [] sound.kept kept_none in
-    let follows = rw (← same, records_at lists held.household (is_household old.room held.household room)) at number in
-    let rises = rw (← same, records_at lists held.household (is_household old.room held.household room)) at act in
-    record {
-      few = rw length-set (grind (arith, nat_tests, sound.few, fits, length-append lists ([] ∷ [])));
-      kept = All-set AreKept (with_place lists place) place (own ++ held ∷ [])
-          (record {
-            within = All-push IsWithin own held before.within within;
-            numbered = numbered_push own held before.numbered follows;
-            acts = acts_push own held before.acts rises;
-            earlier = All-push (λ (r : Record). r.corrects < r.number) own held before.earlier earlier;
-          })
-          (cond_both (nat_lt place (length lists)) _ _ (All AreKept) (λ _. sound.kept) (λ _. All-push AreKept lists [] sound.kept kept_none));
-      empty = none;
-    }

@@ -15,6 +15,10 @@ pub in_force_is : (P : Record → Type 0) (records : List Record) (act day : ℕ
 in_force_is P records act day all =
     latest-among comes_before P None (filter (λ r. nat_le r.from day) (live_records (as_of act records))) tt (search (All-filter, all))
 
+pub in_force_among : (P : Record → Type 0) (records : List Record) (day : ℕ) → All P records → IfSome (in_force records day) P
+in_force_among P records day all =
+    latest-among comes_before P None (filter (λ r. nat_le r.from day) (live_records records)) tt (search (All-filter, all))
+
 -- where no act is later, the record in force as of that act is in force
 pub in_force_known : (act : ℕ) (records : List Record) (day : ℕ) → All (λ r. r.act ≤ act) records → in_force_as_of act records day ≡ in_force records day
 in_force_known act records day all =

@@ -6,3 +6,6 @@ pub mod ForceLemmas
 pub mod Days
 pub mod EachDay
 pub mod Longest
+pub mod OrderedLemmas
+pub mod Following
+pub mod CorrectedLemmas

@@ -9,8 +9,10 @@ pub use Rattle.std.specs.Prelude.{All, if◌then◌else◌, max, fold, nat_lt, �
 pub use mathlib.Core.List.{reverse_aux}
 pub use Rattle.list_laws.proofs.{Elements.All-place, Elements.places_push, Filters.filter_all, Filters.filter_alike}
 pub use Rattle.row_choice.proofs.LatestLemmas.{latest-among, latest-is, filter-filter, pairs_order}
-pub use Rattle.record_history.specs.Held.{Held, IsWithin, AreNumbered, ActsRise, NameEarlier, AreKept, AreSound, records_of, room_of, with_place, lists_in, room_in, room_to_come}
+pub use Rattle.record_history.specs.Held.{Held, IsWithin, AreNumbered, ActsRise, NameEarlier, AreKept, records_of, room_of, with_place}
+pub use Rattle.record_history.specs.Ordered.{StandInOrder, AreInOrder, with_live, corrected_by, AreCorrected, AreIndexed, Follows}
+pub use Rattle.record_history.specs.Households.{lists_in, room_for, room_in, room_to_come, all_room, IsIndexed, AreSound}
 pub use Rattle.record_history.specs.Records.{newest_number, as_of, is_live, live_records, comes_before, latest, in_force, in_force_as_of, newest_act}
 pub use Rattle.record_history.specs.Runs.{run_of, IsOther, CoverLongest, IsBy, number_on}
-pub use Rattle.record_history.specs.{Stretch.with_day, Stretch.newest_first, Stretch.stretches, declared.records.Record.Record, declared.stretch.Stretch.Stretch, declared.runs.Run.Run, Law.is_candidate}
+pub use Rattle.record_history.specs.{Stretch.with_day, Stretch.newest_first, Stretch.stretches, declared.records.Record.Record, declared.household.Household.Household, declared.stretch.Stretch.Stretch, declared.runs.Run.Run, Law.is_candidate}
 pub use Rattle.std.specs.{Bool.Decides, declared.alloc.Global.Global}

@@ -1,6 +1,5 @@
 -- What a history holds: the records of each household, and the room for more.
-use Rattle.std.specs.Prelude.{ℕ, ◌+◌, ◌-◌, ◌==◌, ◌≤◌, ◌<◌, ◌≡◌, All, AllPairs, nat_le, nat_lt, if◌then◌else◌, List, [], ◌∷◌, ◌++◌, length, map, slice_index_or, slice_set, vec_items, vec_len, vec_capacity}
-use Rattle.std.specs.Global.{Vec}
+use Rattle.std.specs.Prelude.{ℕ, ◌+◌, ◌-◌, ◌==◌, ◌≤◌, ◌<◌, ◌≡◌, All, AllPairs, nat_le, nat_lt, if◌then◌else◌, List, [], ◌∷◌, ◌++◌, length, slice_index_or, slice_set}
 use Rattle.days_core.specs.{OfficeDays.last_office_day, RentBounds.most_gross_rent}
 use Rattle.record_history.specs.{declared.records.Record.Record, Records.newest_number}
 
@@ -32,22 +31,6 @@ abbrev pub room_after : List (List Record) → List ℕ → ℕ → List ℕ
 room_after households room household =
     slice_set room (household - 1) (room_of room household - 1) ++ (if nat_le household (length households) then [] else 0 ∷ [])
 
--- what vectors hold
-abbrev pub lists_in : {T : Type 0} → List (Vec T) → List (List T)
-lists_in vectors = map vec_items vectors
-
--- the room that vectors have
-abbrev pub room_in : {T : Type 0} → List (Vec T) → List ℕ
-room_in vectors = map (λ v. vec_capacity v - vec_len v) vectors
-
--- the room of a vector to come, for which there is a place or not
-abbrev pub room_to_come : {T : Type 0} → Vec (Vec T) → Vec T → ℕ
-room_to_come vectors next = if nat_lt (vec_len vectors) (vec_capacity vectors) then vec_capacity next - vec_len next else 0
-
--- the room that vectors have, and last that of the one to come
-abbrev pub all_room : {T : Type 0} → Vec (Vec T) → Vec T → List ℕ
-all_room vectors next = room_in vectors.items ++ room_to_come vectors next ∷ []
-
 -- The bounds within which each record lies (own rule): it begins by the last day that an office knows, and its amounts are
 -- those that a contract allows.
 pub record IsWithin (r : Record) : Type 0 where
@@ -76,9 +59,3 @@ pub record AreKept (records : List Record) : Type 0 where
   pub numbered : AreNumbered records
   pub acts : ActsRise records
   pub earlier : NameEarlier records
-
--- what is true of the lists of all households, and of that of the household to come
-pub record AreSound (households : List (List Record)) (next : List Record) : Type 0 where
-  pub few : length households ≤ 4294967295
-  pub kept : All AreKept households
-  pub empty : next ≡ []

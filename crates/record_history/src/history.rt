@@ -1,5 +1,8 @@
-use crate::force::{in_force_among, is_live_among, newest_act_among, newest_among, record_among};
-use crate::lists::{list_of, push_at, reserve_at};
+use crate::force::{
+    in_force_among, in_force_at, is_live_among, newest_act_among, newest_among, record_among,
+};
+use crate::household::Household;
+use crate::lists::{household_of, push_at, reserve_at};
 use crate::runs::runs_among;
 use crate::{Dates, Record, Run};
 use days_core::Day;
@@ -13,27 +16,30 @@ use std::marker::Model;
 /// come.
 #[derive(Drop)]
 pub struct History {
-    lists: Vec<Vec<Record>>,
-    /// The list of the household to come, empty.
-    next: Vec<Record>,
+    households: Vec<Household>,
+    /// The household to come, without records.
+    next: Household,
 }
 
 impl Model for History {
-    ghost use Rattle.record_history.specs.Held.{Held, lists_in, all_room, AreSound};
+    ghost use Rattle.record_history.specs.Held.{Held};
+    ghost use Rattle.record_history.specs.Households.{lists_in, all_room, AreSound};
 
     ghost Value = { Held };
 
-    ghost view = { λ history. record { households = lists_in history.lists.items; room = all_room history.lists history.next } };
+    ghost view = { λ history. record { households = lists_in history.households.items; room = all_room history.households history.next } };
 
-    ghost invariant = { λ history. AreSound (lists_in history.lists.items) history.next.items };
+    ghost invariant = { λ history. AreSound history.households.items history.next };
 }
 
 impl History {
     ghost use Rattle.std.specs.Prelude.{◌≡◌, ◌≤◌, ◌<◌, ◌+◌, ◌-◌, ◌==◌, [], ◌∷◌, ℕ, map, nat_eq, length, slice_set, find, option_copied, is_ok, if◌then◌else◌, All, IfOk, OnOk, IsOk, IfSome};
     ghost use Rattle.days_core.specs.RentBounds.{most_gross_rent};
     ghost use Rattle.days_core.specs.OfficeDays.{last_office_day};
-    ghost use Rattle.record_history.specs.Records.{as_of, is_live_as_of, in_force, in_force_as_of, newest_number, newest_act};
+    ghost use Rattle.record_history.specs.Records.{as_of, live_records, is_live_as_of, in_force, in_force_as_of, newest_number, newest_act};
     ghost use Rattle.record_history.specs.Held.{records_of, room_of, room_after, with_place, with_record, IsWithin, AreNumbered, ActsRise, NameEarlier};
+    ghost use Rattle.record_history.specs.Ordered.{AreInOrder};
+    ghost use Rattle.record_history.specs.Households.{IsIndexed};
     ghost use Rattle.record_history.specs.Stretch.{stretches};
     ghost use Rattle.record_history.specs.Runs.{number_on, run_of, CoverLongest};
 
@@ -41,8 +47,8 @@ impl History {
         ensures { IfOk result (λ history. history ≡ record { households = []; room = 0 ∷ [] }) }
     {
         Ok(History {
-            lists: Vec::new(alloc),
-            next: Vec::new(alloc),
+            households: Vec::new(alloc),
+            next: Household::new(alloc),
         })
     }
 
@@ -55,7 +61,7 @@ impl History {
         ensures kept { (other : ℕ) → room_of self.old.room other ≤ room_of self.new.room other }
         ensures succeeds { 1 ≤ room_of self.old.room household → IsOk result }
     {
-        reserve_at(&mut self.lists, &mut self.next, household as usize - 1)
+        reserve_at(&mut self.households, &mut self.next, household as usize - 1)
     }
 
     /// Holds a record more, for which there is room: the next of its household, by a later act, which corrects or withdraws an
@@ -75,7 +81,7 @@ impl History {
         // The check of the move below refuses a type that the function doesn't name, as Option and Dates.
         let _dates: Option<Dates> = held.dates;
         push_at(
-            &mut self.lists,
+            &mut self.households,
             &mut self.next,
             held.household as usize - 1,
             held,
@@ -86,7 +92,7 @@ impl History {
     pub fn households(&self) -> u32
         ensures { result ≡ length self.now.households }
     {
-        self.lists.len() as u32
+        self.households.len() as u32
     }
 
     /// The household's records in the order in which they came, whether they count or not.
@@ -97,7 +103,15 @@ impl History {
         ensures acts { ActsRise result.now }
         ensures earlier { NameEarlier result.now }
     {
-        list_of(&self.lists, household)
+        &self.of(household).records
+    }
+
+    /// The household's records that count, in the order of their first days, and of one day in that of their numbers.
+    pub fn live_records(&self, household: u32) -> &[Record]
+        ensures order { AreInOrder (live_records (records_of self.now.households household)) result.now }
+        ensures few { length result.now ≤ length (records_of self.now.households household) }
+    {
+        &self.of(household).live
     }
 
     /// The number of the household's newest record, and 0 where it has none.
@@ -105,28 +119,28 @@ impl History {
         ensures value { result ≡ newest_number (records_of self.now.households household) }
         ensures numbered { AreNumbered (records_of self.now.households household) }
     {
-        newest_among(list_of(&self.lists, household))
+        newest_among(self.of(household))
     }
 
     /// The latest act that made a record of the household, and 0 where it has none.
     pub fn newest_act(&self, household: u32) -> u32
         ensures { result ≡ newest_act (records_of self.now.households household) }
     {
-        newest_act_among(list_of(&self.lists, household))
+        newest_act_among(self.of(household))
     }
 
     /// The household's record of that number.
     pub fn record_at(&self, household: u32, number: u32) -> Option<&Record>
         ensures { option_copied result ≡ find (λ r. r.number == number) (records_of self.now.households household) }
     {
-        record_among(list_of(&self.lists, household), number)
+        record_among(self.of(household), number)
     }
 
     /// Whether the household's record of that number counts as of the act.
     pub fn live(&self, household: u32, number: u32, act: u32) -> bool
         ensures { result ≡ is_live_as_of act (records_of self.now.households household) number }
     {
-        is_live_among(list_of(&self.lists, household), number, act)
+        is_live_among(self.of(household), number, act)
     }
 
     /// The record by which the household is certified on the day, as it is known by now.
@@ -134,7 +148,7 @@ impl History {
         ensures latest { option_copied result ≡ in_force (records_of self.now.households household) day }
         ensures within { IfSome (option_copied result) IsWithin }
     {
-        in_force_among(list_of(&self.lists, household), day, u32::MAX)
+        in_force_among(self.of(household), day)
     }
 
     /// The record by which the household is certified on the day, as anyone could know it at the act.
@@ -142,7 +156,7 @@ impl History {
         ensures latest { option_copied result ≡ in_force_as_of act (records_of self.now.households household) day }
         ensures within { IfSome (option_copied result) IsWithin }
     {
-        in_force_among(list_of(&self.lists, household), day, act)
+        in_force_at(self.of(household), day, act)
     }
 
     /// The longest runs of days from the first to the last with one record in force, as known at the act.
@@ -157,6 +171,14 @@ impl History {
         ensures runs { IfOk result (λ runs. runs.items ≡ map run_of (stretches nat_eq (number_on (as_of act (records_of self.now.households household))) first (last + 1 - first))) }
         ensures longest { IfOk result (λ runs. first ≤ last + 1 → CoverLongest (number_on (as_of act (records_of self.now.households household))) first (last + 1) runs.items) }
     {
-        runs_among(alloc, list_of(&self.lists, household), first, last, act)
+        runs_among(alloc, self.of(household), first, last, act)
+    }
+
+    // A household that isn't there has no records, as the one to come.
+    fn of(&self, household: u32) -> &Household
+        ensures records { result.now.records.items ≡ records_of self.now.households household }
+        ensures indexed { IsIndexed result.now }
+    {
+        household_of(&self.households, &self.next, household)
     }
 }

@@ -3,10 +3,12 @@
 
 mod force;
 mod history;
+mod household;
 mod laws;
 mod lists;
 mod live;
 mod order;
+mod ordered;
 mod records;
 mod runs;
 mod stretch;

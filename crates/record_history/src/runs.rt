@@ -1,11 +1,13 @@
 ghost use Rattle.std.specs.Prelude.{◌≡◌, ◌≤◌, ◌+◌, ◌-◌, nat_eq, map, All, IfOk};
 ghost use Rattle.record_history.specs.Records.{as_of};
+ghost use Rattle.record_history.specs.Households.{IsIndexed};
 ghost use Rattle.record_history.specs.Stretch.{stretches};
 ghost use Rattle.record_history.specs.Runs.{number_on, run_of, CoverLongest, IsBy};
 
-use crate::force::in_force_among;
+use crate::Stretch;
+use crate::force::in_force_at;
+use crate::household::Household;
 use crate::stretch::add_day;
-use crate::{Record, Stretch};
 use days_core::Day;
 use plain_data::NoMemory;
 use std::alloc::Global;
@@ -21,40 +23,43 @@ pub struct Run {
 
 pub fn runs_among(
     alloc: Global,
-    records: &[Record],
+    own: &Household,
     first: Day,
     last: Day,
     act: u32,
 ) -> Result<Vec<Run>, NoMemory>
-    ensures runs { IfOk result (λ runs. runs.items ≡ map run_of (stretches nat_eq (number_on (as_of act records.now)) first (last + 1 - first))) }
-    ensures longest { IfOk result (λ runs. first ≤ last + 1 → CoverLongest (number_on (as_of act records.now)) first (last + 1) runs.items) }
+    requires { IsIndexed own.now }
+    ensures runs { IfOk result (λ runs. runs.items ≡ map run_of (stretches nat_eq (number_on (as_of act own.now.records.items)) first (last + 1 - first))) }
+    ensures longest { IfOk result (λ runs. first ≤ last + 1 → CoverLongest (number_on (as_of act own.now.records.items)) first (last + 1) runs.items) }
 {
-    let days = stretches_among(alloc, records, first.number(), last.number(), act)?;
+    let days = stretches_among(alloc, own, first.number(), last.number(), act)?;
     runs_of(alloc, &days)
 }
 
 fn stretches_among(
     alloc: Global,
-    records: &[Record],
+    own: &Household,
     first: u32,
     last: u32,
     act: u32,
 ) -> Result<Vec<Stretch<u32>>, NoMemory>
-    requires { last ≤ 116877 }
-    ensures { IfOk result (λ days. days.items ≡ stretches nat_eq (number_on (as_of act records.now)) first (last + 1 - first)) }
+    requires indexed { IsIndexed own.now }
+    requires last { last ≤ 116877 }
+    ensures { IfOk result (λ days. days.items ≡ stretches nat_eq (number_on (as_of act own.now.records.items)) first (last + 1 - first)) }
 {
     let mut days = Vec::new(alloc);
     for day in first..last + 1 {
-        add_day(&mut days, day, number_on(records, day, act))?;
+        add_day(&mut days, day, number_on(own, day, act))?;
     }
     Ok(days)
 }
 
-fn number_on(records: &[Record], day: u32, act: u32) -> u32
-    requires { day ≤ 116877 }
-    ensures { result ≡ number_on (as_of act records.now) day }
+fn number_on(own: &Household, day: u32, act: u32) -> u32
+    requires indexed { IsIndexed own.now }
+    requires day { day ≤ 116877 }
+    ensures { result ≡ number_on (as_of act own.now.records.items) day }
 {
-    match in_force_among(records, Day::from_number(day).unwrap(), act) {
+    match in_force_at(own, Day::from_number(day).unwrap(), act) {
         Some(held) => held.number,
         None => 0,
     }

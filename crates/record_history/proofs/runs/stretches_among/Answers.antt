@@ -4,7 +4,7 @@ use Rattle.record_history.proofs.runs.stretches_among.Goals as goal
 
 pub loop-day-preserved : goal.loop-day-preserved
 loop-day-preserved c = (
-  c.in_ok-add_day.ensures.ok (newest_first nat_eq (number_on (as_of c.args.act c.args.records.now)) c.args.first (c.loop-day.day - c.args.first)) c.loop-day.invariant.0
-      ∙ one_more (number_on (as_of c.args.act c.args.records.now)) c.args.first c.loop-day.day c.number_on.result c.loop-day.auto.day c.number_on.ensures,
+  c.in_ok-add_day.ensures.ok (newest_first nat_eq (number_on (as_of c.args.act c.args.own.now.records.items)) c.args.first (c.loop-day.day - c.args.first)) c.loop-day.invariant.0
+      ∙ one_more (number_on (as_of c.args.act c.args.own.now.records.items)) c.args.first c.loop-day.day c.number_on.result c.loop-day.auto.day c.number_on.ensures,
   omega arith,
 )
