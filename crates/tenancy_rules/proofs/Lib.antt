@@ -10,3 +10,4 @@ pub mod FirstUse
 pub mod LiveLaws
 pub mod ByUnit
 pub mod Told
+pub mod Ordered

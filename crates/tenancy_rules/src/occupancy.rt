@@ -173,7 +173,7 @@ impl Pair<'_> {
     fn have_one_unit_on(&self, day: Day) -> bool
         ensures { result ≡ have_one_unit_on (changed_records (records_of self.now.history.now.households self.now.household) self.now.change.now) (live_records (records_of self.now.history.now.households self.now.other)) day }
     {
-        let own = changed_in_force(self.history.records(self.household), self.change, day);
+        let own = changed_in_force(self.history, self.household, self.change, day);
         let others = self.history.in_force(self.other, day);
         is_one_unit(unit_kept(own), unit_kept(others))
     }
@@ -206,11 +206,16 @@ fn end_beside(first: &Option<(u32, Day)>, other: u32) -> u32
 }
 
 /// The record in force on the day, after the change.
-fn changed_in_force<'a>(records: &'a [Record], change: &'a Change, day: Day) -> Option<&'a Record>
-    ensures { option_copied result ≡ latest (filter (λ r. nat_le r.from day) (changed_records records.now change.now)) }
+fn changed_in_force<'a>(
+    history: &'a History,
+    household: u32,
+    change: &'a Change,
+    day: Day,
+) -> Option<&'a Record>
+    ensures { option_copied result ≡ latest (filter (λ r. nat_le r.from day) (changed_records (records_of history.now.households household) change.now)) }
 {
     // Records are numbered from 1, so each that comes before number 0 of the next day has begun by this one.
-    latest_before(records, change, day.number() + 1, 0)
+    latest_before(history, household, change, day.number() + 1, 0)
 }
 
 fn unit_kept(held: Option<&Record>) -> Option<u32>

@@ -1,13 +1,13 @@
 //! Which records may follow each other.
 
-ghost use Rattle.std.specs.Prelude.{◌≡◌, option_copied};
+ghost use Rattle.std.specs.Prelude.{◌≡◌, filter, option_copied};
 ghost use Rattle.std.specs.Option.{option_map};
-ghost use Rattle.record_history.specs.Held.{records_of};
-ghost use Rattle.tenancy_rules.specs.Changed.{changed_records, AddsNext, NumbersRise};
-ghost use Rattle.tenancy_rules.specs.Order.{may_begin, may_follow, has_its_unit, is_in_order, is_out_of_order, sooner, record_before, first_out_of_order};
+ghost use Rattle.record_history.specs.{Held.records_of, Records.live_records};
+ghost use Rattle.tenancy_rules.specs.Changed.{changed_records, without, AddsNext, NumbersRise};
+ghost use Rattle.tenancy_rules.specs.Order.{may_begin, may_follow, has_its_unit, is_in_order, is_out_of_order, sooner, earliest, record_before, first_out_of_order};
 
 use crate::Change;
-use crate::changed::{is_kept, latest_before};
+use crate::changed::{latest_before, live_in_order};
 use record_history::{History, Kind, Record, comes_before};
 
 /// The number of the first record that would be out of order after the change, and None where none would be.
@@ -19,36 +19,59 @@ pub fn order_fault(history: &History, household: u32, change: &Change) -> Option
     ensures value { result ≡ option_map (λ r. r.number) (first_out_of_order (changed_records (records_of history.now.households household) change.now)) }
     ensures own_number { NumbersRise (changed_records (records_of history.now.households household) change.now) }
 {
-    first_out_of_order(history.records(household), change).map(|held| held.number)
+    // Its clauses say that the records are numbered.
+    let _records = history.records(household);
+    first_out_of_order(history, household, change).map(|held| held.number)
 }
 
 /// The first of the changed records that may not stand where it stands.
-pub fn first_out_of_order<'a>(records: &'a [Record], change: &'a Change) -> Option<&'a Record>
-    ensures { option_copied result ≡ first_out_of_order (changed_records records.now change.now) }
+fn first_out_of_order<'a>(
+    history: &'a History,
+    household: u32,
+    change: &'a Change,
+) -> Option<&'a Record>
+    ensures { option_copied result ≡ first_out_of_order (changed_records (records_of history.now.households household) change.now) }
 {
-    let mut first = None;
-    for held in records {
-        if is_kept(records, change, held) && is_out_of_order(records, change, held) {
-            first = sooner(first, held);
-        }
-    }
+    let first = first_kept_out_of_order(history, household, change);
     match &change.add {
-        Some(added) if is_out_of_order(records, change, added) => sooner(first, added),
+        Some(added) if is_out_of_order(history, household, change, added) => sooner(first, added),
         _ => first,
     }
 }
 
-#[tactic(auto, unfolding(crate::specs::Order::is_out_of_order))]
-fn is_out_of_order(records: &[Record], change: &Change, held: &Record) -> bool
-    ensures { result ≡ is_out_of_order (changed_records records.now change.now) held.now }
+/// The first of those that the change keeps.
+fn first_kept_out_of_order<'a>(
+    history: &'a History,
+    household: u32,
+    change: &Change,
+) -> Option<&'a Record>
+    ensures { option_copied result ≡ earliest (filter (is_out_of_order (changed_records (records_of history.now.households household) change.now)) (without change.now.drop (live_records (records_of history.now.households household)))) }
 {
-    !is_in_order(record_before(records, change, held), held)
+    let mut first = None;
+    for held in live_in_order(history, household) {
+        if held.number != change.drop && is_out_of_order(history, household, change, held) {
+            first = sooner(first, held);
+        }
+    }
+    first
 }
 
-fn record_before<'a>(records: &'a [Record], change: &'a Change, next: &Record) -> Option<&'a Record>
-    ensures { option_copied result ≡ record_before (changed_records records.now change.now) next.now }
+#[tactic(auto, unfolding(crate::specs::Order::is_out_of_order))]
+fn is_out_of_order(history: &History, household: u32, change: &Change, held: &Record) -> bool
+    ensures { result ≡ is_out_of_order (changed_records (records_of history.now.households household) change.now) held.now }
 {
-    latest_before(records, change, next.from.number(), next.number)
+    !is_in_order(record_before(history, household, change, held), held)
+}
+
+fn record_before<'a>(
+    history: &'a History,
+    household: u32,
+    change: &'a Change,
+    next: &Record,
+) -> Option<&'a Record>
+    ensures { option_copied result ≡ record_before (changed_records (records_of history.now.households household) change.now) next.now }
+{
+    latest_before(history, household, change, next.from.number(), next.number)
 }
 
 /// The one of the two that comes first.
