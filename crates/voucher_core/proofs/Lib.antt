@@ -10,6 +10,7 @@ pub mod Alike
 pub mod Usable
 pub mod Unchanged
 pub mod Untouched
+pub mod Newer
 pub mod Gathered
 pub mod Few
 pub mod LongestRuns

@@ -7,7 +7,7 @@ use Rattle.voucher_core.proofs.{Covered.exact_change, Covered.exact_numbers, Cov
 
 module _ (records : List Record) (numbered : AreNumbered records) where
   -- each record is found by its own number
-  lead_back : All (λ r. find (λ q. q.number == r.number) records ≡ Some r) records
+  pub lead_back : All (λ r. find (λ q. q.number == r.number) records ≡ Some r) records
   lead_back k d within =
       find_first (λ (q : Record). q.number == (get_or records k d).number) records k d within (eq-eqb _ _ refl)
       (λ i before. ne_eqb _ _ (λ same. absurd (omega (arith, numbered.number i d (omega (arith, before, within)), numbered.number k d within, same))))

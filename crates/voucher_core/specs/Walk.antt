@@ -1,6 +1,6 @@
 -- How a closing goes over households and days: past those that add nothing.
-use Rattle.std.specs.Prelude.{ℕ, ◌<◌, ◌≤◌, ◌≡◌, ◌==◌, ◌&&◌, ◌||◌, nat_lt, Bool, true, All, List, [], ◌∷◌, filter, Option}
-use Rattle.std.specs.{List.range_with_len, List.list_any}
+use Rattle.std.specs.Prelude.{ℕ, ◌<◌, ◌≤◌, ◌≡◌, ◌==◌, ◌&&◌, ◌||◌, nat_lt, min, Bool, true, All, List, [], ◌∷◌, filter, find, Option}
+use Rattle.std.specs.{List.range_with_len, List.list_any, Option.option_map_or}
 use Rattle.record_history.specs.{declared.records.Record.Record, declared.stretch.Stretch.Stretch, Records.as_of, Records.newest_act}
 use Rattle.voucher_core.specs.{declared.closing.Closing.Closing, declared.line.Line.Line, declared.touched.Touched.Touched, Lines.month_lines, Lines.known_before}
 
@@ -20,6 +20,14 @@ is_newly_corrected last_close records number = list_any (λ other. nat_lt last_c
 -- an act after that one made the record, or one that corrects it
 abbrev pub is_touched : ℕ → List Record → Record → Bool
 is_touched last_close records r = nat_lt last_close r.act || is_newly_corrected last_close records r.number
+
+-- the records that acts after that one made
+abbrev pub made_after : ℕ → List Record → List Record
+made_after last_close records = filter (λ r. nat_lt last_close r.act) records
+
+-- the day on which the record begins, or on which the one that it corrects or withdraws does, if that is earlier
+abbrev pub earlier_start : List Record → Record → ℕ
+earlier_start records r = min r.from (option_map_or (λ c. c.from) (find (λ c. c.number == r.corrects) records) r.from)
 
 -- none of the records that are touched begins before the day
 pub record TouchesFrom (last_close : ℕ) (records : List Record) (day : ℕ) : Type 0 where

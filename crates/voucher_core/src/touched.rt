@@ -1,8 +1,8 @@
 //! The households for which something may have changed since a closing, and from which day on.
 
 ghost use Rattle.std.specs.Prelude.{◌≡◌, ◌≤◌, All, IfOk, map, length};
-ghost use Rattle.record_history.specs.Held.{records_of};
-ghost use Rattle.voucher_core.specs.Walk.{changed_since, is_newly_corrected, is_touched, touched_household, BeginsUntouched, TouchesFrom};
+ghost use Rattle.record_history.specs.Held.{records_of, ActsRise};
+ghost use Rattle.voucher_core.specs.Walk.{changed_since, made_after, earlier_start, touched_household, BeginsUntouched, TouchesFrom};
 
 use plain_data::NoMemory;
 use record_history::{History, Record};
@@ -28,37 +28,41 @@ pub fn touched_since(
     let mut changed = Vec::new(alloc);
     for household in 1..history.households() + 1 {
         if last_close < history.newest_act(household) {
-            let first = touched_from(history.records(household), last_close);
+            let first = touched_from(history, household, last_close);
             changed.push(Touched { household, first })?;
         }
     }
     Ok(changed)
 }
 
-/// A day before which nothing is changed by the records of acts after that one.
-fn touched_from(records: &[Record], last_close: u32) -> u32
-    ensures { TouchesFrom last_close records.now result }
+/// A day before which nothing is changed by the household's records of acts after that one.
+fn touched_from(history: &History, household: u32, last_close: u32) -> u32
+    ensures { TouchesFrom last_close (records_of history.now.households household) result }
 {
+    let newer = made_after(history.records(household), last_close);
     let mut first = u32::MAX;
-    for held in records {
-        if is_touched(records, held, last_close) {
-            first = first.min(held.from.number());
-        }
+    for held in newer {
+        first = first.min(earlier_start(history, household, held));
     }
     first
 }
 
-/// Whether the record was made after that act, or is corrected by one that was.
-fn is_touched(records: &[Record], held: &Record, last_close: u32) -> bool
-    ensures { result ≡ is_touched last_close records.now held.now }
+/// The records of acts after that one, of records in the order of their acts.
+fn made_after(records: &[Record], last_close: u32) -> &[Record]
+    requires { ActsRise records.now }
+    ensures { result.now ≡ made_after last_close records.now }
 {
-    last_close < held.act || is_newly_corrected(records, held.number, last_close)
+    let known = records.partition_point(|held| held.act <= last_close);
+    &records[known..]
 }
 
-fn is_newly_corrected(records: &[Record], number: u32, last_close: u32) -> bool
-    ensures { result ≡ is_newly_corrected last_close records.now number }
+/// The first day of the record, or of the one that it corrects or withdraws, if that is earlier.
+fn earlier_start(history: &History, household: u32, held: &Record) -> u32
+    ensures { result ≡ earlier_start (records_of history.now.households household) held.now }
 {
-    records
-        .iter()
-        .any(|other| last_close < other.act && other.corrects == number)
+    let own = held.from.number();
+    match history.record_at(household, held.corrects) {
+        Some(corrected) => own.min(corrected.from.number()),
+        None => own,
+    }
 }

@@ -1,4 +1,4 @@
-use Rattle.voucher_core.proofs.Words.{◌≡◌, ◌∙◌, ap, sym, ℕ, [], ◌∷◌, ◌++◌, All-nil, All-cons, All-append, map, map-append, nat_lt, vec_items, lt-ltb, le-ltb, newest_act, records_of, Touched, touched_household, BeginsUntouched, TouchesFrom}
+use Rattle.voucher_core.proofs.Words.{◌≡◌, ◌∙◌, ap, sym, ℕ, [], ◌∷◌, ◌++◌, All-nil, All-cons, All-append, map, map-append, nat_lt, vec_items, lt-ltb, le-ltb, newest_act, records_of, Touched, touched_household, BeginsUntouched}
 use Rattle.voucher_core.proofs.Unchanged.{filtered-in, filtered-out}
 use Rattle.voucher_core.proofs.touched.touched_since.Goals.{then-last_close-newest_act+in_ok-push, else-last_close-newest_act}
 use Rattle.voucher_core.proofs.touched.touched_since.Goals as goal
@@ -13,7 +13,6 @@ loop-household-preserved c =
       | then-last_close-newest_act+in_ok-push w ↦
           let one : Touched = record { household = c.loop-household.household; first = w.touched_from-first.result } in
           let pushed : after ≡ before ++ one ∷ [] = ap vec_items w.changed-is ∙ w.in_ok-push.ensures.items in
-          let here : TouchesFrom c.args.last_close (own c.loop-household.household) w.touched_from-first.result = rw (← w.records.ensures.records) w.touched_from-first.ensures in
           record {
             households =
                 filtered-in passes c.loop-household.household (map touched_household before) (map touched_household after) c.loop-household.auto.household
@@ -21,7 +20,7 @@ loop-household-preserved c =
                 (ap (map touched_household) pushed ∙ map-append touched_household before _) c.loop-household.invariant.households;
             untouched =
                 rw pushed (All-append (BeginsUntouched c.args.last_close own) before _ c.loop-household.invariant.untouched
-                (All-cons (BeginsUntouched c.args.last_close own) one [] here (All-nil (BeginsUntouched c.args.last_close own))));
+                (All-cons (BeginsUntouched c.args.last_close own) one [] w.touched_from-first.ensures (All-nil (BeginsUntouched c.args.last_close own))));
           }
       | else-last_close-newest_act w ↦
           let kept : after ≡ before = ap vec_items w.changed-is in
