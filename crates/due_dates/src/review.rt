@@ -51,18 +51,18 @@ struct RentReview<'a> {
 }
 
 impl RentReview<'_> {
-    /// Rents become stale only where a record or a row of rents begins, so no other day is looked at.
+    /// Rents become stale only where a record that counts or a row of rents begins, so no other day is looked at.
     fn least_day(&self) -> Option<Day>
         ensures { result ≡ rent_due_day_of (records_of self.now.history.now.households self.now.household) self.now.table.now.units self.now.table.now.rents self.now.first self.now.last }
     {
+        let live = self.history.live_records(self.household);
         let at_once = self.earlier(None, self.first);
-        self.among_rows(self.among_records(at_once))
+        self.among_rows(self.among_records(live, at_once))
     }
 
-    fn among_records(&self, best: Option<Day>) -> Option<Day>
-        ensures { result ≡ with_days (is_due_on self.now) best (map (λ r. r.from) (records_of self.now.history.now.households self.now.household)) }
+    fn among_records(&self, records: &[Record], best: Option<Day>) -> Option<Day>
+        ensures { result ≡ with_days (is_due_on self.now) best (map (λ r. r.from) records.now) }
     {
-        let records = self.history.records(self.household);
         let mut least = best;
         for held in records {
             least = self.earlier(least, held.from);
