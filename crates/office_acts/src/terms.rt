@@ -270,8 +270,14 @@ fn wrong_interim(
 {
     let made = made.as_ref()?;
     let plan = register.plan()?;
-    let records = register.history().records(household);
-    let right = interim_right(records, 0, interim.dates, made.ttp, plan.report_days);
+    let right = interim_right(
+        register.history(),
+        household,
+        0,
+        interim.dates,
+        made.ttp,
+        plan.report_days,
+    );
     refusals::wrong_day(Some(right), interim.from)
 }
 

@@ -63,9 +63,8 @@ fn overdue_day(history: &History, month: Month, household: u32) -> Option<Day>
     ensures { let own = records_of history.now.households household in
         result ≡ overdue_day month (earliest (others_of own 0)) (base_before (others_of own 0) (last_of month + 1) 0) }
 {
-    let records = history.records(household);
-    let opening = opening(records, 0)?;
-    let base = base(records, 0, last_of(month).number() + 1, 0)?;
+    let opening = opening(history, household, 0)?;
+    let base = base(history, household, 0, last_of(month).number() + 1, 0)?;
     if is_overdue(base.from, month) {
         Some(anniversary(opening.from, base.from))
     } else {
