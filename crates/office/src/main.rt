@@ -1,15 +1,19 @@
 //! The office program over the real streams and clock, and a book in a file or in memory.
 #![tactic(auto)]
 
-use command_words::book_and_words;
+use command_words::{Serve, book_and_words, serve_words};
 use keeper_core::{Keeper, MemoryKeeper};
 use keeper_sqlite::SqliteKeeper;
-use office_io::{StreamSink, StreamSource, SystemClock};
+use office_io::{Clock, Sink, StreamSink, StreamSource, SystemClock};
+use office_links::TcpLinks;
+use office_server::run_serve;
 use sqlite::{Connection, Error, ErrorCode};
 use std::process::ExitCode;
 use std::rt::Env;
 use std::{env, io};
 
+/// The status where no port is bound.
+const NOT_BOUND: u8 = 3;
 /// The status where the book's file doesn't open.
 const NOT_OPENED: u8 = 5;
 /// The status where memory runs out.
@@ -21,10 +25,30 @@ fn words_of<R: Env + AllocGlobal>(rt: &R) -> io::Result<Vec<String>> {
 
 /// Runs the program that the words name over the real streams and clock, and a keeper.
 fn run_over<K: Keeper>(rt: &HostRuntime, words: &[String], keeper: &mut K) -> u8 {
-    let mut source = StreamSource::new(rt.stdin());
     let mut sink = StreamSink::new(rt.stdout());
     let clock = SystemClock::new(rt);
-    office_prog::run(rt.alloc(), words, &mut source, &mut sink, &clock, keeper)
+    match serve_words(words) {
+        // There are no workers yet beside the one, so other numbers of them are words that the program doesn't know.
+        Some(serve) if serve.workers == 1 => serve_port(rt, &serve, &mut sink, &clock, keeper),
+        _ => {
+            let mut source = StreamSource::new(rt.stdin());
+            office_prog::run(rt.alloc(), words, &mut source, &mut sink, &clock, keeper)
+        }
+    }
+}
+
+/// Serves so many links that come to a port of this machine's own address.
+fn serve_port<K: Keeper, W: Sink, C: Clock>(
+    rt: &HostRuntime,
+    serve: &Serve,
+    sink: &mut W,
+    clock: &C,
+    keeper: &mut K,
+) -> u8 {
+    match TcpLinks::bind(rt, serve.port, serve.connections) {
+        Ok(mut links) => run_serve(rt.alloc(), &mut links, sink, clock, keeper),
+        Err(_) => NOT_BOUND,
+    }
 }
 
 /// The same, over the book in the file at the path.

@@ -2,7 +2,7 @@
 use Rattle.std.specs.Prelude.{◌≡◌, ℕ}
 use Rattle.book_rows.specs.Book.{Book}
 use Rattle.batch_command.specs.{declared.ending.Ending.Ending, Answers.Blames, Batch.Ran}
-use Rattle.office_prog.specs.Opening.{Door, largest}
+use Rattle.program_answers.specs.Opening.{Door, largest}
 
 abbrev pub status_of : Ending → ℕ
 status_of Ending.Done = 0

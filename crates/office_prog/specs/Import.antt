@@ -6,7 +6,8 @@ use Rattle.book_rows.specs.Book.{Book}
 use Rattle.applicant_rows.specs.{declared.row.ImportRow.ImportRow, Applicants.applicants_in}
 use Rattle.batch_command.specs.{declared.ending.Ending.Ending, Answers.Blames}
 use Rattle.import_command.specs.Rows.{RowsRan}
-use Rattle.office_prog.specs.{Answer.Answer, Answer.Ends, Opening.Door, Opening.largest, Batch.status_of}
+use Rattle.program_answers.specs.{Answer.Answer, Answer.Ends, Opening.Door, Opening.largest}
+use Rattle.office_prog.specs.Batch.{status_of}
 
 -- the most bytes of an import
 abbrev pub import_limit : ℕ

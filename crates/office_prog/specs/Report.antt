@@ -4,7 +4,8 @@ use Rattle.book_rows.specs.Book.{Book}
 use Rattle.forms_text.specs.Form.{voucher_text}
 use Rattle.line_records.specs.Export.{lines_text}
 use Rattle.office_reports.specs.Reports.{due_text, targets_text}
-use Rattle.office_prog.specs.{declared.report.Report.Report, Opening.Door, Opening.Says}
+use Rattle.program_answers.specs.Opening.{Door, Says}
+use Rattle.office_prog.specs.declared.report.Report.{Report}
 
 -- the text of a report is a function of the book
 abbrev pub report_text : Report → Book → List ℕ

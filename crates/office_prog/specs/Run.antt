@@ -3,11 +3,11 @@ use Rattle.std.specs.Prelude.{ℕ, nat_le, if◌then◌else◌, List, [], length
 use Rattle.assess_command.specs.{declared.answer.Assessed.Assessed, Assess.assessed}
 use Rattle.made_office.specs.Lines.{made_text}
 use Rattle.office_trial.specs.Trial.{trial_text}
-use Rattle.office_prog.specs.{Answer.Answer, Opening.largest}
+use Rattle.program_answers.specs.{Answer.Answer, Opening.largest}
 
 -- other words are answered with how the program is used
 abbrev pub usage : Answer
-usage = record { status = 2; text = codes "usage: office [--book PATH] assess|batch|voucher MONTH|export|import CLERK|due DAY|targets DAY|make N|trial N\n" }
+usage = record { status = 2; text = codes "usage: office [--book PATH] assess|batch|voucher MONTH|export|import CLERK|due DAY|targets DAY|make N|trial N|serve PORT WORKERS CONNECTIONS\n" }
 
 -- an assess object has at most 16,384 bytes
 abbrev pub input_limit : ℕ

@@ -3,14 +3,14 @@ ghost use Rattle.book_rows.specs.Book.{Book};
 ghost use Rattle.keeper_core.specs.Keeping.{Keeps};
 ghost use Rattle.batch_command.specs.Below.clerk_desk.Serving.{ToldBefore};
 ghost use Rattle.office_prog.specs.Batch.{Batched, status_of};
-ghost use Rattle.office_prog.specs.Opening.{Comes, door, largest};
+ghost use Rattle.program_answers.specs.Opening.{Comes, door, largest};
 
-use crate::opening::{LARGEST, tell_unopened};
 use batch_command::clerk_desk::open_office;
 use batch_command::office_core::Office;
 use batch_command::{Ending, answer_lines};
 use keeper_core::Keeper;
 use office_io::{Clock, Sink, Source};
+use program_answers::{LARGEST, tell_unopened};
 use std::alloc::Global;
 
 /// Opens the keeper's book, answers the lines of the source on it, and gives the status.

@@ -3,17 +3,16 @@ ghost use Rattle.book_rows.specs.Book.{Book};
 ghost use Rattle.keeper_core.specs.Keeping.{Keeps};
 ghost use Rattle.batch_command.specs.Below.clerk_desk.Serving.{ToldBefore};
 ghost use Rattle.office_prog.specs.Import.{AnswersInput, Imported};
-ghost use Rattle.office_prog.specs.Opening.{Comes, door, largest};
+ghost use Rattle.program_answers.specs.Opening.{Comes, door, largest};
 
 use crate::batch::status_of;
-use crate::ending::finish;
-use crate::opening::{LARGEST, tell_unopened};
 use applicant_rows::{ImportFault, applicants_of_csv};
 use batch_command::clerk_desk::open_office;
 use batch_command::office_core::Office;
 use import_command::answer_rows;
 use keeper_core::Keeper;
 use office_io::{Clock, Input, Sink, Source, read_up_to};
+use program_answers::{LARGEST, finish, tell_unopened};
 use std::alloc::Global;
 
 /// The most bytes of an import.

@@ -2,10 +2,8 @@
 #![tactic(auto)]
 
 mod batch;
-mod ending;
 mod import;
 mod made;
-mod opening;
 mod program;
 mod report;
 mod task;

@@ -1,12 +1,11 @@
 ghost use Rattle.std.specs.Prelude.{◌≡◌, ◌≢◌};
-ghost use Rattle.office_prog.specs.Answer.{Ends};
+ghost use Rattle.program_answers.specs.Answer.{Ends};
 ghost use Rattle.office_prog.specs.Run.{made_answer, trial_answer};
 
-use crate::ending::finish;
-use crate::opening::LARGEST;
 use made_office::made_lines;
 use office_io::Sink;
 use office_trial::trial;
+use program_answers::{LARGEST, finish};
 use std::alloc::Global;
 
 /// Writes the lines of a made office of so many households, and gives the status.

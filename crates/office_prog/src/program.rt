@@ -3,18 +3,17 @@ ghost use Rattle.std.specs.Io.KnownBytes.{Consumes};
 ghost use Rattle.office_io.specs.Outside.{Faulted};
 ghost use Rattle.office_io.specs.Transfer.{Takes};
 ghost use Rattle.assess_command.specs.Assess.{assessed};
-ghost use Rattle.office_prog.specs.Answer.{Ends};
+ghost use Rattle.program_answers.specs.Answer.{Ends};
 ghost use Rattle.office_prog.specs.Task.{task_in, asks_keeper};
 ghost use Rattle.office_prog.specs.declared.task.Task.TheVariants as task;
 ghost use Rattle.office_prog.specs.declared.report.Report.{Report};
 ghost use Rattle.office_prog.specs.Run.{usage, input_limit, assess_answer, answer_of, made_answer, trial_answer};
-ghost use Rattle.office_prog.specs.Opening.{Comes, door};
+ghost use Rattle.program_answers.specs.Opening.{Comes, door};
 ghost use Rattle.office_prog.specs.Batch.{Batched};
 ghost use Rattle.office_prog.specs.Report.{Reported};
 ghost use Rattle.office_prog.specs.Import.{Imported};
 
 use crate::batch::run_batch;
-use crate::ending::finish;
 use crate::import::run_import;
 use crate::made::{run_make, run_trial};
 use crate::report::run_report;
@@ -22,6 +21,7 @@ use crate::task::{Task, task_in};
 use assess_command::{Assessed, assess};
 use keeper_core::Keeper;
 use office_io::{Clock, Input, Sink, Source, read_up_to};
+use program_answers::finish;
 use std::alloc::Global;
 
 /// The most bytes of an assess object.
@@ -29,7 +29,7 @@ const INPUT_LIMIT: usize = 16_384;
 
 /// How the program is used.
 const USAGE: &[u8] =
-    b"usage: office [--book PATH] assess|batch|voucher MONTH|export|import CLERK|due DAY|targets DAY|make N|trial N\n";
+    b"usage: office [--book PATH] assess|batch|voucher MONTH|export|import CLERK|due DAY|targets DAY|make N|trial N|serve PORT WORKERS CONNECTIONS\n";
 
 /// Runs the program that the words name, and gives its exit status.
 ///

@@ -1,9 +1,7 @@
 ghost use Rattle.std.specs.Prelude.{◌≡◌, ℕ, Option, List, IfOk};
-ghost use Rattle.office_prog.specs.Opening.{Comes, Says, door};
+ghost use Rattle.program_answers.specs.Opening.{Comes, Says, door};
 ghost use Rattle.office_prog.specs.Report.{Reported, report_text};
 
-use crate::ending::finish;
-use crate::opening::{LARGEST, tell_unopened};
 use batch_command::clerk_desk::open_office;
 use batch_command::office_core::Office;
 use days_core::{Day, Month};
@@ -13,6 +11,7 @@ use line_records::lines_csv;
 use office_io::Sink;
 use office_reports::{due_text, targets_text};
 use plain_data::{NoMemory, Text};
+use program_answers::{LARGEST, finish, tell_unopened};
 use std::alloc::Global;
 
 /// A report of the book.

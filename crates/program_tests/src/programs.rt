@@ -24,7 +24,7 @@ const HELPED: &str =
     "{'adjusted':8487,'annual':9600,'assistance':548,'reimbursement':0,'tenant_rent':152,'ttp':212}\n";
 
 const USAGE: &str =
-    "usage: office [--book PATH] assess|batch|voucher MONTH|export|import CLERK|due DAY|targets DAY|make N|trial N\n";
+    "usage: office [--book PATH] assess|batch|voucher MONTH|export|import CLERK|due DAY|targets DAY|make N|trial N|serve PORT WORKERS CONNECTIONS\n";
 
 fn household(rt: &impl Abort, alloc: Global, old: &str, new: &str) -> Vec<u8> {
     let whole = HOUSEHOLD

@@ -2,7 +2,7 @@ use Rattle.std.proofs.Common.{◌≡◌, ◌≤◌, ℕ, List, length, inl, subs
 use Rattle.office_io.specs.Transfer.{Takes}
 use Rattle.book_rows.specs.Book.{Book}
 use Rattle.office_prog.specs.Import.{AnswersInput, Imported, import_limit}
-use Rattle.office_prog.specs.Opening.{Door, door}
+use Rattle.program_answers.specs.Opening.{Door, door}
 use Rattle.office_prog.proofs.import.import.Goals as goal
 
 -- an input that was taken whole was answered

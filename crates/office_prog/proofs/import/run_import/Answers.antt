@@ -1,6 +1,6 @@
 use Rattle.std.proofs.Common.{inl, inr, refl, ◌∙◌}
 use Rattle.office_prog.specs.Import.{Imported}
-use Rattle.office_prog.proofs.Serving.{served}
+use Rattle.program_answers.proofs.Serving.{served}
 use Rattle.office_prog.proofs.import.run_import.Goals as goal
 
 pub returns-in-Ok : goal.returns-in-Ok

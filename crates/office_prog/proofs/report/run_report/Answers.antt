@@ -1,6 +1,6 @@
 use Rattle.std.proofs.Common.{refl, inl, inr}
 use Rattle.office_prog.specs.Report.{Reported}
-use Rattle.office_prog.proofs.Serving.{served}
+use Rattle.program_answers.proofs.Serving.{served}
 use Rattle.office_prog.proofs.report.run_report.Goals as goal
 
 pub returns-in-Ok : goal.returns-in-Ok

@@ -9,7 +9,7 @@ use Rattle.batch_command.specs.Below.office_step.{declared.call.Capacity.Capacit
 use Rattle.batch_command.specs.Below.office_laws.Upheld.{IsUpheld}
 use Rattle.batch_command.specs.Below.clerk_desk.{declared.opening.DeskFault.DeskFault, Opening.IsUnopened}
 use Rattle.batch_command.specs.Answers.{Counts}
-use Rattle.office_prog.specs.Answer.{Answer, Ends}
+use Rattle.program_answers.specs.Answer.{Answer, Ends}
 
 -- the most acts and lines of the program's book
 abbrev pub largest : Capacity

@@ -6,8 +6,8 @@ use Rattle.keeper_core.specs.Keeping.{BadRow, Keeps}
 use Rattle.batch_command.specs.Below.office_step.{declared.call.Capacity.Capacity, Step.IsReached, Valid.first_fault}
 use Rattle.batch_command.specs.Below.office_laws.Upheld.{IsUpheld}
 use Rattle.batch_command.specs.Below.clerk_desk.{declared.opening.DeskFault.DeskFault, Opening.BlamesKeeper, Opening.TellsOnly, Serving.ToldBefore}
-use Rattle.office_prog.specs.Answer.{Answer}
-use Rattle.office_prog.specs.Opening.{Comes, Door, Says, Serves, Tells, door, largest}
+use Rattle.program_answers.specs.Answer.{Answer}
+use Rattle.program_answers.specs.Opening.{Comes, Door, Says, Serves, Tells, door, largest}
 
 -- what the keeper tells at the end it told of the book that was opened
 told_of_start : (start : Book) (holds holds_mid holds_now : Book → Type 0) (bad_mid : BadRow → Type 0) → TellsOnly start holds_mid bad_mid → Keeps holds holds_mid

@@ -1,4 +1,4 @@
-ghost use Rattle.office_prog.specs.Answer.{Ends};
+ghost use Rattle.program_answers.specs.Answer.{Ends};
 
 use office_io::{Sink, write_whole};
 

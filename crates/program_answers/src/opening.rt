@@ -1,6 +1,6 @@
 ghost use Rattle.std.specs.Prelude.{◌≡◌, ℕ, Option, List, IfOk, string_bytes};
 ghost use Rattle.batch_command.specs.Below.clerk_desk.Opening.{BlamesKeeper};
-ghost use Rattle.office_prog.specs.Opening.{Says, Tells, bad_book, door, table_name};
+ghost use Rattle.program_answers.specs.Opening.{Says, Tells, bad_book, door, table_name};
 
 use crate::ending::finish;
 use batch_command::clerk_desk::DeskFault;

@@ -1,8 +1,8 @@
 use Rattle.std.proofs.Common.{ℕ, refl, ap}
 use Rattle.batch_command.specs.Below.clerk_desk.declared.opening.DeskFault.{DeskFault}
-use Rattle.office_prog.specs.Opening.{bad_book}
-use Rattle.office_prog.proofs.Serving.{by_fault, keeps_itself, says_still}
-use Rattle.office_prog.proofs.opening.tell_unopened.Goals as goal
+use Rattle.program_answers.specs.Opening.{bad_book}
+use Rattle.program_answers.proofs.Serving.{by_fault, keeps_itself, says_still}
+use Rattle.program_answers.proofs.opening.tell_unopened.Goals as goal
 
 pub returns-in-BadBook : goal.returns-in-BadBook
 returns-in-BadBook g c = λ left source keeper keeper_now.

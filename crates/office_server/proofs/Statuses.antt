@@ -1,0 +1,170 @@
+-- What each status of a server says by itself.
+use Rattle.std.proofs.Common.{◌≡◌, ◌∙◌, ◌⊎◌, inl, inr, ℕ, ◌+◌, ◌<◌, List, [], ◌++◌, length, map, sym, ap, arith}
+use Rattle.std.specs.{Prelude.Option, Prelude.Some, Prelude.None, Prelude.IfSome, Io.KnownBytes.Appends}
+use Rattle.std.proofs.lemmas.List.{length-append, length-map, nil_from_length}
+use Rattle.office_io.specs.Outside.{Faulted}
+use Rattle.office_links.specs.Links.{Links, Standing as Link, Fits, unused}
+use Rattle.http_front.specs.Below.clerk_desk.{declared.opening.DeskFault.DeskFault, Opening.IsFirstFault, Opening.IsUnopened}
+use Rattle.http_front.specs.Below.clerk_desk.Below.office_step.declared.fault.Fault.{Fault}
+use Rattle.book_rows.specs.Book.{Book}
+use Rattle.keeper_core.specs.Keeping.{BadRow}
+use Rattle.program_answers.specs.{Answer.Answer, Answer.Ends, Opening.Door, Opening.Fails, Opening.Serves, Opening.Tells, Opening.bad_book, Opening.largest}
+use Rattle.office_server.specs.{Links.Served, Links.TellsServed, Server.BreaksOff, Server.GivesAllBack, Server.IsWritten, Server.LinksServed, Server.NamesFault, Server.ServesAll, Server.Writes, Server.book_line}
+
+-- ---- one answer
+
+-- an answer that was written ends by its own status, or the sink counted a fault
+ends_four : (answer : Answer) (held held_now : Option (List ℕ)) (faults faults_now status : ℕ) → (answer.status ≡ 4 → ⊥) → status ≡ 4
+    → Ends answer held held_now faults faults_now status → Faulted faults faults_now
+ends_four answer held held_now faults faults_now status other is (inl ends) = absurd (other (sym ends.0 ∙ is))
+ends_four answer held held_now faults faults_now status other is (inr ends) = ends.2
+
+-- ---- a book that isn't opened
+
+tells_none : (old new : Door) (why : DeskFault) (status : ℕ) → Tells old new why status → status < 4 → ⊥
+tells_none old new (DeskFault.BadBook found) status (inl (inl ends, _)) few = let is = ends.0 in omega (arith, is, few)
+tells_none old new (DeskFault.BadBook found) status (inl (inr ends, _)) few = let is = ends.0 in omega (arith, is, few)
+tells_none old new (DeskFault.BadBook found) status (inr (is, _)) few = omega (arith, is, few)
+tells_none old new DeskFault.StoreFault status told few = let is = told.0 in omega (arith, is, few)
+tells_none old new DeskFault.NoMemory status told few = let is = told.0 in omega (arith, is, few)
+
+tells_four : (old new : Door) (why : DeskFault) (status : ℕ) → Tells old new why status → status ≡ 4 → Faulted old.counts.sink new.counts.sink
+tells_four old new (DeskFault.BadBook found) status (inl (ends, _)) four =
+    ends_four (bad_book found) _ _ _ _ status (λ is. omega (arith, is)) four ends
+tells_four old new (DeskFault.BadBook found) status (inr (is, _)) four = absurd (omega (arith, is, four))
+tells_four old new DeskFault.StoreFault status told four = let is = told.0 in absurd (omega (arith, is, four))
+tells_four old new DeskFault.NoMemory status told four = let is = told.0 in absurd (omega (arith, is, four))
+
+tells_five : (old new : Door) (why : DeskFault) (status : ℕ) → Tells old new why status → status ≡ 5 → Faulted old.counts.keeper new.counts.keeper
+tells_five old new (DeskFault.BadBook found) status (inl (inl ends, _)) five = let is = ends.0 in absurd (omega (arith, is, five))
+tells_five old new (DeskFault.BadBook found) status (inl (inr ends, _)) five = let is = ends.0 in absurd (omega (arith, is, five))
+tells_five old new (DeskFault.BadBook found) status (inr (is, _)) five = absurd (omega (arith, is, five))
+tells_five old new DeskFault.StoreFault status told five = told.2
+tells_five old new DeskFault.NoMemory status told five = let is = told.0 in absurd (omega (arith, is, five))
+
+tells_six : (holds : Book → Type 0) (bad : BadRow → Type 0) (old new : Door) (why : DeskFault) (status : ℕ) → IsUnopened largest holds bad why
+    → Tells old new why status → status ≡ 6 → NamesFault holds bad old.held new.held
+tells_six holds bad old new (DeskFault.BadBook found) status first (inl (inl ends, _)) six = (found, first, ends.1)
+tells_six holds bad old new (DeskFault.BadBook found) status first (inl (inr ends, _)) six = let is = ends.0 in absurd (omega (arith, is, six))
+tells_six holds bad old new (DeskFault.BadBook found) status first (inr (is, _)) six = absurd (omega (arith, is, six))
+tells_six holds bad old new DeskFault.StoreFault status first told six = let is = told.0 in absurd (omega (arith, is, six))
+tells_six holds bad old new DeskFault.NoMemory status first told six = let is = told.0 in absurd (omega (arith, is, six))
+
+-- ---- links that are all given back
+
+all_back : (served : List Served) (links links_now : Links) (left_now : ℕ) → left_now ≡ 0 → Fits left_now links_now → TellsServed served links links_now
+    → (links_now.left ≡ []) × (length links_now.given_back ≡ length links.given_back + length links.left)
+all_back served links links_now left_now none fits tells =
+    let last : length links_now.left ≡ 0 = fits.0 ∙ none in
+    let came : length (map unused links.left) ≡ length (map (λ it. it.came) served ++ map unused links_now.left) = ap length tells.came in
+    let joined = length-append (map (λ it. it.came) served) (map unused links_now.left) in
+    let left_long = length-map links.left unused in
+    let now_long = length-map links_now.left unused in
+    let came_long = length-map served (λ it. it.came) in
+    let back : length links_now.given_back ≡ length (links.given_back ++ map (λ it. it.given_back) served) = ap length tells.given_back in
+    let back_joined = length-append links.given_back (map (λ it. it.given_back) served) in
+    let back_long = length-map served (λ it. it.given_back) in
+    (nil_from_length links_now.left last, omega (arith, last, came, joined, left_long, now_long, came_long, back, back_joined, back_long))
+
+given_all : (served : List Served) (links links_now : Option Links) (left_now : ℕ) → left_now ≡ 0
+    → IfSome links (λ told. (told_now : Links) × (links_now ≡ Some told_now) × Fits left_now told_now × TellsServed served told told_now)
+    → IfSome links (λ told. GivesAllBack told links_now)
+given_all served None links_now left_now none told = tt
+given_all served (Some links) links_now left_now none (told_now, is, fits, tells) =
+    let back = all_back served links told_now left_now none fits tells in (told_now, is, back.0, back.1)
+
+-- ---- a server
+
+module _
+    {L : Type 0} (listener listener_now : L) (shows : ℕ → Type 0) (left left_now : ℕ) (links links_now : Option Links)
+    (holds holds_now : Book → Type 0) (bad_now : BadRow → Type 0) (old new : Door) (status : ℕ) where
+  abbrev Comes : Type 0
+  Comes = Serves (LinksServed shows left left_now links links_now) holds holds_now bad_now old new status
+      ⊎ ((listener_now ≡ listener) × Fails holds holds_now bad_now old new status)
+
+  -- links were served on this book until none was left, and the line was written
+  record Whole (start after : Book) : Type 0 where
+    pub works : LinksServed shows left left_now links links_now start after old new status
+    pub kept : (book : Book) → holds_now book → book ≡ after
+    pub none_left : left_now ≡ 0
+    pub source : new.counts.source ≡ old.counts.source
+    pub written : Appends old.held new.held (book_line after).text
+    pub sink : new.counts.sink ≡ old.counts.sink
+
+  whole_of : (start after : Book) → ((book : Book) → holds_now book → book ≡ after) → LinksServed shows left left_now links links_now start after old new status
+      → ServesAll left_now after old new status → status ≡ 0 → Whole start after
+  whole_of start after kept works all zero = whole_by all.written where
+    whole_by : Writes (book_line after) old.held new.held old.counts.sink new.counts.sink status → Whole start after
+    whole_by (inl (inl ends)) =
+        record { works = works; kept = kept; none_left = all.none_left; source = all.source; written = ends.1; sink = ends.2 }
+    whole_by (inl (inr ends)) = let is = ends.0 in absurd (omega (arith, is, zero))
+    whole_by (inr ends) = let is = ends.0 in absurd (omega (arith, is, zero))
+
+  whole : Comes → status ≡ 0 → (start : Book) × (after : Book) × Whole start after
+  whole (inl s) zero = (s.start, s.after, by_end s.works.ended) where
+    by_end : ServesAll left_now s.after old new status ⊎ BreaksOff left_now old new status → Whole s.start s.after
+    by_end (inl all) = whole_of s.start s.after (λ book told. (s.kept book told).0) s.works all zero
+    by_end (inr broken) = let is = broken.status_is in absurd (omega (arith, is, zero))
+  whole (inr (same, fails)) zero = absurd (tells_none old new fails.why status fails.told (omega (arith, zero)))
+
+  pub none_left : Comes → status ≡ 0 → left_now ≡ 0
+  none_left comes zero = let w = whole comes zero in w.2.none_left
+
+  pub given_back : Comes → status ≡ 0 → IfSome links (λ told. GivesAllBack told links_now)
+  given_back comes zero =
+      let w = whole comes zero in given_all w.2.works.served.served links links_now left_now w.2.none_left w.2.works.served.told
+
+  pub written : Comes → status ≡ 0 → IsWritten holds_now old.held new.held
+  written comes zero = let w = whole comes zero in (w.1, w.2.written, w.2.kept)
+
+  pub quiet : Comes → status ≡ 0 → (new.counts.source ≡ old.counts.source) × (new.counts.sink ≡ old.counts.sink)
+  quiet comes zero = let w = whole comes zero in (w.2.source, w.2.sink)
+
+  -- no other end but a failed accept has that status
+  pub accept_fault : Comes → status ≡ 3 → (0 < left_now) × Faulted old.counts.source new.counts.source
+  accept_fault (inl s) three = by_end s.works.ended where
+    by_end : ServesAll left_now s.after old new status ⊎ BreaksOff left_now old new status → (0 < left_now) × Faulted old.counts.source new.counts.source
+    by_end (inl all) = by_text all.written where
+      by_text : Writes (book_line s.after) old.held new.held old.counts.sink new.counts.sink status → (0 < left_now) × Faulted old.counts.source new.counts.source
+      by_text (inl (inl ends)) = let is = ends.0 in absurd (omega (arith, is, three))
+      by_text (inl (inr ends)) = let is = ends.0 in absurd (omega (arith, is, three))
+      by_text (inr ends) = let is = ends.0 in absurd (omega (arith, is, three))
+    by_end (inr broken) = (broken.some_left, broken.source)
+  accept_fault (inr (same, fails)) three = absurd (tells_none old new fails.why status fails.told (omega (arith, three)))
+
+  pub write_fault : Comes → status ≡ 4 → Faulted old.counts.sink new.counts.sink
+  write_fault (inl s) four = by_end s.works.ended where
+    by_end : ServesAll left_now s.after old new status ⊎ BreaksOff left_now old new status → Faulted old.counts.sink new.counts.sink
+    by_end (inl all) = by_text all.written where
+      by_text : Writes (book_line s.after) old.held new.held old.counts.sink new.counts.sink status → Faulted old.counts.sink new.counts.sink
+      by_text (inl ends) = ends_four (book_line s.after) _ _ _ _ status (λ is. omega (arith, is)) four ends
+      by_text (inr ends) = let is = ends.0 in absurd (omega (arith, is, four))
+    by_end (inr broken) = let is = broken.status_is in absurd (omega (arith, is, four))
+  write_fault (inr (same, fails)) four = tells_four old new fails.why status fails.told four
+
+  -- a book that was opened has only these ends
+  served_status : (start after : Book) → LinksServed shows left left_now links links_now start after old new status
+      → (status ≡ 5) ⊎ (status ≡ 6) → ⊥
+  served_status start after works is = by_end works.ended where
+    by_text : Writes (book_line after) old.held new.held old.counts.sink new.counts.sink status → (status ≡ 5) ⊎ (status ≡ 6) → ⊥
+    by_text (inl (inl ends)) (inl five) = let own = ends.0 in omega (arith, own, five)
+    by_text (inl (inl ends)) (inr six) = let own = ends.0 in omega (arith, own, six)
+    by_text (inl (inr ends)) (inl five) = let own = ends.0 in omega (arith, own, five)
+    by_text (inl (inr ends)) (inr six) = let own = ends.0 in omega (arith, own, six)
+    by_text (inr ends) (inl five) = let own = ends.0 in omega (arith, own, five)
+    by_text (inr ends) (inr six) = let own = ends.0 in omega (arith, own, six)
+
+    by_end : ServesAll left_now after old new status ⊎ BreaksOff left_now old new status → ⊥
+    by_end (inl all) = by_text all.written is
+    by_end (inr broken) = by_three broken.status_is is where
+      by_three : status ≡ 3 → (status ≡ 5) ⊎ (status ≡ 6) → ⊥
+      by_three three (inl five) = omega (arith, three, five)
+      by_three three (inr six) = omega (arith, three, six)
+
+  pub store_fault : Comes → status ≡ 5 → (listener_now ≡ listener) × Faulted old.counts.keeper new.counts.keeper
+  store_fault (inl s) five = absurd (served_status s.start s.after s.works (inl five))
+  store_fault (inr (same, fails)) five = (same, tells_five old new fails.why status fails.told five)
+
+  pub bad_book_told : Comes → status ≡ 6 → (listener_now ≡ listener) × NamesFault holds_now bad_now old.held new.held
+  bad_book_told (inl s) six = absurd (served_status s.start s.after s.works (inr six))
+  bad_book_told (inr (same, fails)) six = (same, tells_six holds_now bad_now old new fails.why status fails.is_why fails.told six)

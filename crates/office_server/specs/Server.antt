@@ -1,0 +1,57 @@
+-- What a server does on the book that was opened, and what it writes.
+use Rattle.std.specs.Prelude.{◌≡◌, ◌<◌, ◌⊎◌, ℕ, ◌+◌, Option, Some, List, [], ◌∷◌, ◌++◌, length, codes, decimal}
+use Rattle.std.specs.Io.KnownBytes.{Appends, Keeps as KeepsBytes}
+use Rattle.office_io.specs.Outside.{Faulted}
+use Rattle.office_links.specs.Links.{Links}
+use Rattle.book_rows.specs.Book.{Book}
+use Rattle.keeper_core.specs.Keeping.{BadRow}
+use Rattle.http_front.specs.Below.clerk_desk.{Opening.IsFirstFault, Below.office_laws.History.IsLater, Below.office_step.declared.fault.Fault.Fault}
+use Rattle.program_answers.specs.{Answer.Answer, Answer.Ends, Opening.Door, Opening.bad_book, Opening.largest}
+use Rattle.office_server.specs.Links.{ServesLinks}
+
+-- how many acts a book has
+abbrev pub book_line : Book → Answer
+book_line book = record { status = 0; text = codes "book " ++ decimal (length book.acts) ++ 10 ∷ [] }
+
+-- the answer is written; or nothing is, where memory ran out
+abbrev pub Writes : Answer → Option (List ℕ) → Option (List ℕ) → ℕ → ℕ → ℕ → Type 0
+Writes answer held held_now faults faults_now status =
+    Ends answer held held_now faults faults_now status
+    ⊎ ((status ≡ 7) × KeepsBytes held held_now × (faults_now ≡ faults))
+
+-- no link was left, and no accept had failed
+pub record ServesAll (left_now : ℕ) (after : Book) (old new : Door) (status : ℕ) : Type 0 where
+  pub none_left : left_now ≡ 0
+  pub source : new.counts.source ≡ old.counts.source
+  pub written : Writes (book_line after) old.held new.held old.counts.sink new.counts.sink status
+
+-- an accept failed while links were left, and nothing was written
+pub record BreaksOff (left_now : ℕ) (old new : Door) (status : ℕ) : Type 0 where
+  pub some_left : 0 < left_now
+  pub source : Faulted old.counts.source new.counts.source
+  pub held : KeepsBytes old.held new.held
+  pub sink : new.counts.sink ≡ old.counts.sink
+  pub status_is : status ≡ 3
+
+-- Links were served on the book, until none was left or an accept failed. The listener stands in the place of the source.
+pub record LinksServed (shows : ℕ → Type 0) (left left_now : ℕ) (links links_now : Option Links) (start after : Book) (old new : Door) (status : ℕ) : Type 0 where
+  pub later : IsLater largest start after
+  pub served : ServesLinks largest shows (record { book = start; faults = old.counts.keeper }) (record { book = after; faults = new.counts.keeper })
+      left left_now links links_now
+  pub ended : ServesAll left_now after old new status ⊎ BreaksOff left_now old new status
+
+-- ---- what a status says by itself
+
+-- no link is left, and as many as were left have been given back
+abbrev pub GivesAllBack : Links → Option Links → Type 0
+GivesAllBack links links_now =
+    (told_now : Links) × (links_now ≡ Some told_now) × (told_now.left ≡ []) × (length told_now.given_back ≡ length links.given_back + length links.left)
+
+-- the line of a book was written, and the keeper tells no other book
+abbrev pub IsWritten : (Book → Type 0) → Option (List ℕ) → Option (List ℕ) → Type 0
+IsWritten holds held held_now =
+    (book : Book) × Appends held held_now (book_line book).text × ((told : Book) → holds told → told ≡ book)
+
+-- The line of the book's first fault was written, or of the bad row.
+abbrev pub NamesFault : (Book → Type 0) → (BadRow → Type 0) → Option (List ℕ) → Option (List ℕ) → Type 0
+NamesFault holds bad held held_now = (found : Fault) × IsFirstFault largest holds bad found × Appends held held_now (bad_book found).text

@@ -1,0 +1,239 @@
+use crate::serving::post;
+use http_front::clerk_desk::office_core::{Capacity, Office};
+use http_front::{SessionEnd, session_alone};
+use keeper_core::PlannedKeeper;
+use office_io::{FixedClock, MemorySink, MemorySource};
+use sample_office::{PLAN, RENTS, START, UNIT, day, written};
+use std::alloc::Global;
+use std::process::Abort;
+
+/// The messages that post the plan, a unit, rents and a household of one of 70.
+fn opening(rt: &impl Abort, alloc: Global) -> String {
+    let mut text = String::new(alloc);
+    for (request, act) in [(1u64, PLAN), (2, UNIT), (3, RENTS), (4, START)] {
+        text.push_str(&post(rt, alloc, request, act))
+            .expect(rt, "memory");
+    }
+    text
+}
+
+/// What a response is that isn't the last.
+fn response(rt: &impl Abort, alloc: Global, status: &str, point: u64, body: &str) -> String {
+    let length = body.len() as u64;
+    format!(in alloc;
+        "HTTP/1.1 {status}\r\nbook: {point}\r\ncontent-length: {length}\r\ncontent-type: application/json\r\n\r\n{body}"
+    ).expect(rt, "memory")
+}
+
+/// How a session ended, what it wrote, with ' for ", and how many acts were kept.
+#[derive(Drop)]
+struct Told {
+    end: SessionEnd,
+    responses: String,
+    kept: usize,
+}
+
+impl Told {
+    fn is(&self, end: SessionEnd, responses: &str, kept: usize) -> bool {
+        self.end == end && self.responses.as_str() == responses && self.kept == kept
+    }
+}
+
+/// Serves the messages, with ' for ", on an empty book, whose keeper fails at these calls.
+fn served(rt: &impl Abort, alloc: Global, text: &str, failing: &[u64], most: usize) -> Told {
+    assert!(rt; most > 0);
+    let input = written(alloc, text).expect(rt, "memory").into_bytes();
+    let mut source = MemorySource::new(input, Vec::new(alloc), most);
+    let mut sink = MemorySink::new(alloc, 16_384, Vec::new(alloc), 16_384).expect(rt, "memory");
+    let clock = FixedClock::new(day("2024-01-01"));
+    let mut keeper = PlannedKeeper::new(alloc, failing.to_vec(alloc).expect(rt, "memory"));
+    let capacity = Capacity {
+        acts: 100,
+        lines: 1_000,
+    };
+    let mut office = Office::new(alloc, capacity).expect(rt, "memory");
+    let end = session_alone(
+        alloc,
+        &mut office,
+        &mut keeper,
+        &mut source,
+        &mut sink,
+        &clock,
+    );
+    let responses = String::from_utf8(sink.into_bytes()).expect(rt, "text");
+    Told {
+        end,
+        responses: responses.replace(alloc, "\"", "'").expect(rt, "memory"),
+        kept: keeper.tables().acts.len(),
+    }
+}
+
+const REPLIES: [&str; 4] = [
+    "{'act':1,'day':'2024-01-01','made':null}",
+    "{'act':2,'day':'2024-01-01','made':{'unit':1}}",
+    "{'act':3,'day':'2024-01-01','made':null}",
+    "{'act':4,'day':'2024-01-01','made':{'assistance':548,'household':1,'record':1,'reimbursement':0,'tenant_rent':152,'ttp':212}}",
+];
+
+/// The responses to the opening.
+fn opened(rt: &impl Abort, alloc: Global) -> String {
+    let mut text = String::new(alloc);
+    for (place, reply) in REPLIES.iter().enumerate() {
+        text.push_str(&response(rt, alloc, "201 Created", place as u64 + 1, reply))
+            .expect(rt, "memory");
+    }
+    text
+}
+
+// However few bytes a read gives, each act has its reply at its point.
+#[test]
+fn acts_are_made_in_turn(rt: HostRuntime) {
+    let alloc = rt.alloc();
+    let wanted = opened(&rt, alloc);
+    for most in [1, 700, 4_096] {
+        let told = served(&rt, alloc, &opening(&rt, alloc), &[], most);
+        assert!(rt; told.is(SessionEnd::Ended, &wanted, 4));
+    }
+}
+
+/// Whether the message, behind the opening ones, has this response and nothing is kept of it.
+fn has(rt: &impl Abort, alloc: Global, message: &str, wanted: &str) -> bool {
+    let mut text = opening(rt, alloc);
+    text.push_str(message).expect(rt, "memory");
+    let mut responses = opened(rt, alloc);
+    responses.push_str(wanted).expect(rt, "memory");
+    served(rt, alloc, &text, &[], 4_096).is(SessionEnd::Ended, &responses, 4)
+}
+
+// A repeat has the first reply, another command of the same request is refused, and the book stays.
+#[test]
+fn requests_are_made_once(rt: HostRuntime) {
+    let alloc = rt.alloc();
+    let again = response(&rt, alloc, "201 Created", 4, REPLIES[1]);
+    assert!(rt; has(&rt, alloc, &post(&rt, alloc, 2, UNIT), &again));
+    let reused = "{'refused':{'act':2,'kind':'RequestReused','number':1}}";
+    let other = response(&rt, alloc, "409 Conflict", 4, reused);
+    assert!(rt; has(&rt, alloc, &post(&rt, alloc, 2, RENTS), &other));
+}
+
+// Each question is answered of the book that stands.
+#[test]
+fn questions_are_answered(rt: HostRuntime) {
+    let alloc = rt.alloc();
+    for (target, body) in [
+        (
+            "/households/1",
+            "{'household':1,'live':[1],'name':'Ada Reed','newest':1}",
+        ),
+        ("/households/01/paid/2024-01?x=/", "{'paid':0}"),
+        ("/units/1/next/2024-01-01", "{'next':null}"),
+        ("/vouchers/2024-01", "{'voucher':null}"),
+        (
+            "/due/2024-09-03",
+            "{'due':[{'due':'2025-01-01','household':1}]}",
+        ),
+    ] {
+        let message = format!(in alloc; "GET {target} HTTP/1.1\r\n\r\n").expect(&rt, "memory");
+        let wanted = response(&rt, alloc, "200 OK", 4, body);
+        assert!(rt; has(&rt, alloc, &message, &wanted));
+    }
+}
+
+/// What is asked of an empty book, and what is said of it.
+const REFUSED: [(&str, &str, &str); 9] = [
+    (
+        "GET /nowhere HTTP/1.1\r\n\r\n",
+        "404 Not Found",
+        "{'refused':{'kind':'NoRoute'}}",
+    ),
+    (
+        "POST /due/2024-01-01 HTTP/1.1\r\n\r\n",
+        "405 Method Not Allowed",
+        "{'refused':{'kind':'NoMethod'}}",
+    ),
+    (
+        "HEAD /households/1 HTTP/1.1\r\n\r\n",
+        "405 Method Not Allowed",
+        "{'refused':{'kind':'NoMethod'}}",
+    ),
+    (
+        "GET /due/2024-02-30 HTTP/1.1\r\n\r\n",
+        "422 Unprocessable Entity",
+        "{'refused':{'kind':'Form','path':'{day}'}}",
+    ),
+    (
+        "GET /households/x/records/y HTTP/1.1\r\n\r\n",
+        "422 Unprocessable Entity",
+        "{'refused':{'kind':'Form','path':'{h}'}}",
+    ),
+    (
+        "POST /acts HTTP/1.1\r\n\r\n",
+        "422 Unprocessable Entity",
+        "{'refused':{'kind':'Form','path':''}}",
+    ),
+    (
+        "POST /acts HTTP/1.1\r\nContent-Length: 11\r\n\r\n{'clerk':1}",
+        "422 Unprocessable Entity",
+        "{'refused':{'kind':'Form','path':'request'}}",
+    ),
+    (
+        "GET /due/2024-01-01 HTTP/1.1\r\n\r\n",
+        "409 Conflict",
+        "{'refused':{'kind':'NoPlan','number':2}}",
+    ),
+    (
+        "GET /households/1 HTTP/1.1\r\n\r\n",
+        "409 Conflict",
+        "{'refused':{'id':1,'kind':'NoSuch','number':5,'what':'household'}}",
+    ),
+];
+
+// Nothing is kept of what is refused, and the session goes on.
+#[test]
+fn refusals_have_their_status(rt: HostRuntime) {
+    let alloc = rt.alloc();
+    let mut text = String::new(alloc);
+    let mut wanted = String::new(alloc);
+    for (message, status, body) in REFUSED {
+        text.push_str(message).expect(&rt, "memory");
+        wanted
+            .push_str(&response(&rt, alloc, status, 0, body))
+            .expect(&rt, "memory");
+    }
+    assert!(rt; served(&rt, alloc, &text, &[], 4_096).is(SessionEnd::Ended, &wanted, 0));
+}
+
+// What the keeper doesn't keep isn't acknowledged, and the next act is judged without it.
+#[test]
+fn a_keeper_that_fails_is_blamed_once(rt: HostRuntime) {
+    let alloc = rt.alloc();
+    let mut wanted = String::new(alloc);
+    for (status, point, body) in [
+        ("201 Created", 1, REPLIES[0]),
+        ("201 Created", 2, REPLIES[1]),
+        ("503 Service Unavailable", 2, "{'refused':{'kind':'Store'}}"),
+        (
+            "409 Conflict",
+            2,
+            "{'refused':{'day':'2024-01-01','group':1,'kind':'NoRent','number':10}}",
+        ),
+    ] {
+        wanted
+            .push_str(&response(&rt, alloc, status, point, body))
+            .expect(&rt, "memory");
+    }
+    let told = served(&rt, alloc, &opening(&rt, alloc), &[2], 4_096);
+    assert!(rt; told.is(SessionEnd::Ended, &wanted, 2));
+}
+
+// A message without its last byte is no act.
+#[test]
+fn a_cut_message_is_no_act(rt: HostRuntime) {
+    let alloc = rt.alloc();
+    let whole = post(&rt, alloc, 1, PLAN);
+    let cut = whole
+        .as_str()
+        .get(..whole.len().saturating_sub(1))
+        .expect(&rt, "a last byte");
+    assert!(rt; served(&rt, alloc, cut, &[], 4_096).is(SessionEnd::Cut, "", 0));
+}

@@ -1,0 +1,98 @@
+use keeper_core::{Keeper, MemoryKeeper};
+use office_io::{FixedClock, MemorySink, MemorySource};
+use office_links::{Link, MemoryListener, listener_of_inputs};
+use office_server::run_serve;
+use plain_data::Text;
+use sample_office::{PLAN, RENTS, START, UNIT, day, written};
+use std::alloc::Global;
+use std::process::Abort;
+
+pub type Links = MemoryListener<MemorySource, MemorySink>;
+
+/// What a server wrote, and its status.
+#[derive(Drop)]
+pub struct Told {
+    pub status: u8,
+    pub line: String,
+}
+
+impl Told {
+    pub fn is(&self, status: u8, line: &str) -> bool {
+        self.status == status && self.line.as_str() == line
+    }
+}
+
+/// A message that posts an act by clerk 1, with ' for ".
+pub fn post(rt: &impl Abort, alloc: Global, request: u64, act: &str) -> String {
+    let text = format!(in alloc; "{{'clerk':1,'request':{request},'act':{act}}}");
+    let body = written(alloc, &text.expect(rt, "memory")).expect(rt, "memory");
+    let length = body.len() as u64;
+    let message = format!(in alloc;
+        "POST /acts HTTP/1.1\r\nContent-Length: {length}\r\n\r\n{body}"
+    );
+    message.expect(rt, "memory")
+}
+
+/// A listener of a link for each of these texts, whose sink has so much room.
+pub fn links(
+    rt: &impl Abort,
+    alloc: Global,
+    texts: &[&str],
+    failing: &[u64],
+    room: usize,
+) -> Links {
+    let mut inputs = Vec::new(alloc);
+    for text in texts {
+        let bytes = Vec::from_slice(alloc, text.as_bytes()).expect(rt, "memory");
+        inputs.push(Text::new(bytes)).expect(rt, "memory");
+    }
+    let failing = failing.to_vec(alloc).expect(rt, "memory");
+    listener_of_inputs(alloc, inputs, failing, room).expect(rt, "memory")
+}
+
+/// Serves the links on the keeper's book on 2 January 2024, into a sink with so much room.
+pub fn serve<K: Keeper>(
+    rt: &impl Abort,
+    alloc: Global,
+    links: &mut Links,
+    keeper: &mut K,
+    room: usize,
+) -> Told {
+    let mut sink = MemorySink::new(alloc, room, Vec::new(alloc), 40).expect(rt, "memory");
+    let clock = FixedClock::new(day("2024-01-02"));
+    let status = run_serve(alloc, links, &mut sink, &clock, keeper);
+    let line = String::from_utf8(sink.into_bytes()).expect(rt, "no text");
+    Told { status, line }
+}
+
+/// A keeper of the book of four acts that one link posts: a plan, a unit, rents and a household of one of 70.
+pub fn small_office(rt: &impl Abort, alloc: Global) -> MemoryKeeper {
+    let mut text = String::new(alloc);
+    for (request, act) in [(1u64, PLAN), (2, UNIT), (3, RENTS), (4, START)] {
+        let message = post(rt, alloc, request, act);
+        text.push_str(&message).expect(rt, "memory");
+    }
+    let mut keeper = MemoryKeeper::new(alloc);
+    let mut first = links(rt, alloc, &[text.as_str()], &[], 4_096);
+    let told = serve(rt, alloc, &mut first, &mut keeper, 40);
+    assert!(rt; told.is(0, "book 4\n"));
+    keeper
+}
+
+/// Whether so many links were given back.
+pub fn has_given_back(links: &Links, count: usize) -> bool {
+    links.given_back().len() == count
+}
+
+/// Whether what was written to the link of that place among those given back ends so, with ' for ".
+pub fn ends(rt: &impl Abort, alloc: Global, links: &Links, place: usize, wanted: &str) -> bool {
+    let wanted = written(alloc, wanted).expect(rt, "memory");
+    match links.given_back().get(place) {
+        Some(link) => holds_last(link, wanted.as_bytes()),
+        None => false,
+    }
+}
+
+fn holds_last(link: &Link<MemorySource, MemorySink>, wanted: &[u8]) -> bool {
+    link.sink.as_bytes().ends_with(wanted)
+}
