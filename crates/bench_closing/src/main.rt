@@ -41,9 +41,10 @@ fn run<R: Env + Print + AllocGlobal>(rt: &R) -> io::Result<bool> {
 
 fn close_all(alloc: Global, households: u32, months: u32) -> Result<(u64, i64), NoMemory> {
     let months = months.min(900);
-    let history = history_of(alloc, households, months)?;
+    let mut history = History::new(alloc)?;
     let (mut count, mut amount) = (0u64, 0i64);
     for place in 0..months {
+        hold_all(&mut history, households, place)?;
         for line in &close(alloc, &history, place)? {
             count = count.wrapping_add(1);
             amount = amount.wrapping_add(i64::from(line.amount));
@@ -68,16 +69,16 @@ fn close(alloc: Global, history: &History, place: u32) -> Result<Vec<Line>, NoMe
     close_lines(alloc, history, &closing)
 }
 
-fn history_of(alloc: Global, households: u32, months: u32) -> Result<History, NoMemory>
-    requires { months ≤ 900 }
+/// Holds the records that are known by the closing of the month at that place.
+fn hold_all(history: &mut History, households: u32, place: u32) -> Result<(), NoMemory>
+    requires { place < 900 }
 {
-    let mut history = History::new(alloc)?;
     for household in 1..households.saturating_add(1) {
-        for place in 0..months / 4 + 1 {
-            hold(&mut history, household, place)?;
+        if place == 0 || (place > 3 && household % 4 == place % 4) {
+            hold(history, household, place / 4)?;
         }
     }
-    Ok(history)
+    Ok(())
 }
 
 /// Holds a household's next record: from the first day of each fourth month on, but known up to three months later.
