@@ -3,9 +3,8 @@ use Rattle.std.proofs.Common.{◌≡◌, ◌∙◌, ◌⊎◌, inl, inr, ℕ, �
 use Rattle.std.specs.{Prelude.Option, Prelude.Some, Prelude.None, Prelude.IfSome, Io.KnownBytes.Appends}
 use Rattle.std.proofs.lemmas.List.{length-append, length-map, nil_from_length}
 use Rattle.office_io.specs.Outside.{Faulted}
-use Rattle.office_links.specs.Links.{Links, Standing as Link, Fits, unused}
-use Rattle.http_front.specs.Below.clerk_desk.{declared.opening.DeskFault.DeskFault, Opening.IsFirstFault, Opening.IsUnopened}
-use Rattle.http_front.specs.Below.clerk_desk.Below.office_step.declared.fault.Fault.{Fault}
+use Rattle.office_links.specs.Links.{Links, Fits, unused}
+use Rattle.http_front.specs.Below.clerk_desk.{declared.opening.DeskFault.DeskFault, Opening.IsUnopened}
 use Rattle.book_rows.specs.Book.{Book}
 use Rattle.keeper_core.specs.Keeping.{BadRow}
 use Rattle.program_answers.specs.{Answer.Answer, Answer.Ends, Opening.Door, Opening.Fails, Opening.Serves, Opening.Tells, Opening.bad_book, Opening.largest}

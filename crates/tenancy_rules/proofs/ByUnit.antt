@@ -3,9 +3,13 @@ use Rattle.tenancy_rules.proofs.Words.{◌≡◌, ◌∙◌, sym, ap, refl, subs
 use Rattle.std.proofs.Common.{◌⊎◌, inl, inr, eq-eqb, ◌-◌, take, drop, append-nil}
 use Rattle.std.specs.List.Sorted.{IsPartitionPoint}
 use Rattle.std.proofs.lemmas.Bool.{cases_lt}
+use Rattle.std.proofs.lemmas.List.Sums.{fold_more}
+use Rattle.std.proofs.Common.{get_or}
 use Rattle.std.proofs.lemmas.List.{length-take, length-drop, get_or-take, get_or-drop, take-append-drop}
-use Rattle.std.specs.Option.{option_map_or}
-use Rattle.std.proofs.lemmas.List.Elements.{All-nil, All-cons, Contains-append_cases, filter-append}
+use Rattle.std.specs.Option.{option_map_or, option_eq}
+use Rattle.std.specs.Prelude.{nat_eq}
+use Rattle.std.proofs.lemmas.Bool.{eqb-true, not-false}
+use Rattle.std.proofs.lemmas.List.Elements.{All-nil, All-cons, All-head, All-tail, Contains-append_cases, filter-append}
 use Rattle.list_laws.proofs.Filters.{Contains-filter, filter-contains, filter_none, filter_all}
 use Rattle.tenancy_rules.specs.declared.uses.Use.{Use}
 use Rattle.tenancy_rules.specs.Uses.{of_unit, TellUses, end_beside, sooner_use, sooner_uses}
@@ -38,6 +42,20 @@ module _ (is_rival : ℕ → ℕ → Bool) (end : ℕ) where
       IsPassed found other → IsPassed (option_map_or (λ day. Some (used.household, day)) sooner found) other
   step_still found used sooner other first passed day before rival = (let was = passed day before rival in grind (arith, nat_tests, common_steps))
 
+  -- a household that is passed is no use to look at again
+  step_idle : (found : Option (ℕ × ℕ)) (used : Use) (sooner : Option ℕ) → IsFirst (is_rival used.household) 0 (end_beside found used.household end) sooner →
+      IsFound found → IsPassed found used.household → option_map_or (λ day. Some (used.household, day)) sooner found ≡ found
+  step_idle found used None first is passed = refl
+  step_idle None used (Some day) first is passed = (let was = passed day in grind (arith, nat_tests, common_steps))
+  step_idle (Some (other, any)) used (Some day) first is passed = (let was = passed day in grind (arith, nat_tests, common_steps))
+
+  pub uses_idle : (found : Option (ℕ × ℕ)) (uses : List Use) → IsFound found → All (λ used. IsPassed found used.household) uses →
+      fold (sooner_use is_rival end) found uses ≡ found
+  uses_idle found [] is passed = refl
+  uses_idle found (used ∷ uses) is passed =
+      rw (step_idle found used _ (first_before-is _ (is_rival used.household)) is (All-head (λ used. IsPassed found used.household) used uses passed))
+      (uses_idle found uses is (All-tail (λ used. IsPassed found used.household) used uses passed))
+
   uses_found : (found : Option (ℕ × ℕ)) (uses : List Use) → IsFound found → IsFound (fold (sooner_use is_rival end) found uses)
   uses_found found [] is = is
   uses_found found (used ∷ uses) is =
@@ -48,7 +66,7 @@ module _ (is_rival : ℕ → ℕ → Bool) (end : ℕ) where
   uses_still found (used ∷ uses) other passed =
       uses_still (sooner_use is_rival end found used) uses other (step_still found used _ other (first_before-is _ (is_rival used.household)) passed)
 
-  uses_passed : (found : Option (ℕ × ℕ)) (uses : List Use) → IsFound found →
+  pub uses_passed : (found : Option (ℕ × ℕ)) (uses : List Use) → IsFound found →
       All (λ used. IsPassed (fold (sooner_use is_rival end) found uses) used.household) uses
   uses_passed found [] is = All-nil (λ used. IsPassed found used.household)
   uses_passed found (used ∷ uses) is =
@@ -63,7 +81,7 @@ module _ (is_rival : ℕ → ℕ → Bool) (end : ℕ) where
     abbrev pub ArePassed : Option (ℕ × ℕ) → Record → Type 0
     ArePassed found r = All (λ used. IsPassed found used.household) (of_unit uses r.unit)
 
-    records_found : (found : Option (ℕ × ℕ)) (records : List Record) → IsFound found → IsFound (fold (sooner_uses is_rival end uses) found records)
+    pub records_found : (found : Option (ℕ × ℕ)) (records : List Record) → IsFound found → IsFound (fold (sooner_uses is_rival end uses) found records)
     records_found found [] is = is
     records_found found (r ∷ records) is = records_found (sooner_uses is_rival end uses found r) records (uses_found found (of_unit uses r.unit) is)
 
@@ -81,6 +99,33 @@ module _ (is_rival : ℕ → ℕ → Bool) (end : ℕ) where
         (λ k d within. records_still next records _ (uses_passed found (of_unit uses r.unit) is k d within))
         (records_passed next records (uses_found found (of_unit uses r.unit) is))
 
+    -- of records one after another, those of a unit whose uses were gone through last are passed over
+    module _ (records : List Record) (k : ℕ) (r : Record) (within : k < length records) (at : get_or records k r ≡ r) (first next : Option (ℕ × ℕ))
+        (so_far : first ≡ fold (sooner_uses is_rival end uses) None (take k records)) (done done_next : Option ℕ) where
+      abbrev IsDone : Type 0
+      IsDone =
+          (next ≡ fold (sooner_uses is_rival end uses) None (take (k + 1) records))
+          × IfSome done_next (λ unit. All (λ used. IsPassed next used.household) (of_unit uses unit))
+
+      step : fold (sooner_uses is_rival end uses) None (take (k + 1) records) ≡ sooner_uses is_rival end uses first r
+      step = rw at at (fold_more (sooner_uses is_rival end uses) None records k r within) ∙ ap (λ found. sooner_uses is_rival end uses found r) (sym so_far)
+
+      found : IsFound first
+      found = rw so_far (records_found None (take k records) tt)
+
+      pub unit_gone_through : (of : List Use) → of ≡ of_unit uses r.unit → next ≡ fold (sooner_use is_rival end) first of → done_next ≡ Some r.unit → IsDone
+      unit_gone_through of of_is next_is is = rw (next_is, of_is, is) (sym step, uses_passed first (of_unit uses r.unit) found)
+
+      pub unit_passed_over : done ≡ Some r.unit → IfSome done (λ unit. All (λ used. IsPassed first used.household) (of_unit uses unit)) → next ≡ first → done_next ≡ done → IsDone
+      unit_passed_over same passed next_is is =
+          let of_r = rw same at passed in
+          rw (next_is, is, same) (sym (step ∙ uses_idle first (of_unit uses r.unit) found of_r), of_r)
+
+-- the unit is the one whose uses were gone through last
+pub same_unit : (done : Option ℕ) (unit : ℕ) → not (option_eq nat_eq done (Some unit)) ≡ false → done ≡ Some unit
+same_unit None unit is = absurd (cc)
+same_unit (Some other) unit is = ap Some (eqb-true other unit (not-false (nat_eq other unit) is))
+
 -- ---- who has a unit had a record in it
 
 occupied_by : (records : List Record) (day unit : ℕ) → occupied_unit_on records day ≡ Some unit → (r : Record) × Contains records r × (r.unit ≡ unit)
@@ -93,88 +138,87 @@ occupied_by records day unit is =
     by_force None among is = absurd (cc)
     by_force (Some r) among is = (r, among, grind (arith, common_steps, is))
 
-module _ (households : List (List Record)) (household : ℕ) (change : Change) (uses : List Use) (told : TellUses households uses) where
-  abbrev own : List Record
-  own = records_of households household
+module _ (households : List (List Record)) (household : ℕ) (change : Change) (uses : List Use) (told : TellUses households uses)
+    (own : List Record) (all : All (Contains own) (live_records (records_of households household)))
+  where
+    abbrev rival : ℕ → ℕ → Bool
+    rival = is_rival_on households household change
 
-  abbrev rival : ℕ → ℕ → Bool
-  rival = is_rival_on households household change
+    abbrev with_added : Option (ℕ × ℕ) → Option (ℕ × ℕ)
+    with_added found = fold (sooner_uses rival 80354 uses) found (listed change.add)
 
-  abbrev with_added : Option (ℕ × ℕ) → Option (ℕ × ℕ)
-  with_added found = fold (sooner_uses rival 80354 uses) found (listed change.add)
+    abbrev all_found : Option (ℕ × ℕ)
+    all_found = with_added (fold (sooner_uses rival 80354 uses) None own)
 
-  abbrev all_found : Option (ℕ × ℕ)
-  all_found = with_added (fold (sooner_uses rival 80354 uses) None own)
+    -- it is told that the other had a record in the unit
+    told_of : (other unit day : ℕ) → occupied_unit_on (live_records (records_of households other)) day ≡ Some unit →
+        Contains (of_unit uses unit) (record { unit = unit; household = other })
+    told_of other unit day has =
+        let by = occupied_by (live_records (records_of households other)) day unit has in
+        let there = (filter-contains (is_live (records_of households other)) (records_of households other) by.0 by.1).0 in
+        let use_there : Contains uses (record { unit = unit; household = other }) =
+        subst (λ n. Contains uses (record { unit = n; household = other })) by.2
+        (All-contains (λ (r : Record). Contains uses (record { unit = r.unit; household = other })) (records_of households other) by.0 (told.told other) there) in
+        Contains-filter (λ (used : Use). used.unit == unit) uses (record { unit = unit; household = other }) use_there (eq-eqb unit unit refl)
 
-  -- it is told that the other had a record in the unit
-  told_of : (other unit day : ℕ) → occupied_unit_on (live_records (records_of households other)) day ≡ Some unit →
-      Contains (of_unit uses unit) (record { unit = unit; household = other })
-  told_of other unit day has =
-      let by = occupied_by (live_records (records_of households other)) day unit has in
-      let there = (filter-contains (is_live (records_of households other)) (records_of households other) by.0 by.1).0 in
-      let use_there : Contains uses (record { unit = unit; household = other }) =
-      subst (λ n. Contains uses (record { unit = n; household = other })) by.2
-      (All-contains (λ (r : Record). Contains uses (record { unit = r.unit; household = other })) (records_of households other) by.0 (told.told other) there) in
-      Contains-filter (λ (used : Use). used.unit == unit) uses (record { unit = unit; household = other }) use_there (eq-eqb unit unit refl)
+    -- so no double use is passed over
+    none_before : (other day : ℕ) → IsDoubleUse households household change other day → IsPassed rival 80354 all_found other
+    none_before other day double =
+        let by = occupied_by (changed_records (records_of households household) change) day double.unit double.own in
+        let there = told_of other double.unit day double.others in
+        by_record by.0 by.2 (Contains-append_cases (without change.«drop» (live_records (records_of households household))) (listed change.add) by.0 by.1) there
+      where
+        from_own : All (ArePassed rival 80354 uses (fold (sooner_uses rival 80354 uses) None own)) own
+        from_own = records_passed rival 80354 uses None own tt
 
-  -- so no double use is passed over
-  none_before : (other day : ℕ) → IsDoubleUse households household change other day → IsPassed rival 80354 all_found other
-  none_before other day double =
-      let by = occupied_by (changed_records own change) day double.unit double.own in
-      let there = told_of other double.unit day double.others in
-      by_record by.0 by.2 (Contains-append_cases (without change.«drop» (live_records own)) (listed change.add) by.0 by.1) there
-    where
-      from_own : All (ArePassed rival 80354 uses (fold (sooner_uses rival 80354 uses) None own)) own
-      from_own = records_passed rival 80354 uses None own tt
+        found_own : IsFound rival 80354 (fold (sooner_uses rival 80354 uses) None own)
+        found_own = records_found rival 80354 uses None own tt
 
-      found_own : IsFound rival 80354 (fold (sooner_uses rival 80354 uses) None own)
-      found_own = records_found rival 80354 uses None own tt
+        from_added : All (ArePassed rival 80354 uses all_found) (listed change.add)
+        from_added = records_passed rival 80354 uses (fold (sooner_uses rival 80354 uses) None own) (listed change.add) found_own
 
-      from_added : All (ArePassed rival 80354 uses all_found) (listed change.add)
-      from_added = records_passed rival 80354 uses (fold (sooner_uses rival 80354 uses) None own) (listed change.add) found_own
+        by_record : (r : Record) → r.unit ≡ double.unit → Contains (without change.«drop» (live_records (records_of households household))) r ⊎ Contains (listed change.add) r →
+            Contains (of_unit uses double.unit) (record { unit = double.unit; household = other }) → IsPassed rival 80354 all_found other
+        by_record r same (inl kept) there =
+            let lives = (filter-contains (λ (q : Record). not (q.number == change.«drop»)) (live_records (records_of households household)) r kept).0 in
+            let held = All-contains (Contains own) (live_records (records_of households household)) r all lives in
+            let passed = All-contains (ArePassed rival 80354 uses (fold (sooner_uses rival 80354 uses) None own)) own r from_own held in
+            records_still rival 80354 uses (fold (sooner_uses rival 80354 uses) None own) (listed change.add) other
+            (All-contains (λ used. IsPassed rival 80354 (fold (sooner_uses rival 80354 uses) None own) used.household) (of_unit uses r.unit)
+            (record { unit = double.unit; household = other }) passed (rw same there))
+        by_record r same (inr added) there =
+            let passed = All-contains (ArePassed rival 80354 uses all_found) (listed change.add) r from_added added in
+            All-contains (λ used. IsPassed rival 80354 all_found used.household) (of_unit uses r.unit)
+            (record { unit = double.unit; household = other }) passed (rw same there)
 
-      by_record : (r : Record) → r.unit ≡ double.unit → Contains (without change.«drop» (live_records own)) r ⊎ Contains (listed change.add) r →
-          Contains (of_unit uses double.unit) (record { unit = double.unit; household = other }) → IsPassed rival 80354 all_found other
-      by_record r same (inl kept) there =
-          let lives = (filter-contains (λ (q : Record). not (q.number == change.«drop»)) (live_records own) r kept).0 in
-          let held = (filter-contains (is_live own) own r lives).0 in
-          let passed = All-contains (ArePassed rival 80354 uses (fold (sooner_uses rival 80354 uses) None own)) own r from_own held in
-          records_still rival 80354 uses (fold (sooner_uses rival 80354 uses) None own) (listed change.add) other
-          (All-contains (λ used. IsPassed rival 80354 (fold (sooner_uses rival 80354 uses) None own) used.household) (of_unit uses r.unit)
-          (record { unit = double.unit; household = other }) passed (rw same there))
-      by_record r same (inr added) there =
-          let passed = All-contains (ArePassed rival 80354 uses all_found) (listed change.add) r from_added added in
-          All-contains (λ used. IsPassed rival 80354 all_found used.household) (of_unit uses r.unit)
-          (record { unit = double.unit; household = other }) passed (rw same there)
+    -- a rival is one of the households
+    rival_there : (other day : ℕ) → rival other day ≡ true → (1 ≤ other) × (other ≤ length households)
+    unfolding is_rival_on
+    rival_there other day is =
+        let parts = and_parts (not (other == household)) (have_one_unit_on (changed_records (records_of households household) change) (live_records (records_of households other)) day) is in
+        let shared = both_have (occupied_unit_on (changed_records (records_of households household) change) day) (occupied_unit_on (live_records (records_of households other)) day) parts.1 in
+        let by = occupied_by (live_records (records_of households other)) day shared.0 shared.2 in
+        let there = (filter-contains (is_live (records_of households other)) (records_of households other) by.0 by.1).0 in
+        in_range other by.0 there
+      where
+        in_range : (other : ℕ) (r : Record) → Contains (records_of households other) r → (1 ≤ other) × (other ≤ length households)
+        in_range other r (k, within, at) = grind (arith, nat_tests, common_steps, within)
 
-  -- a rival is one of the households
-  rival_there : (other day : ℕ) → rival other day ≡ true → (1 ≤ other) × (other ≤ length households)
-  unfolding is_rival_on
-  rival_there other day is =
-      let parts = and_parts (not (other == household)) (have_one_unit_on (changed_records own change) (live_records (records_of households other)) day) is in
-      let shared = both_have (occupied_unit_on (changed_records own change) day) (occupied_unit_on (live_records (records_of households other)) day) parts.1 in
-      let by = occupied_by (live_records (records_of households other)) day shared.0 shared.2 in
-      let there = (filter-contains (is_live (records_of households other)) (records_of households other) by.0 by.1).0 in
-      in_range other by.0 there
-    where
-      in_range : (other : ℕ) (r : Record) → Contains (records_of households other) r → (1 ≤ other) × (other ≤ length households)
-      in_range other r (k, within, at) = grind (arith, nat_tests, common_steps, within)
-
-  pub found_by_units : all_found ≡ first_double_use households household change
-  found_by_units =
-      by_found all_found refl (records_found rival 80354 uses (fold (sooner_uses rival 80354 uses) None own) (listed change.add) (records_found rival 80354 uses None own tt))
-    where
-      by_found : (found : Option (ℕ × ℕ)) → all_found ≡ found → IsFound rival 80354 all_found → all_found ≡ first_double_use households household change
-      by_found None is found =
-          is ∙ sym ((no_double_use households household change).1 (λ other day double.
-          rw is at (none_before other day double day (let by = double.by in omega arith) (rival_is households household change other day double))))
-      by_found (Some (other, day)) is found =
-          let here : (day < 80354) × (rival other day ≡ true) = rw is at found in
-          let range = rival_there other day here.1 in
-          is ∙ sym ((double_use_is_first households household change other day).1 (
-            double_is households household change other day range.0 range.1 here.0 here.1,
-            λ another any double. rw is at (none_before another any double any (let by = double.by in omega arith) (rival_is households household change another any double)),
-          ))
+    pub found_by_units : all_found ≡ first_double_use households household change
+    found_by_units =
+        by_found all_found refl (records_found rival 80354 uses (fold (sooner_uses rival 80354 uses) None own) (listed change.add) (records_found rival 80354 uses None own tt))
+      where
+        by_found : (found : Option (ℕ × ℕ)) → all_found ≡ found → IsFound rival 80354 all_found → all_found ≡ first_double_use households household change
+        by_found None is found =
+            is ∙ sym ((no_double_use households household change).1 (λ other day double.
+            rw is at (none_before other day double day (let by = double.by in omega arith) (rival_is households household change other day double))))
+        by_found (Some (other, day)) is found =
+            let here : (day < 80354) × (rival other day ≡ true) = rw is at found in
+            let range = rival_there other day here.1 in
+            is ∙ sym ((double_use_is_first households household change other day).1 (
+              double_is households household change other day range.0 range.1 here.0 here.1,
+              λ another any double. rw is at (none_before another any double any (let by = double.by in omega arith) (rival_is households household change another any double)),
+            ))
 
 -- ---- the uses of a unit
 
@@ -233,18 +277,20 @@ between-is uses unit first end within order from above =
 
 -- ---- the searches one after the other
 
-module _ (households : List (List Record)) (household : ℕ) (change : Change) (uses : List Use) (told : TellUses households uses) where
-  abbrev by : Option (ℕ × ℕ) → List Record → Option (ℕ × ℕ)
-  by = fold (sooner_uses (is_rival_on households household change) 80354 uses)
+module _ (households : List (List Record)) (household : ℕ) (change : Change) (uses : List Use) (told : TellUses households uses)
+    (own : List Record) (all : All (Contains own) (live_records (records_of households household)))
+  where
+    abbrev by : Option (ℕ × ℕ) → List Record → Option (ℕ × ℕ)
+    by = fold (sooner_uses (is_rival_on households household change) 80354 uses)
 
-  pub with_one : (added : Record) → change.add ≡ Some added → (of : List Use) (first found : Option (ℕ × ℕ)) → of ≡ of_unit uses added.unit →
-      first ≡ by None (records_of households household) → found ≡ fold (sooner_use (is_rival_on households household change) 80354) first of →
-      found ≡ first_double_use households household change
-  with_one added is of first found of_is first_is found_is =
-      let one : by (by None (records_of households household)) (added ∷ []) ≡ by (by None (records_of households household)) (listed change.add) = rw is refl in
-      found_is ∙ rw (of_is, first_is) one ∙ found_by_units households household change uses told
+    pub with_one : (added : Record) → change.add ≡ Some added → (of : List Use) (first found : Option (ℕ × ℕ)) → of ≡ of_unit uses added.unit →
+        first ≡ by None own → found ≡ fold (sooner_use (is_rival_on households household change) 80354) first of →
+        found ≡ first_double_use households household change
+    with_one added is of first found of_is first_is found_is =
+        let one : by (by None own) (added ∷ []) ≡ by (by None own) (listed change.add) = rw is refl in
+        found_is ∙ rw (of_is, first_is) one ∙ found_by_units households household change uses told own all
 
-  pub with_none : change.add ≡ None → (first : Option (ℕ × ℕ)) → first ≡ by None (records_of households household) → first ≡ first_double_use households household change
-  with_none is first first_is =
-      let none : by None (records_of households household) ≡ by (by None (records_of households household)) (listed change.add) = rw is refl in
-      first_is ∙ none ∙ found_by_units households household change uses told
+    pub with_none : change.add ≡ None → (first : Option (ℕ × ℕ)) → first ≡ by None own → first ≡ first_double_use households household change
+    with_none is first first_is =
+        let none : by None own ≡ by (by None own) (listed change.add) = rw is refl in
+        first_is ∙ none ∙ found_by_units households household change uses told own all

@@ -1,5 +1,5 @@
 -- Whether two households have one unit changes only as their records begin.
-use Rattle.tenancy_rules.proofs.Words.{◌≡◌, ◌∙◌, sym, ap, ℕ, Bool, true, List, ◌++◌, Option, Some, None, arith, ◌&&◌, ◌==◌, not, nat_le, map, filter, fold, option_and_then, All, Contains, IfSome, false≢true, and_parts, nat_tests, All-append, All-contains, All-contains_itself, All-filter, All-weaker, filter_passes, ChangesAtBeginnings, latest-among, Record, is_live, live_records, comes_before, latest, records_of, Change, listed, changed_records, unit_kept, occupied_unit_on, is_one_unit, have_one_unit_on, is_rival_on, first_day_before, sooner_beginning, filter_alike, fold-append, All-both, All-left, All-right, All-unmap, Contains-map}
+use Rattle.tenancy_rules.proofs.Words.{◌≡◌, ◌∙◌, sym, ap, ℕ, Bool, true, List, ◌++◌, Option, Some, None, arith, ◌&&◌, ◌==◌, not, nat_le, map, filter, fold, option_and_then, All, Contains, IfSome, false≢true, and_parts, nat_tests, All-append, All-contains, All-contains_itself, All-filter, All-weaker, filter_passes, ChangesAtBeginnings, latest-among, Record, live_records, comes_before, latest, records_of, Change, listed, changed_records, unit_kept, occupied_unit_on, is_one_unit, have_one_unit_on, is_rival_on, first_day_before, sooner_beginning, filter_alike, fold-append, All-both, All-left, All-right, All-unmap, Contains-map}
 use Rattle.tenancy_rules.proofs.Beginning.{first_beginning-is}
 
 -- what holds of each record holds of each that is among them
@@ -39,40 +39,38 @@ module _ (records others beginning : List Record) (among : All (Contains beginni
           let first : r.from ≡ 0 = grind (arith, nat_tests) in
           rw first at (Contains-map (λ (q : Record). q.from) beginning r contains)
 
--- the days on which records of either household begin show the first on which they have one unit
-pub first_shared-is : (households : List (List Record)) (household : ℕ) (change : Change) (other end : ℕ) →
+-- the days on which records of either household begin that count show the first on which they have one unit
+pub first_shared-is : (households : List (List Record)) (household : ℕ) (change : Change) (other end : ℕ) (own others : List Record) →
+    All (Contains own) (live_records (records_of households household)) → All (Contains others) (live_records (records_of households other)) →
     let step = sooner_beginning (is_rival_on households household change other) end in
-    fold step (fold step (fold step None (records_of households household)) (records_of households other)) (listed change.add)
-    ≡ first_day_before end (is_rival_on households household change other)
+    fold step (fold step (fold step None own) others) (listed change.add) ≡ first_day_before end (is_rival_on households household change other)
 unfolding is_rival_on
-first_shared-is households household change other end =
+first_shared-is households household change other end own others own_there others_there =
     let step = sooner_beginning (is_rival_on households household change other) end in
-    let own : List Record = records_of households household in
-    let others : List Record = records_of households other in
+    let own_live : List Record = live_records (records_of households household) in
+    let others_live : List Record = live_records (records_of households other) in
     let added : List Record = listed change.add in
     let beginning : List Record = (own ++ others) ++ added in
     let all : All (Contains beginning) beginning = All-contains_itself beginning in
-    let own_among = All-left (Contains beginning) own others (All-left (Contains beginning) (own ++ others) added all) in
-    let others_among = All-right (Contains beginning) own others (All-left (Contains beginning) (own ++ others) added all) in
-    let changed_among : All (Contains beginning) (changed_records own change) =
+    let own_among = among_all (Contains beginning) own own_live own_there (All-left (Contains beginning) own others (All-left (Contains beginning) (own ++ others) added all)) in
+    let live_among = among_all (Contains beginning) others others_live others_there (All-right (Contains beginning) own others (All-left (Contains beginning) (own ++ others) added all)) in
+    let changed_among : All (Contains beginning) (changed_records (records_of households household) change) =
     All-append (Contains beginning) _ added (search (All-filter, own_among)) (All-right (Contains beginning) (own ++ others) added all) in
-    let live_among : All (Contains beginning) (live_records others) = All-filter (is_live others) (Contains beginning) others others_among in
     ap (λ (first : Option ℕ). fold step first added) (sym (fold-append step None own others))
     ∙ sym (fold-append step None (own ++ others) added)
     ∙ first_beginning-is (is_rival_on households household change other) end beginning
     (λ day next le nothing. ap (λ (one : Bool). not (other == household) && one)
-    (one_unit-changes (changed_records own change) (live_records others) beginning changed_among live_among day next le nothing))
-    (λ rival. one_unit-on_first (changed_records own change) (live_records others) beginning changed_among live_among
-    (and_parts (not (other == household)) (have_one_unit_on (changed_records own change) (live_records others) 0) rival).1)
+    (one_unit-changes (changed_records (records_of households household) change) others_live beginning changed_among live_among day next le nothing))
+    (λ rival. one_unit-on_first (changed_records (records_of households household) change) others_live beginning changed_among live_among
+    (and_parts (not (other == household)) (have_one_unit_on (changed_records (records_of households household) change) others_live 0) rival).1)
 
 -- two searches one after the other, and the step for the added record, are the search through all
-module _ (step : Option ℕ → Record → Option ℕ) (own others own_read others_read : List Record) (change : Change) (by_own by_both found : Option ℕ) where
-  pub searched-added : (added : Record) (last : Option ℕ) → own_read ≡ own → others_read ≡ others → by_own ≡ fold step None own_read →
-      by_both ≡ fold step by_own others_read → change.add ≡ Some added → last ≡ step by_both added →
+module _ (step : Option ℕ → Record → Option ℕ) (own others : List Record) (change : Change) (by_own by_both found : Option ℕ) where
+  pub searched-added : (added : Record) (last : Option ℕ) → by_own ≡ fold step None own →
+      by_both ≡ fold step by_own others → change.add ≡ Some added → last ≡ step by_both added →
       fold step (fold step (fold step None own) others) (listed change.add) ≡ found → last ≡ found
-  searched-added added last own_is others_is own_by both_by add_is last_is all = cc
+  searched-added added last own_by both_by add_is last_is all = cc
 
-  pub searched-none : own_read ≡ own → others_read ≡ others → by_own ≡ fold step None own_read →
-      by_both ≡ fold step by_own others_read → change.add ≡ None →
+  pub searched-none : by_own ≡ fold step None own → by_both ≡ fold step by_own others → change.add ≡ None →
       fold step (fold step (fold step None own) others) (listed change.add) ≡ found → by_both ≡ found
-  searched-none own_is others_is own_by both_by add_is all = cc
+  searched-none own_by both_by add_is all = cc

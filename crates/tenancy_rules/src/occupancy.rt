@@ -50,26 +50,33 @@ pub fn double_use_by(
     requires uses { TellUses history.now.households uses.now }
     ensures { result ≡ first_double_use history.now.households household change.now }
 {
-    let first = first_by_records(history, uses, household, change);
+    let live = history.live_records(household);
+    let first = first_by_records(history, uses, household, change, live);
     match &change.add {
         Some(added) => first_among(history, household, change, first, of_unit(uses, added.unit)),
         None => first,
     }
 }
 
-/// The first double use with a household that had a record in a unit of which this one has a record.
+/// The first double use with a household that had a record in the unit of one of these records. Records of one unit mostly
+/// follow each other: its uses are gone through for the first of them alone.
 fn first_by_records(
     history: &History,
     uses: &[Use],
     household: u32,
     change: &Change,
+    records: &[Record],
 ) -> Option<(u32, Day)>
     requires { UnitsNeverFall uses.now }
-    ensures { result ≡ fold (sooner_uses (is_rival_on history.now.households household change.now) 80354 uses.now) None (records_of history.now.households household) }
+    ensures { result ≡ fold (sooner_uses (is_rival_on history.now.households household change.now) 80354 uses.now) None records.now }
 {
     let mut first = None;
-    for held in history.records(household) {
-        first = first_among(history, household, change, first, of_unit(uses, held.unit));
+    let mut unit = None;
+    for held in records {
+        if unit != Some(held.unit) {
+            unit = Some(held.unit);
+            first = first_among(history, household, change, first, of_unit(uses, held.unit));
+        }
     }
     first
 }
@@ -129,13 +136,14 @@ impl Pair<'_> {
 
     /// The first day on which the other is a rival, of the days before the end.
     ///
-    /// Whether it is one changes only on days on which a record of either begins. A record that doesn't count does no
-    /// harm here: its day is tested as any other.
+    /// Whether it is one changes only on days on which a record of either begins that counts.
     fn first_day(&self, end: u32) -> Option<Day>
         ensures { result ≡ first_day_before end (is_rival_on self.now.history.now.households self.now.household self.now.change.now self.now.other) }
     {
-        let first = self.first_beginning(end, None, self.history.records(self.household));
-        let first = self.first_beginning(end, first, self.history.records(self.other));
+        let own = self.history.live_records(self.household);
+        let others = self.history.live_records(self.other);
+        let first = self.first_beginning(end, None, own);
+        let first = self.first_beginning(end, first, others);
         match &self.change.add {
             Some(added) => self.sooner_beginning(end, first, added),
             None => first,

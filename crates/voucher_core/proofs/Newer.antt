@@ -1,19 +1,15 @@
 -- The newest records, and from which day on they touch a household.
-use Rattle.voucher_core.proofs.Words.{◌≡◌, ◌⊎◌, inl, inr, ℕ, zero, suc, ◌<◌, ◌≤◌, List, [], ◌∷◌, Bool, true, false, length, get_or, drop, refl, sym, arith, nat_tests, All, nat_le, nat_lt, ◌==◌, ◌&&◌, eqb-true, cases_lt, filter_all, All-passing, Record, AreNumbered, ActsRise, made_after, earlier_start, is_newly_corrected, is_touched, TouchesFrom}
+use Rattle.voucher_core.proofs.Words.{◌≡◌, ℕ, zero, suc, ◌<◌, ◌≤◌, List, [], ◌∷◌, Bool, true, false, length, get_or, drop, refl, sym, arith, nat_tests, All, nat_le, nat_lt, ◌==◌, ◌&&◌, eqb-true, filter_all, All-passing, Record, AreNumbered, ActsRise, made_after, earlier_start, is_newly_corrected, is_touched, TouchesFrom}
 use Rattle.std.specs.List.Sorted.{IsPartitionPoint, IsPartitionedBy}
 use Rattle.std.specs.Prelude.{min}
-use Rattle.std.proofs.lemmas.{Bool.and_parts, List.Folds.Any-from_list_any}
+use Rattle.std.proofs.lemmas.{Bool.and_parts, List.Folds.Any-from_list_any, List.Sorted.IsPartitionedBy-leb}
 use Rattle.voucher_core.proofs.Named.{lead_back}
 
 -- The newest records ----
 
 -- where each is of a later act than those before it, those up to an act stand first
 pub known_first : (records : List Record) (act : ℕ) → ActsRise records → IsPartitionedBy (λ r. nat_le r.act act) records
-known_first records act rise i j d le within passed = by_place (cases_lt i j)
-  where
-    by_place : (i < j) ⊎ (j ≤ i) → nat_le (get_or records i d).act act ≡ true
-    by_place (inl before) = (let later = rise i j d before within in grind (arith, nat_tests))
-    by_place (inr from) = (let same : i ≡ j = omega arith in rw same passed)
+known_first records act rise = IsPartitionedBy-leb (λ (r : Record). r.act) records act (λ i j d le within. grind (arith, rise i j d))
 
 is_later : (act last : ℕ) → nat_le act last ≡ false → nat_lt last act ≡ true
 is_later act last is = grind (arith, nat_tests)
