@@ -1,0 +1,51 @@
+-- What follows of the rule for a pass.
+use Rattle.std.proofs.Common.{refl, arith}
+use Rattle.std.specs.Prelude.{◌==◌}
+use Rattle.std.proofs.lemmas.Bool.{eq-eqb, eqb-true}
+use Rattle.list_laws.proofs.Filters.{Contains-filter, filter-contains}
+use Rattle.book_rows.specs.declared.rows.ActRow.{ActRow}
+use Rattle.desk_history.specs.Moves.{longer}
+use Rattle.desk_history.specs.Laws.{EntriesAreOfTheNumber, OthersStay, PassesGoOn, NotesAreLearned, NewNumbersHaveNoEntries}
+use Rattle.desk_history.proofs.Fronts.{prefix_length, IsLonger, longer_is}
+use Rattle.desk_history.proofs.Entries.{entries_append, entries_none, entries_between}
+use Rattle.desk_history.proofs.Steps.{home_stays}
+use Rattle.desk_history.proofs.Notes.{home_learned}
+
+pub entries_are_of_the_number : EntriesAreOfTheNumber
+entries_are_of_the_number = record {
+  same = λ number list row. record {
+    stands = λ held is. Contains-filter (λ (r : ActRow). r.session == number) list row held (eq-eqb row.session number is);
+    among = λ held. (filter-contains (λ (r : ActRow). r.session == number) list row held).0;
+    own = λ held. eqb-true row.session number (filter-contains (λ (r : ActRow). r.session == number) list row held).1;
+  };
+  order = entries_append;
+}
+
+pub others_stay : OthersStay
+others_stay = home_stays
+
+pub passes_go_on : PassesGoOn
+passes_go_on held is = record {
+  number = refl;
+  start = refl;
+  front = is.front;
+  point = omega (arith, prefix_length held.pass.list held.book.list is.front);
+  own = is.own;
+  found = is.left;
+  left = is.found;
+}
+
+pub notes_are_learned : NotesAreLearned
+notes_are_learned book pass note home is =
+    let both : IsLonger pass.list note.list book.list = longer_is pass.list note.list book.list home.front is.front in
+    record {
+      home = home_learned book pass note home is;
+      front = both.first;
+      told = both.other;
+      point = omega (arith, prefix_length pass.list (longer pass.list note.list) both.first);
+      own = entries_between pass.number pass.list (longer pass.list note.list) book.list both.first both.front home.own;
+    }
+
+pub new_numbers_have_no_entries : NewNumbersHaveNoEntries
+new_numbers_have_no_entries next list below =
+    entries_none next list (λ i d within. (let known = below i d within in λ same. absurd (omega (arith, same, known))))

@@ -1,0 +1,54 @@
+-- What follows of the rule for a pass, whatever the office does.
+use Rattle.std.specs.Prelude.{◌≡◌, ◌≢◌, ◌≤◌, ◌<◌, ℕ, List, [], ◌++◌, All, Contains}
+use mathlib.Core.List.{IsPrefix}
+use Rattle.book_rows.specs.declared.rows.ActRow.{ActRow}
+use Rattle.desk_history.specs.declared.views.BookView.{BookView}
+use Rattle.desk_history.specs.declared.views.PassView.{PassView}
+use Rattle.desk_history.specs.declared.views.NoteView.{NoteView}
+use Rattle.desk_history.specs.declared.views.HoldingView.{HoldingView}
+use Rattle.desk_history.specs.Seen.{entries_of, point_of}
+use Rattle.desk_history.specs.Moves.{GrowsBy, returned, learned}
+use Rattle.desk_history.specs.Rule.{IsHome, IsHeld, IsNoteOf}
+
+-- the entries of a number are exactly the rows of that session
+pub record HasEntries (number : ℕ) (list : List ActRow) (row : ActRow) : Type 0 where
+  pub stands : Contains list row → row.session ≡ number → Contains (entries_of number list) row
+  pub among : Contains (entries_of number list) row → Contains list row
+  pub own : Contains (entries_of number list) row → row.session ≡ number
+
+-- and in their order: those of rows and further rows are those of the rows and then those of the further ones
+pub record EntriesAreOfTheNumber : Type 0 where
+  pub same : (number : ℕ) (list : List ActRow) (row : ActRow) → HasEntries number list row
+  pub order : (number : ℕ) (list more : List ActRow) → entries_of number (list ++ more) ≡ entries_of number list ++ entries_of number more
+
+-- a step of another pass leaves a pass what it is: it still knows the first rows of the book, and all entries of its number
+abbrev pub OthersStay : Type 0
+OthersStay = (number : ℕ) (old new : BookView) (pass : PassView) → GrowsBy number old new → pass.number ≢ number → IsHome old pass → IsHome new pass
+
+-- what a pass knows, its point and its faults only rise, and of its own entries it has just those appended since
+pub record GoesOn (old new : PassView) (since : List ActRow) : Type 0 where
+  pub number : new.number ≡ old.number
+  pub start : new.start ≡ old.start
+  pub front : IsPrefix old.list new.list
+  pub point : point_of old ≤ point_of new
+  pub own : entries_of new.number new.list ≡ entries_of old.number old.list ++ since
+  pub found : old.left ≤ new.found
+  pub left : new.found ≤ new.left
+
+abbrev pub PassesGoOn : Type 0
+PassesGoOn = (held : HoldingView) → IsHeld held → GoesOn held.pass (returned held) held.since
+
+-- a pass that learns what a note says knows what it knew and what the note says, and no more than the book has
+pub record Learns (book : BookView) (pass : PassView) (note : NoteView) : Type 0 where
+  pub home : IsHome book (learned pass note)
+  pub front : IsPrefix pass.list (learned pass note).list
+  pub told : IsPrefix note.list (learned pass note).list
+  pub point : point_of pass ≤ point_of (learned pass note)
+  pub own : entries_of pass.number (learned pass note).list ≡ entries_of pass.number pass.list
+
+abbrev pub NotesAreLearned : Type 0
+NotesAreLearned = (book : BookView) (pass : PassView) (note : NoteView) → IsHome book pass → IsNoteOf book note → Learns book pass note
+
+-- where each row is of a number below, a new number has no entries
+abbrev pub NewNumbersHaveNoEntries : Type 0
+NewNumbersHaveNoEntries = (next : ℕ) (list : List ActRow) → All (λ row. row.session < next) list → entries_of next list ≡ []

@@ -1,0 +1,4 @@
+pub mod Seen
+pub mod Moves
+pub mod Rule
+pub mod Laws

@@ -1,0 +1,68 @@
+-- What the steps make of what is seen.
+use Rattle.std.specs.Prelude.{◌≡◌, ◌≤◌, ℕ, ◌+◌, List, [], ◌∷◌, ◌++◌, length, nat_lt, if◌then◌else◌, All}
+use Rattle.book_rows.specs.declared.rows.ActRow.{ActRow}
+use Rattle.desk_history.specs.declared.views.Start.{Start}
+use Rattle.desk_history.specs.declared.views.BookView.{BookView}
+use Rattle.desk_history.specs.declared.views.PassView.{PassView}
+use Rattle.desk_history.specs.declared.views.NoteView.{NoteView}
+use Rattle.desk_history.specs.declared.views.HoldingView.{HoldingView}
+
+-- the book when the desk is opened, with so many faults counted
+abbrev pub opened : Start → ℕ → BookView
+opened start faults = record { start = start; list = []; next = 1; faults = faults }
+
+-- the book once a new pass has the next number
+abbrev pub one_handed_out : BookView → BookView
+one_handed_out book = record { start = book.start; list = book.list; next = book.next + 1; faults = book.faults }
+
+-- the new pass: it knows what the book has
+abbrev pub new_pass : BookView → PassView
+new_pass book = record { number = book.next; start = book.start; list = book.list; found = book.faults; left = book.faults }
+
+-- the pass came in
+abbrev pub holding : BookView → PassView → HoldingView
+holding book pass = record { book = book; pass = pass; since = []; found = book.faults }
+
+-- the row was appended
+abbrev pub booked : HoldingView → ActRow → HoldingView
+booked held row = record {
+  book = record { start = held.book.start; list = held.book.list ++ row ∷ []; next = held.book.next; faults = held.book.faults };
+  pass = held.pass;
+  since = held.since ++ row ∷ [];
+  found = held.found;
+}
+
+-- the keeper was seen to have counted so many faults
+abbrev pub looked : HoldingView → ℕ → HoldingView
+looked held faults = record {
+  book = record { start = held.book.start; list = held.book.list; next = held.book.next; faults = faults };
+  pass = held.pass;
+  since = held.since;
+  found = held.found;
+}
+
+-- the pass as it goes back: it knows what the book has
+abbrev pub returned : HoldingView → PassView
+returned held = record { number = held.pass.number; start = held.pass.start; list = held.book.list; found = held.found; left = held.book.faults }
+
+-- a note of what the pass knows
+abbrev pub noted : PassView → NoteView
+noted pass = record { start = pass.start; list = pass.list }
+
+-- of two lists the longer, and of two of one length the first
+abbrev pub longer : List ActRow → List ActRow → List ActRow
+longer first other = if nat_lt (length first) (length other) then other else first
+
+-- the pass once it has learned what the note says
+abbrev pub learned : PassView → NoteView → PassView
+learned pass note = record { number = pass.number; start = pass.start; list = longer pass.list note.list; found = pass.found; left = pass.left }
+
+-- Between two steps at which the pass of a number is held, a book grows by rows of that number alone. The keeper's faults
+-- don't fall.
+pub record GrowsBy (number : ℕ) (old new : BookView) : Type 0 where
+  pub start : new.start ≡ old.start
+  pub rows : List ActRow
+  pub list : new.list ≡ old.list ++ rows
+  pub own : All (λ row. row.session ≡ number) rows
+  pub next : new.next ≡ old.next
+  pub faults : old.faults ≤ new.faults

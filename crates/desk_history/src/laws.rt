@@ -1,0 +1,26 @@
+ghost use Rattle.desk_history.specs.Laws.{EntriesAreOfTheNumber, OthersStay, PassesGoOn, NotesAreLearned, NewNumbersHaveNoEntries};
+
+/// The entries of a number are exactly the rows of that session, in their order. It does nothing.
+pub fn entries_are_those_of_the_number()
+    ensures { EntriesAreOfTheNumber }
+{}
+
+/// A pass is left what it is by the steps of others. It does nothing.
+pub fn others_stay()
+    ensures { OthersStay }
+{}
+
+/// What a pass knows only rises, and of its own entries it has just those that were appended. It does nothing.
+pub fn passes_go_on()
+    ensures { PassesGoOn }
+{}
+
+/// A pass learns what a note says, and no more than the book has. It does nothing.
+pub fn notes_are_learned()
+    ensures { NotesAreLearned }
+{}
+
+/// A new number has no entries. It does nothing.
+pub fn new_numbers_have_no_entries()
+    ensures { NewNumbersHaveNoEntries }
+{}
