@@ -5,10 +5,10 @@ use Rattle.std.proofs.lemmas.Bool.{eq-eqb, eqb-true}
 use Rattle.list_laws.proofs.Filters.{Contains-filter, filter-contains}
 use Rattle.book_rows.specs.declared.rows.ActRow.{ActRow}
 use Rattle.desk_history.specs.Moves.{longer}
-use Rattle.desk_history.specs.Laws.{EntriesAreOfTheNumber, OthersStay, PassesGoOn, NotesAreLearned, NewNumbersHaveNoEntries}
-use Rattle.desk_history.proofs.Fronts.{prefix_length, IsLonger, longer_is}
+use Rattle.desk_history.specs.Laws.{EntriesAreOfTheNumber, HeldBooksGrow, OneBeginsTheOther, OthersStay, PassesGoOn, NotesAreLearned, NewNumbersHaveNoEntries}
+use Rattle.desk_history.proofs.Fronts.{prefix_length, fronts_are_along, IsLonger, longer_is}
 use Rattle.desk_history.proofs.Entries.{entries_append, entries_none, entries_between}
-use Rattle.desk_history.proofs.Steps.{home_stays}
+use Rattle.desk_history.proofs.Steps.{home_stays, booked_grows, looked_grows}
 use Rattle.desk_history.proofs.Notes.{home_learned}
 
 pub entries_are_of_the_number : EntriesAreOfTheNumber
@@ -20,6 +20,12 @@ entries_are_of_the_number = record {
   };
   order = entries_append;
 }
+
+pub held_books_grow : HeldBooksGrow
+held_books_grow = record { appended = booked_grows; seen = looked_grows }
+
+pub one_begins_the_other : OneBeginsTheOther
+one_begins_the_other book first other known also = fronts_are_along first.list other.list book.list known.front also.front
 
 pub others_stay : OthersStay
 others_stay = home_stays

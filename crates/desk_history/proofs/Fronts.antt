@@ -1,5 +1,5 @@
 -- Beginnings of one list.
-use Rattle.std.proofs.Common.{◌≡◌, ◌≤◌, List, [], ◌∷◌, ◌++◌, length, refl, ap, sym, subst, ◌∙◌, arith, append_assoc, length-append}
+use Rattle.std.proofs.Common.{◌≡◌, ◌⊎◌, inl, inr, ◌≤◌, List, [], ◌∷◌, ◌++◌, length, refl, ap, sym, subst, ◌∙◌, arith, append_assoc, length-append}
 use Rattle.std.specs.Prelude.{Bool, true, false, nat_lt}
 use mathlib.Core.List.{IsPrefix}
 use Rattle.std.proofs.lemmas.Bool.{ltb-true, ltb-false}
@@ -51,3 +51,11 @@ longer_is xs ys zs p q = by_length (nat_lt (length xs) (length ys)) refl
           first = subst (λ (w : List ActRow). IsPrefix xs w) (sym same) (prefix_self xs);
           other = subst (λ (w : List ActRow). IsPrefix ys w) (sym same) (prefix_shorter ys xs zs q p (ltb-false (length xs) (length ys) is));
         }
+
+-- of two beginnings of one list, the one begins the other
+pub fronts_are_along : (xs ys zs : List ActRow) → IsPrefix xs zs → IsPrefix ys zs → IsPrefix xs ys ⊎ IsPrefix ys xs
+fronts_are_along xs ys zs p q = by_length (nat_lt (length xs) (length ys)) refl
+  where
+    by_length : (less : Bool) → nat_lt (length xs) (length ys) ≡ less → IsPrefix xs ys ⊎ IsPrefix ys xs
+    by_length true is = inl (prefix_shorter xs ys zs p q (omega (arith, ltb-true (length xs) (length ys) is)))
+    by_length false is = inr (prefix_shorter ys xs zs q p (ltb-false (length xs) (length ys) is))

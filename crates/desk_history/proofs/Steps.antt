@@ -139,7 +139,7 @@ held_grows words now views place held after at pass grows is_held word =
 one_own : (number : ℕ) (row : ActRow) → row.session ≡ number → All (λ r. r.session ≡ number) (row ∷ [])
 one_own number row own = All-cons (λ (r : ActRow). r.session ≡ number) row [] own (All-nil (λ (r : ActRow). r.session ≡ number))
 
-booked_grows : (held : HoldingView) (row : ActRow) → row.session ≡ held.pass.number → GrowsBy held.pass.number held.book (booked held row).book
+pub booked_grows : (held : HoldingView) (row : ActRow) → row.session ≡ held.pass.number → GrowsBy held.pass.number held.book (booked held row).book
 booked_grows held row own = record {
   start = refl;
   rows = row ∷ [];
@@ -149,7 +149,7 @@ booked_grows held row own = record {
   faults = omega arith;
 }
 
-looked_grows : (held : HoldingView) (faults : ℕ) → held.book.faults ≤ faults → GrowsBy held.pass.number held.book (looked held faults).book
+pub looked_grows : (held : HoldingView) (faults : ℕ) → held.book.faults ≤ faults → GrowsBy held.pass.number held.book (looked held faults).book
 looked_grows held faults rose = record {
   start = refl;
   rows = [];

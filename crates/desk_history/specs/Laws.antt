@@ -1,5 +1,5 @@
 -- What follows of the rule for a pass, whatever the office does.
-use Rattle.std.specs.Prelude.{◌≡◌, ◌≢◌, ◌≤◌, ◌<◌, ℕ, List, [], ◌++◌, All, Contains}
+use Rattle.std.specs.Prelude.{◌≡◌, ◌≢◌, ◌≤◌, ◌<◌, ◌⊎◌, ℕ, List, [], ◌++◌, All, Contains}
 use mathlib.Core.List.{IsPrefix}
 use Rattle.book_rows.specs.declared.rows.ActRow.{ActRow}
 use Rattle.desk_history.specs.declared.views.BookView.{BookView}
@@ -7,7 +7,7 @@ use Rattle.desk_history.specs.declared.views.PassView.{PassView}
 use Rattle.desk_history.specs.declared.views.NoteView.{NoteView}
 use Rattle.desk_history.specs.declared.views.HoldingView.{HoldingView}
 use Rattle.desk_history.specs.Seen.{entries_of, point_of}
-use Rattle.desk_history.specs.Moves.{GrowsBy, returned, learned}
+use Rattle.desk_history.specs.Moves.{GrowsBy, booked, looked, returned, learned}
 use Rattle.desk_history.specs.Rule.{IsHome, IsHeld, IsNoteOf}
 
 -- the entries of a number are exactly the rows of that session
@@ -20,6 +20,16 @@ pub record HasEntries (number : ℕ) (list : List ActRow) (row : ActRow) : Type 
 pub record EntriesAreOfTheNumber : Type 0 where
   pub same : (number : ℕ) (list : List ActRow) (row : ActRow) → HasEntries number list row
   pub order : (number : ℕ) (list more : List ActRow) → entries_of number (list ++ more) ≡ entries_of number list ++ entries_of number more
+
+-- while a pass is held, each step grows the book by rows of its own number
+pub record HeldBooksGrow : Type 0 where
+  pub appended : (held : HoldingView) (row : ActRow) → row.session ≡ held.pass.number → GrowsBy held.pass.number held.book (booked held row).book
+  pub seen : (held : HoldingView) (faults : ℕ) → held.book.faults ≤ faults → GrowsBy held.pass.number held.book (looked held faults).book
+
+-- of what two passes know, the one begins the other
+abbrev pub OneBeginsTheOther : Type 0
+OneBeginsTheOther = (book : BookView) (first other : PassView) → IsHome book first → IsHome book other →
+    IsPrefix first.list other.list ⊎ IsPrefix other.list first.list
 
 -- a step of another pass leaves a pass what it is: it still knows the first rows of the book, and all entries of its number
 abbrev pub OthersStay : Type 0

@@ -68,7 +68,10 @@ Keeps words views = ((words ≡ 0 ∷ []) × (views ≡ Blank ∷ [])) ⊎ IsOpe
 abbrev pub Tells : View → ℕ → Type 0
 Tells (Holding held) found = IsHeld held × (found ≡ length held.book.list)
 Tells (Learning pass note) found =
-    IsPrefix pass.list (longer pass.list note.list) × IsPrefix note.list (longer pass.list note.list) × (note.start ≡ pass.start)
+    IsPrefix pass.list (longer pass.list note.list)
+    × IsPrefix note.list (longer pass.list note.list)
+    × (entries_of pass.number (longer pass.list note.list) ≡ entries_of pass.number pass.list)
+    × (note.start ≡ pass.start)
 Tells _ found = Unit {0}
 
 -- the step to a view that is wanted

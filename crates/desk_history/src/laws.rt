@@ -1,8 +1,18 @@
-ghost use Rattle.desk_history.specs.Laws.{EntriesAreOfTheNumber, OthersStay, PassesGoOn, NotesAreLearned, NewNumbersHaveNoEntries};
+ghost use Rattle.desk_history.specs.Laws.{EntriesAreOfTheNumber, HeldBooksGrow, OneBeginsTheOther, OthersStay, PassesGoOn, NotesAreLearned, NewNumbersHaveNoEntries};
 
 /// The entries of a number are exactly the rows of that session, in their order. It does nothing.
 pub fn entries_are_those_of_the_number()
     ensures { EntriesAreOfTheNumber }
+{}
+
+/// While a pass is held, the book grows by its rows alone. It does nothing.
+pub fn held_books_grow()
+    ensures { HeldBooksGrow }
+{}
+
+/// Of what two passes know, the one begins the other. It does nothing.
+pub fn one_begins_the_other()
+    ensures { OneBeginsTheOther }
 {}
 
 /// A pass is left what it is by the steps of others. It does nothing.

@@ -7,14 +7,16 @@ mod laws;
 mod noting;
 mod opening;
 mod rule;
+mod turns;
 mod views;
 
 pub use holding::{append, come_in, go_back, look};
 pub use laws::{
-    entries_are_those_of_the_number, new_numbers_have_no_entries, notes_are_learned, others_stay,
+    entries_are_those_of_the_number, held_books_grow, new_numbers_have_no_entries, notes_are_learned, one_begins_the_other, others_stay,
     passes_go_on,
 };
 pub use noting::{finish, learn, write_note};
 pub use opening::{NewHistory, hand_out, new_history, open_book};
 pub use rule::{HistoryBadge, HistorySeat, HistoryTable, OneHistory, SharedHistory};
+pub use turns::{book_in_turn, book_row};
 pub use views::{BookView, HoldingView, NoteView, Opening, PassView, Start, View};

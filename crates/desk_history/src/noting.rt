@@ -71,6 +71,7 @@ fn read_note_as<A: Wanted>(history: &SharedHistory, pass: &mut HistorySeat)
     ensures view { pass.new.me ≡ (Home (learned (pass_of pass.old.me.0) (note_of pass.old.me.0)), []) }
     ensures front { IsPrefix (pass_of pass.old.me.0).list (longer (pass_of pass.old.me.0).list (note_of pass.old.me.0).list) }
     ensures note { IsPrefix (note_of pass.old.me.0).list (longer (pass_of pass.old.me.0).list (note_of pass.old.me.0).list) }
+    ensures own { entries_of (pass_of pass.old.me.0).number (longer (pass_of pass.old.me.0).list (note_of pass.old.me.0).list) ≡ entries_of (pass_of pass.old.me.0).number (pass_of pass.old.me.0).list }
     ensures start { (note_of pass.old.me.0).start ≡ (pass_of pass.old.me.0).start }
 {
     history.load::<Becomes<A>>(pass, 0);
@@ -83,6 +84,7 @@ fn read_note(history: &SharedHistory, pass: &mut HistorySeat)
     ensures view { pass.new.me ≡ (Home (learned (pass_of pass.old.me.0) (note_of pass.old.me.0)), []) }
     ensures front { IsPrefix (pass_of pass.old.me.0).list (longer (pass_of pass.old.me.0).list (note_of pass.old.me.0).list) }
     ensures note { IsPrefix (note_of pass.old.me.0).list (longer (pass_of pass.old.me.0).list (note_of pass.old.me.0).list) }
+    ensures own { entries_of (pass_of pass.old.me.0).number (longer (pass_of pass.old.me.0).list (note_of pass.old.me.0).list) ≡ entries_of (pass_of pass.old.me.0).number (pass_of pass.old.me.0).list }
     ensures start { (note_of pass.old.me.0).start ≡ (pass_of pass.old.me.0).start }
 {
     read_note_as::<Brand>(history, pass);
@@ -97,6 +99,7 @@ pub fn learn(history: &SharedHistory, pass: &mut HistoryBadge, note: HistoryBadg
     ensures pass { pass.new.views ≡ Home (learned (pass_in pass.old.views) (note_in note.views)) ∷ [] }
     ensures front { IsPrefix (pass_in pass.old.views).list (pass_in pass.new.views).list }
     ensures note { IsPrefix (note_in note.views).list (pass_in pass.new.views).list }
+    ensures own { entries_of (pass_in pass.new.views).number (pass_in pass.new.views).list ≡ entries_of (pass_in pass.old.views).number (pass_in pass.old.views).list }
     ensures start { (note_in note.views).start ≡ (pass_in pass.old.views).start }
 {
     let mut seat = mem::replace(pass, Badge::blank()).into_seat::<()>();
