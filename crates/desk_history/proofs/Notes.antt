@@ -106,12 +106,15 @@ reads_note slots place pass note = λ s rule homes at within.
               (known.0, home_learned o.1 pass note known.1 known.2);
         },
       ),
-      (refl, (
-        both.first,
-        both.other,
-        entries_between pass.number pass.list (longer pass.list note.list) o.1.list both.first both.front known.1.own,
-        known.2.start ∙ sym known.1.start,
-      )),
+      (
+        refl,
+        (
+          both.first,
+          both.other,
+          entries_between pass.number pass.list (longer pass.list note.list) o.1.list both.first both.front known.1.own,
+          known.2.start ∙ sym known.1.start,
+        ),
+      ),
     ))
 
 pub reads_note_as : (slots place : ℕ) (me : Me (Unit {0}) View) (want : View) (pass : PassView) (note : NoteView) → me ≡ (Learning pass note, []) →

@@ -12,8 +12,8 @@ mod views;
 
 pub use holding::{append, come_in, go_back, look};
 pub use laws::{
-    entries_are_those_of_the_number, held_books_grow, new_numbers_have_no_entries, notes_are_learned, one_begins_the_other, others_stay,
-    passes_go_on,
+    entries_are_those_of_the_number, held_books_grow, new_numbers_have_no_entries,
+    notes_are_learned, one_begins_the_other, others_stay, passes_go_on,
 };
 pub use noting::{finish, learn, write_note};
 pub use opening::{NewHistory, hand_out, new_history, open_book};

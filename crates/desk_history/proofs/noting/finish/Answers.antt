@@ -1,0 +1,11 @@
+use Rattle.std.proofs.Common.{rules}
+use Rattle.desk_history.proofs.noting.finish.Goals as goal
+
+pub returns-clause-start : goal.returns-clause-start
+returns-clause-start g c = search rules
+
+pub returns-clause-front : goal.returns-clause-front
+returns-clause-front g c = search rules
+
+pub returns-clause-own : goal.returns-clause-own
+returns-clause-own g c = search rules
