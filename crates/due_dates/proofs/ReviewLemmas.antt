@@ -1,5 +1,8 @@
 -- The least day on which rents are stale is found among the first day and the beginnings.
-use Rattle.due_dates.proofs.Words.{◌≡◌, ◌∙◌, sym, refl, ℕ, ◌+◌, ◌-◌, Bool, List, [], ◌∷◌, ◌++◌, Option, None, ap, arith, filter, fold, nat_le, nat_lt, ◌&&◌, filter_agree, later, earliest, is_within, ChangesAtBeginnings, first_day-is, least_that, with_day, with_days, nat_tests, fold-append, common_steps}
+use Rattle.std.specs.List.Sorted.{IsNonDecreasingBy}
+use Rattle.std.proofs.Common.{◌⊎◌, drop, length, get_or}
+use Rattle.record_history.specs.{declared.records.Record.Record, Ordered.StandInOrder}
+use Rattle.due_dates.proofs.Words.{◌≡◌, ◌∙◌, sym, refl, ℕ, ◌+◌, ◌-◌, Bool, List, [], ◌∷◌, ◌++◌, Option, None, ap, arith, ◌<◌, ◌≤◌, inl, inr, zero, suc, true, map, cases_lt, filter, fold, nat_le, nat_lt, ◌&&◌, filter_agree, later, earliest, is_within, ChangesAtBeginnings, first_day-is, least_that, with_day, with_days, nat_tests, fold-append, common_steps}
 
 -- a day that doesn't pass is passed over
 with_days-filter : (passes : ℕ → Bool) (best : Option ℕ) (days : List ℕ) →
@@ -27,3 +30,21 @@ with_days-least passes first last days more changes =
     in
     let first_is = first_day-is passes (days ++ more) first (last + 1 - first) changes in
     sym joined ∙ found ∙ ap earliest (sym agree) ∙ sym first_is
+
+-- records in order begin one after another
+pub firsts_rise : (live : List Record) → StandInOrder live → IsNonDecreasingBy (λ (r : Record). r.from) live
+firsts_rise live in_order i j d le within = by_place (cases_lt i j)
+  where
+    by_place : (i < j) ⊎ (j ≤ i) → (get_or live i d).from ≤ (get_or live j d).from
+    by_place (inl before) = (let behind = in_order i j d before within in grind (arith, nat_tests))
+    by_place (inr from) = (let same : i ≡ j = omega arith in rw same (omega arith))
+
+-- records that begin before the span need no look
+pub from_span : (passes : ℕ → Bool) (first last : ℕ) (live : List Record) (early : ℕ) (best : Option ℕ) →
+    ((k : ℕ) (d : Record) → k < early → nat_lt (get_or live k d).from first ≡ true) → early ≤ length live →
+    with_days (λ day. (nat_le first day && nat_le day last) && passes day) best (map (λ (r : Record). r.from) (drop early live))
+    ≡ with_days (λ day. (nat_le first day && nat_le day last) && passes day) best (map (λ (r : Record). r.from) live)
+from_span passes first last live zero best before within = refl
+from_span passes first last [] (suc early) best before within = refl
+from_span passes first last (r ∷ live) (suc early) best before within =
+    grind (arith, nat_tests, common_steps, before 0 r (omega arith), from_span passes first last live early best (λ k d low. before (suc k) d (omega arith)) (omega arith))

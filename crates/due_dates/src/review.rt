@@ -1,5 +1,6 @@
-ghost use Rattle.std.specs.Prelude.{◌≡◌, None, map};
-ghost use Rattle.record_history.specs.Held.{records_of};
+ghost use Rattle.std.specs.Prelude.{◌≡◌, ◌≤◌, None, map, nat_lt, length, true, false};
+ghost use Rattle.std.specs.List.Sorted.{IsPartitionPoint};
+ghost use Rattle.record_history.specs.{Held.records_of, Ordered.StandInOrder};
 ghost use Rattle.due_dates.specs.Stale.{rent_due_day_of, gross_day_of};
 ghost use Rattle.due_dates.specs.Review.{is_due_on, with_day, with_days};
 
@@ -51,13 +52,15 @@ struct RentReview<'a> {
 }
 
 impl RentReview<'_> {
-    /// Rents become stale only where a record that counts or a row of rents begins, so no other day is looked at.
+    /// Rents become stale only where a record that counts or a row of rents begins, so no other day is looked at, and no
+    /// record that begins before the span.
     fn least_day(&self) -> Option<Day>
         ensures { result ≡ rent_due_day_of (records_of self.now.history.now.households self.now.household) self.now.table.now.units self.now.table.now.rents self.now.first self.now.last }
     {
         let live = self.history.live_records(self.household);
+        let early = how_many_before(live, self.first);
         let at_once = self.earlier(None, self.first);
-        self.among_rows(self.among_records(live, at_once))
+        self.among_rows(self.among_records(&live[early..], at_once))
     }
 
     fn among_records(&self, records: &[Record], best: Option<Day>) -> Option<Day>
@@ -103,4 +106,13 @@ impl RentReview<'_> {
             && day <= self.last
             && is_rent_stale_on(self.history, self.table, self.household, day)
     }
+}
+
+/// How many of the records, in their order, begin before the day.
+fn how_many_before(live: &[Record], day: Day) -> usize
+    requires { StandInOrder live.now }
+    ensures bound { result ≤ length live.now }
+    ensures point { IsPartitionPoint (λ r. nat_lt r.from day ≡ true) (λ r. nat_lt r.from day ≡ false) live.now result }
+{
+    live.partition_point(|held| held.from < day)
 }
