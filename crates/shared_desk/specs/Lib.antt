@@ -1,1 +1,4 @@
+pub mod Unnamed
 pub mod History
+pub mod Deciding
+pub mod Calls

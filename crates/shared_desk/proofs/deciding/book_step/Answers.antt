@@ -1,0 +1,51 @@
+use Rattle.std.proofs.Common.{◌∙◌, arith, ap, length, sym, subst₂}
+use Rattle.book_rows.specs.Book.{Book, appended}
+use Rattle.office_core.specs.Below.office_step.declared.call.Capacity.{Capacity}
+use Rattle.shared_desk.specs.Deciding.{IsLeft}
+use Rattle.shared_desk.proofs.Settled.{batch_of_act, batch_follows, survives_kept, survives_unkept}
+use Rattle.shared_desk.proofs.deciding.book_step.Goals as goal
+
+pub commit-requires-clause-batch : goal.commit-requires-clause-batch
+commit-requires-clause-batch g c = batch_of_act c.batches_follow.ensures _ _ _ _ c.tables-of_an_office.ensures.reached c.requires.planned.appends c.batch.ensures
+
+pub commit-requires-clause-next : goal.commit-requires-clause-next
+commit-requires-clause-next g c =
+    λ book told. batch_follows c.batches_follow.ensures _ _ book _ _ c.tables-of_an_office.ensures.reached c.requires.planned.appends c.batch.ensures (c.requires.settled.kept book told)
+
+pub append-requires-clause-few : goal.append-requires-clause-few
+append-requires-clause-few g c =
+    let reached = c.histories_are_reached.ensures.reached _ _ c.requires.settled.legal in
+    let same = ap (λ (book : Book). length book.acts) c.requires.settled.tables in
+    let acts = reached.acts in
+    let few = c.tables-of_an_office.ensures.few in
+    omega (arith, acts, few, same)
+
+pub returns-in_default-clause-survives : goal.returns-in_default-clause-survives
+returns-in_default-clause-survives g c =
+    λ sure telling now holding after left.
+    subst₂ (λ (most : Capacity) (tables : Book). IsLeft most tables after) (sym c.reserve.ensures.capacity) (sym c.reserve.ensures.book)
+    (c.requires.survives sure telling now holding after left)
+
+pub returns-in-Done-clause-survives : goal.returns-in-Done-clause-survives
+returns-in-Done-clause-survives g c =
+    survives_kept g.B.Naming.sound c.apply.new.self.capacity c.args.office.now.book c.apply.new.self.book
+    (g.K.Keeper.holds c.args.keeper.now) (g.K.Keeper.holds c.commit.new.self) (g.K.Keeper.tells_crash c.commit.new.self) (g.K.Keeper.leaves c.commit.new.self)
+    c.args.step.rows c.batch.result.now c.batch.ensures
+    (c.apply.ensures.book ∙ ap (λ (tables : Book). appended tables c.args.step.rows) c.reserve.ensures.book)
+    c.requires.settled.kept c.in-Done.ensures.leaves c.in-Done.ensures.crash
+
+pub returns-in-Failed-clause-survives : goal.returns-in-Failed-clause-survives
+returns-in-Failed-clause-survives g c =
+    survives_unkept g.B.Naming.sound c.args.office.now.capacity c.reserve.new.self.capacity c.args.office.now.book c.reserve.new.self.book
+    (g.K.Keeper.holds c.args.keeper.now) (g.K.Keeper.holds c.commit.new.self) (g.K.Keeper.tells_crash c.args.keeper.now) (g.K.Keeper.tells_crash c.commit.new.self)
+    (g.K.Keeper.leaves c.args.keeper.now) (g.K.Keeper.leaves c.commit.new.self) c.args.step.rows c.batch.result.now
+    c.requires.survives c.requires.planned.appends c.batch.ensures c.reserve.ensures.capacity c.reserve.ensures.book
+    c.requires.settled.kept c.in-Failed.ensures.leaves c.in-Failed.ensures.told c.in-Failed.ensures.crash
+
+pub returns-in-NoMemory-clause-survives : goal.returns-in-NoMemory-clause-survives
+returns-in-NoMemory-clause-survives g c =
+    survives_unkept g.B.Naming.sound c.args.office.now.capacity c.reserve.new.self.capacity c.args.office.now.book c.reserve.new.self.book
+    (g.K.Keeper.holds c.args.keeper.now) (g.K.Keeper.holds c.commit.new.self) (g.K.Keeper.tells_crash c.args.keeper.now) (g.K.Keeper.tells_crash c.commit.new.self)
+    (g.K.Keeper.leaves c.args.keeper.now) (g.K.Keeper.leaves c.commit.new.self) c.args.step.rows c.batch.result.now
+    c.requires.survives c.requires.planned.appends c.batch.ensures c.reserve.ensures.capacity c.reserve.ensures.book
+    c.requires.settled.kept c.in-NoMemory.ensures.leaves c.in-NoMemory.ensures.told c.in-NoMemory.ensures.crash

@@ -1,0 +1,61 @@
+-- What is decided of a call while its pass is held, and what is so whenever no pass is.
+use Rattle.std.specs.Prelude.{◌≡◌, ⊤, ◌⊎◌, ℕ, [], ◌∷◌, ◌++◌}
+use Rattle.book_rows.specs.{declared.rows.Batch.Batch, Book.Book, Book.appended}
+use Rattle.office_core.specs.Below.office_answers.declared.reply.Reply.{Reply}
+use Rattle.office_core.specs.Below.office_step.{declared.call.Capacity.Capacity, Step.Outcome, Step.again, Step.refused, Step.appends, Step.IsAppended}
+use Rattle.clerk_desk.specs.Serving.{reply_of}
+use Rattle.desk_history.specs.declared.views.{BookView.BookView, HoldingView.HoldingView}
+use Rattle.shared_desk.specs.History.{book_in, capacity_of, tables_at, IsLegalHistory}
+
+-- ---- what the lock keeps
+
+-- The office's tables are those after the book's history, which is legal; the keeper tells these tables and no others, and
+-- told the opening ones when the desk was opened; and its faults are those of the book's view.
+pub record IsSettled (capacity : Capacity) (held : Book) (told holds : Book → Type 0) (faults : ℕ) (book : BookView) : Type 0 where
+  pub tables : held ≡ tables_at book.start book.list
+  pub capacity_is : capacity ≡ capacity_of book.start
+  pub legal : IsLegalHistory book.start book.list
+  pub kept : (now : Book) → holds now → now ≡ held
+  pub first : (now : Book) → holds now → told (book_in book.start.opening)
+  pub faults_are : faults ≡ book.faults
+
+-- a stop leaves the tables, or these and the rows of one further act that the office would append
+abbrev pub IsLeft : Capacity → Book → Book → Type 0
+IsLeft capacity held after = (after ≡ held) ⊎ ((rows : Batch) × IsAppended capacity held rows × (after ≡ appended held rows))
+
+-- where that was known when the desk was opened, and the keeper tells what a stop may leave
+abbrev pub Survives : Type 0 → Capacity → Book → (Book → Type 0) → Type 0 → (Book → Type 0) → Type 0
+Survives sound capacity held holds tells leaves =
+    sound → tells → (now : Book) → holds now → (after : Book) → leaves after → IsLeft capacity held after
+
+-- ---- what is decided
+
+-- the pass that is held stays what it was when it came, and so does the start of the desk
+pub record HoldsOn (old new : HoldingView) : Type 0 where
+  pub pass : new.pass ≡ old.pass
+  pub found : new.found ≡ old.found
+  pub start : new.book.start ≡ old.book.start
+
+-- the call was booked: its row is appended, and the reply is the office's on the tables before
+pub record Books (outcome : Outcome) (held : Book) (old new : HoldingView) (reply : Reply) : Type 0 where
+  pub rows : Batch
+  pub appends_them : outcome ≡ appends rows
+  pub list : new.book.list ≡ old.book.list ++ rows.act ∷ []
+  pub since : new.since ≡ old.since ++ rows.act ∷ []
+  pub replied : reply ≡ reply_of held (appends rows)
+
+-- the reply to a call that isn't booked: to a repeat the first reply again, or the office's refusal; or the keeper failed or
+-- memory ran out
+abbrev pub IsReplied : Outcome → Reply → Type 0
+IsReplied outcome (Reply.Accepted done) = outcome ≡ again done
+IsReplied outcome (Reply.Refused refusal) = outcome ≡ refused refusal
+IsReplied outcome _ = ⊤
+
+-- nothing was booked
+pub record Rests (outcome : Outcome) (old new : HoldingView) (reply : Reply) : Type 0 where
+  pub list : new.book.list ≡ old.book.list
+  pub since : new.since ≡ old.since
+  pub replied : IsReplied outcome reply
+
+abbrev pub Decides : Outcome → Book → HoldingView → HoldingView → Reply → Type 0
+Decides outcome held old new reply = Books outcome held old new reply ⊎ Rests outcome old new reply

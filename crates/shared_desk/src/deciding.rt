@@ -1,0 +1,126 @@
+ghost use Rattle.std.specs.Prelude.{◌≡◌, ℕ, true, []};
+ghost use Rattle.office_core.specs.Below.office_step.declared.call.Call.{Call};
+ghost use Rattle.office_core.specs.Below.office_step.Step.{step, appends, is_fit_call};
+ghost use Rattle.office_core.specs.Planned.{IsPlannedFor};
+ghost use Rattle.clerk_desk.specs.Serving.{ReplyCause};
+ghost use Rattle.desk_history.specs.declared.views.View.TheVariants.{Holding};
+ghost use Rattle.desk_history.specs.Seen.{holding_of};
+ghost use Rattle.desk_history.specs.Rule.{IsHeld};
+ghost use Rattle.shared_desk.specs.Deciding.{IsSettled, Survives, HoldsOn, Decides};
+
+use crate::naming::Naming;
+use crate::{histories_are_reached, histories_go_on};
+use days_core::Day;
+use desk_history::{HistorySeat, SharedHistory, append, look};
+use keeper_core::{Committed, Keeper};
+use office_core::office_answers::Reply;
+use office_core::office_laws::{acts_give_the_book, batches_follow};
+use office_core::{Call, Judged, Judgment, Office, Step};
+use record_history::{Dates, Record};
+use std::alloc::Global;
+
+/// Decides a call of the pass that is held, in a session of its number, while the clock shows the day.
+pub(crate) fn decide<K: Keeper, B: Naming>(
+    alloc: Global,
+    history: &SharedHistory,
+    book: &mut HistorySeat,
+    office: &mut Office,
+    keeper: &mut K,
+    session: u32,
+    clock: Day,
+    call: Call,
+) -> Reply
+    requires fit { is_fit_call call ≡ true }
+    requires table { (book.old.table_id ≡ history.now.table_id) × (history.now.table_id.words ≡ 1) }
+    requires holding { book.old.me ≡ (Holding (holding_of book.old.me.0), []) }
+    requires number { session ≡ (holding_of book.old.me.0).pass.number }
+    requires settled { IsSettled office.old.capacity office.old.book B.told (K.holds keeper.old) (K.faults keeper.old) (holding_of book.old.me.0).book }
+    requires survives { Survives B.sound office.old.capacity office.old.book (K.holds keeper.old) (K.tells_crash keeper.old) (K.leaves keeper.old) }
+    ensures table { book.new.table_id ≡ book.old.table_id }
+    ensures holding { book.new.me ≡ (Holding (holding_of book.new.me.0), []) }
+    ensures settled { IsSettled office.new.capacity office.new.book B.told (K.holds keeper.new) (K.faults keeper.new) (holding_of book.new.me.0).book }
+    ensures survives { Survives B.sound office.new.capacity office.new.book (K.holds keeper.new) (K.tells_crash keeper.new) (K.leaves keeper.new) }
+    ensures held { IsHeld (holding_of book.new.me.0) }
+    ensures holds_on { HoldsOn (holding_of book.old.me.0) (holding_of book.new.me.0) }
+    ensures cause { ReplyCause (holding_of book.old.me.0).book.faults (holding_of book.new.me.0).book.faults result }
+    ensures decides { Decides (step office.old.book office.old.capacity session clock call) office.old.book (holding_of book.old.me.0) (holding_of book.new.me.0) result }
+{
+    match office.plan_step(alloc, session, clock, call) {
+        Ok(Judged::Repeat(done)) => {
+            look(history, book, keeper);
+            Reply::Accepted(done)
+        }
+        Ok(Judged::New(step)) => {
+            is_of_session(office, session, &step);
+            book_step::<K, B>(alloc, history, book, office, keeper, step)
+        }
+        Err(Judgment::Refused(refusal)) => {
+            look(history, book, keeper);
+            Reply::Refused(refusal)
+        }
+        Err(Judgment::NoMemory) => {
+            look(history, book, keeper);
+            Reply::NoMemory
+        }
+    }
+}
+
+/// The rows that the office plans for a call are of its session. It does nothing.
+fn is_of_session(office: &Office, session: u32, planned: &Step)
+    requires { (clock : ℕ) × (call : Call) × (step office.now.book office.now.capacity session clock call ≡ appends planned.now.rows) }
+    ensures { planned.now.rows.act.session ≡ session }
+{
+    acts_give_the_book();
+}
+
+/// Keeps the rows of a step that was planned for the office as it is, and then appends them. All memory that the office
+/// and the history need is there before the keeper is asked.
+fn book_step<K: Keeper, B: Naming>(
+    alloc: Global,
+    history: &SharedHistory,
+    book: &mut HistorySeat,
+    office: &mut Office,
+    keeper: &mut K,
+    step: Step,
+) -> Reply
+    requires planned { IsPlannedFor office.old.capacity office.old.book step }
+    requires table { (book.old.table_id ≡ history.now.table_id) × (history.now.table_id.words ≡ 1) }
+    requires holding { book.old.me ≡ (Holding (holding_of book.old.me.0), []) }
+    requires number { step.rows.act.session ≡ (holding_of book.old.me.0).pass.number }
+    requires settled { IsSettled office.old.capacity office.old.book B.told (K.holds keeper.old) (K.faults keeper.old) (holding_of book.old.me.0).book }
+    requires survives { Survives B.sound office.old.capacity office.old.book (K.holds keeper.old) (K.tells_crash keeper.old) (K.leaves keeper.old) }
+    ensures table { book.new.table_id ≡ book.old.table_id }
+    ensures holding { book.new.me ≡ (Holding (holding_of book.new.me.0), []) }
+    ensures settled { IsSettled office.new.capacity office.new.book B.told (K.holds keeper.new) (K.faults keeper.new) (holding_of book.new.me.0).book }
+    ensures survives { Survives B.sound office.new.capacity office.new.book (K.holds keeper.new) (K.tells_crash keeper.new) (K.leaves keeper.new) }
+    ensures held { IsHeld (holding_of book.new.me.0) }
+    ensures holds_on { HoldsOn (holding_of book.old.me.0) (holding_of book.new.me.0) }
+    ensures cause { ReplyCause (holding_of book.old.me.0).book.faults (holding_of book.new.me.0).book.faults result }
+    ensures decides { Decides (appends step.rows) office.old.book (holding_of book.old.me.0) (holding_of book.new.me.0) result }
+{
+    batches_follow();
+    histories_go_on();
+    histories_are_reached();
+    let _of_an_office = office.tables();
+    let Ok(()) = office.reserve(&step) else {
+        step.let_go();
+        look(history, book, keeper);
+        return Reply::NoMemory;
+    };
+    match keeper.commit(alloc, step.batch()) {
+        Committed::Done => {
+            append(history, book, &step.batch().act);
+            Reply::Accepted(office.apply(step))
+        }
+        Committed::Failed => {
+            step.let_go();
+            look(history, book, keeper);
+            Reply::StoreFault
+        }
+        Committed::NoMemory => {
+            step.let_go();
+            look(history, book, keeper);
+            Reply::NoMemory
+        }
+    }
+}

@@ -1,0 +1,133 @@
+ghost use Rattle.std.specs.Prelude.{◌≡◌, true, [], length};
+ghost use Rattle.office_core.specs.Below.office_answers.{Answered.Answers, Answering.answer_to};
+ghost use Rattle.office_core.specs.Below.office_step.Step.{is_fit_call};
+ghost use Rattle.clerk_desk.specs.Serving.{ReplyCause};
+ghost use Rattle.desk_history.specs.Laws.{GoesOn};
+ghost use Rattle.desk_history.specs.Seen.{point_of};
+ghost use Rattle.shared_desk.specs.History.{IsLegalHistory, tables_at};
+ghost use Rattle.shared_desk.specs.Calls.{IsCalled, KnowsMore};
+
+use crate::deciding::decide;
+use crate::naming::Naming;
+use crate::pass::Pass;
+use crate::{histories_are_reached, histories_go_on};
+use days_core::Day;
+use desk_history::{HistorySeat, SharedHistory, come_in, go_back, look, passes_go_on};
+use keeper_core::Keeper;
+use office_core::office_answers::Reply;
+use office_core::office_laws::acts_give_the_book;
+use office_core::{Answer, Asked, Call, Office, Question};
+use std::alloc::Global;
+use std::marker::{Model, PhantomData};
+
+/// What the lock keeps: the office, its keeper, and the book of the history.
+#[derive(Drop)]
+pub struct Locked<K: Keeper + Drop, B: Naming> {
+    pub(crate) office: Office,
+    pub(crate) keeper: K,
+    pub(crate) book: HistorySeat,
+    pub(crate) of: PhantomData<B>,
+}
+
+impl<K: Keeper + Drop, B: Naming> Model for Locked<K, B> {
+    ghost use Rattle.std.specs.Prelude.{◌≡◌, []};
+    ghost use Rattle.desk_history.specs.declared.views.View.TheVariants.{Free};
+    ghost use Rattle.desk_history.specs.Seen.{book_of};
+    ghost use Rattle.shared_desk.specs.Deciding.{IsSettled, Survives};
+    ghost use Rattle.shared_desk.specs.Calls.{Locking};
+
+    ghost Value = { Locking K };
+
+    ghost view = { λ locked. record { book = book_of locked.book.me.0; keeper = locked.keeper } };
+
+    ghost invariant = { λ locked. (locked.book.table_id ≡ B.table) × (locked.book.me ≡ (Free (book_of locked.book.me.0), [])) × IsSettled locked.office.capacity locked.office.book B.told (K.holds locked.keeper) (K.faults locked.keeper) (book_of locked.book.me.0) × Survives B.sound locked.office.capacity locked.office.book (K.holds locked.keeper) (K.tells_crash locked.keeper) (K.leaves locked.keeper) × (B.table.words ≡ 1) };
+}
+
+/// What a session is told of a call.
+#[derive(Drop)]
+pub struct Outcome {
+    /// The number of acts in the book.
+    pub point: u32,
+    pub reply: Reply,
+}
+
+/// What a session is told of a question.
+#[derive(Drop)]
+pub struct AskOutcome {
+    /// The number of acts in the book.
+    pub point: u32,
+    pub answer: Result<Answer, Asked>,
+}
+
+/// How many acts the office's book has.
+pub(crate) fn acts_held(office: &Office) -> u32
+    ensures { result ≡ length office.now.book.acts }
+{
+    office.tables().acts.len() as u32
+}
+
+impl<K: Keeper + Drop, B: Naming> Locked<K, B> {
+    /// Decides a call of the pass, while the clock shows the day.
+    pub(crate) fn call(
+        &mut self,
+        alloc: Global,
+        history: &SharedHistory,
+        pass: &mut Pass<B>,
+        call: Call,
+        clock: Day,
+    ) -> Outcome
+        requires fit { is_fit_call call ≡ true }
+        requires table { history.now.table_id ≡ B.table }
+        ensures goes_on { KnowsMore pass.old pass.new }
+        ensures legal { IsLegalHistory pass.new.start pass.new.list }
+        ensures point { result.point ≡ point_of pass.new }
+        ensures called { IsCalled clock call pass.old pass.new result.reply }
+        ensures cause { ReplyCause pass.new.found pass.new.left result.reply }
+    {
+        acts_give_the_book();
+        histories_are_reached();
+        passes_go_on();
+        come_in(history, &mut self.book, &mut pass.badge);
+        let reply = decide::<K, B>(
+            alloc,
+            history,
+            &mut self.book,
+            &mut self.office,
+            &mut self.keeper,
+            pass.number,
+            clock,
+            call,
+        );
+        pass.badge = go_back(history, &mut self.book);
+        let point = acts_held(&self.office);
+        pass.seen = point;
+        Outcome { point, reply }
+    }
+
+    /// Answers a question of the pass.
+    pub(crate) fn ask(
+        &mut self,
+        alloc: Global,
+        history: &SharedHistory,
+        pass: &mut Pass<B>,
+        question: &Question,
+    ) -> AskOutcome
+        requires table { history.now.table_id ≡ B.table }
+        ensures goes_on { GoesOn pass.old pass.new [] }
+        ensures legal { IsLegalHistory pass.new.start pass.new.list }
+        ensures point { result.point ≡ point_of pass.new }
+        ensures answered { Answers (answer_to (tables_at pass.new.start pass.new.list) question.now) result.answer }
+    {
+        histories_are_reached();
+        passes_go_on();
+        come_in(history, &mut self.book, &mut pass.badge);
+        look(history, &mut self.book, &self.keeper);
+        pass.badge = go_back(history, &mut self.book);
+        let point = acts_held(&self.office);
+        pass.seen = point;
+        AskOutcome {
+            point,
+            answer: self.office.ask(alloc, question),
+        }
+    }
+}
