@@ -1,3 +1,5 @@
 pub mod Going
 pub mod Settled
 pub mod Ends
+pub mod Fresh
+pub mod Beginning

@@ -6,13 +6,18 @@ ghost use Rattle.desk_history.specs.Laws.{GoesOn};
 ghost use Rattle.desk_history.specs.Seen.{point_of};
 ghost use Rattle.shared_desk.specs.History.{IsLegalHistory, tables_at};
 ghost use Rattle.shared_desk.specs.Calls.{IsCalled, KnowsMore};
+ghost use Rattle.shared_desk.specs.Desk.{IsFinished};
+ghost use Rattle.book_rows.specs.Book.{book_of};
 
 use crate::deciding::decide;
 use crate::naming::Naming;
+use crate::opened::Finished;
 use crate::pass::Pass;
 use crate::{histories_are_reached, histories_go_on};
 use days_core::Day;
-use desk_history::{HistorySeat, SharedHistory, come_in, go_back, look, passes_go_on};
+use desk_history::{
+    HistorySeat, HistoryTable, SharedHistory, come_in, finish, go_back, look, passes_go_on,
+};
 use keeper_core::Keeper;
 use office_core::office_answers::Reply;
 use office_core::office_laws::acts_give_the_book;
@@ -128,6 +133,24 @@ impl<K: Keeper + Drop, B: Naming> Locked<K, B> {
         AskOutcome {
             point,
             answer: self.office.ask(alloc, question),
+        }
+    }
+
+    /// Ends the desk with a pass, and gives back the tables and the keeper.
+    pub(crate) fn finish(self, history: HistoryTable, pass: Pass<B>) -> Finished<K>
+        requires table { history.shared.table_id ≡ B.table }
+        ensures { IsFinished pass (book_of result.tables) B.told (K.holds result.keeper) B.sound (K.tells_crash result.keeper) (K.leaves result.keeper) }
+    {
+        let Locked {
+            office,
+            keeper,
+            book,
+            of: _,
+        } = self;
+        finish(history, book, pass.badge, &keeper);
+        Finished {
+            tables: office.into_tables(),
+            keeper,
         }
     }
 }

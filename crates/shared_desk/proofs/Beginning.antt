@@ -1,0 +1,47 @@
+-- What the lock keeps when a desk is opened.
+use Rattle.std.proofs.Common.{◌≡◌, ◌∙◌, sym, ap, subst, inl, ℕ, List, []}
+use Rattle.atomic_table.specs.Table.{Me}
+use Rattle.book_rows.specs.{declared.rows.ActRow.ActRow, Book.Book}
+use Rattle.office_core.specs.Below.office_step.{declared.call.Capacity.Capacity, Step.IsReached}
+use Rattle.desk_history.specs.declared.views.{Start.Start, BookView.BookView, View.View, View.TheVariants.Free}
+use Rattle.desk_history.specs.{Seen.book_of, Seen.start_on, Moves.opened}
+use Rattle.shared_desk.specs.History.{book_in, capacity_of, tables_at, IsLegalHistory}
+use Rattle.shared_desk.specs.Deciding.{IsSettled, Survives}
+
+-- the view of a book that is just opened
+pub record IsOpened (view : View) (first : Start) (counted : ℕ) : Type 0 where
+  pub start : (book_of view).start ≡ first
+  pub faults : (book_of view).faults ≡ counted
+
+pub book_opened : (me : Me (Unit {0}) View) (rows : Book) (most_acts most_lines faults : ℕ) →
+    me ≡ (Free (opened (start_on rows most_acts most_lines) faults), []) → IsOpened me.0 (start_on rows most_acts most_lines) faults
+book_opened me rows most_acts most_lines faults is = record {
+  start = ap (λ (m : Me (Unit {0}) View). (book_of m.0).start) is;
+  faults = ap (λ (m : Me (Unit {0}) View). (book_of m.0).faults) is;
+}
+
+-- no row is a legal history over an office's book
+pub legal_first : (capacity : Capacity) (held : Book) (start : Start) → start ≡ start_on held capacity.acts capacity.lines → IsReached capacity held →
+    IsLegalHistory start []
+legal_first capacity held start is reached =
+    subst (λ (s : Start). IsLegalHistory s []) (sym is) (record { opened = reached; each = tt })
+
+pub settled_first : (capacity : Capacity) (held : Book) (told holds : Book → Type 0) (faults : ℕ) (book : BookView) →
+    book.start ≡ start_on held capacity.acts capacity.lines → book.list ≡ [] → faults ≡ book.faults → IsReached capacity held →
+    ((now : Book) → holds now → now ≡ held) → ((now : Book) → holds now → told now) → IsSettled capacity held told holds faults book
+settled_first capacity held told holds faults book start list counted reached kept first =
+    let same : book_in book.start.opening ≡ held = ap (λ (s : Start). book_in s.opening) start in
+    record {
+      tables = sym (ap (λ (rows : List ActRow). tables_at book.start rows) list ∙ same);
+      capacity_is = sym (ap capacity_of start);
+      legal = subst (λ (rows : List ActRow). IsLegalHistory book.start rows) (sym list) (legal_first capacity held book.start start reached);
+      kept = kept;
+      first = λ now telling. subst told (kept now telling ∙ sym same) (first now telling);
+      faults_are = counted;
+    }
+
+pub survives_first : (sound : Type 0) (capacity : Capacity) (held : Book) (holds : Book → Type 0) (tells : Type 0) (leaves : Book → Type 0) →
+    ((now : Book) → holds now → now ≡ held) →
+    (sound → tells → (now : Book) → holds now → (after : Book) → leaves after → after ≡ now) → Survives sound capacity held holds tells leaves
+survives_first sound capacity held holds tells leaves kept known =
+    λ sure telling now holding after left. inl (known sure telling now holding after left ∙ kept now holding)

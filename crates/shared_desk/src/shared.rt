@@ -1,0 +1,101 @@
+ghost use Rattle.std.specs.Prelude.{◌≡◌, ℕ, true, []};
+ghost use mathlib.Core.List.{IsPrefix};
+ghost use Rattle.office_core.specs.Below.office_answers.{Answered.Answers, Answering.answer_to};
+ghost use Rattle.office_core.specs.Below.office_step.Step.{is_fit_call};
+ghost use Rattle.clerk_desk.specs.Serving.{ReplyCause};
+ghost use Rattle.desk_history.specs.Laws.{GoesOn};
+ghost use Rattle.desk_history.specs.Moves.{noted, learned};
+ghost use Rattle.desk_history.specs.Seen.{entries_of, point_of};
+ghost use Rattle.shared_desk.specs.History.{IsLegalHistory, tables_at};
+ghost use Rattle.shared_desk.specs.Calls.{IsCalled, KnowsMore};
+
+use crate::locked::{AskOutcome, Locked, Outcome};
+use crate::naming::Naming;
+use crate::pass::{Note, Pass};
+use desk_history::{HistoryTable, learn, write_note};
+use keeper_core::Keeper;
+use office_core::{Call, Question};
+use office_io::Clock;
+use std::alloc::Global;
+use std::marker::PhantomData;
+use std::sync::{Mutex, Wait};
+
+/// A desk as threads share it: the history, and behind a lock the office and its keeper.
+#[derive(Drop)]
+pub struct SharedDesk<K: Keeper + Drop, B: Naming> {
+    pub(crate) history: HistoryTable,
+    pub(crate) lock: Mutex<Locked<K, B>>,
+    pub ghost named: { (history.shared.table_id ≡ B.table) × (B.table.words ≡ 1) },
+}
+
+impl<K: Keeper + Drop, B: Naming> SharedDesk<K, B> {
+    /// Decides a call of the pass, on a day that the clock shows. It waits for the lock.
+    ///
+    /// A call's clerk is from 1 to 9,999 and its request from 1.
+    pub fn call<R: Wait, C: Clock>(
+        &self,
+        rt: &R,
+        alloc: Global,
+        pass: &mut Pass<B>,
+        call: Call,
+        clock: &C,
+    ) -> Outcome
+        requires fit { is_fit_call call ≡ true }
+        ensures goes_on { KnowsMore pass.old pass.new }
+        ensures legal { IsLegalHistory pass.new.start pass.new.list }
+        ensures point { result.point ≡ point_of pass.new }
+        ensures called { (day : ℕ) × C.may_show clock.now day × IsCalled day call pass.old pass.new result.reply }
+        ensures cause { ReplyCause pass.new.found pass.new.left result.reply }
+    {
+        let day = clock.today();
+        self.lock
+            .lock(rt)
+            .call(alloc, &self.history.shared, pass, call, day)
+    }
+
+    /// Answers a question of the pass. It waits for the lock.
+    pub fn ask<R: Wait>(
+        &self,
+        rt: &R,
+        alloc: Global,
+        pass: &mut Pass<B>,
+        question: &Question,
+    ) -> AskOutcome
+        ensures goes_on { GoesOn pass.old pass.new [] }
+        ensures legal { IsLegalHistory pass.new.start pass.new.list }
+        ensures point { result.point ≡ point_of pass.new }
+        ensures answered { Answers (answer_to (tables_at pass.new.start pass.new.list) question.now) result.answer }
+    {
+        self.lock
+            .lock(rt)
+            .ask(alloc, &self.history.shared, pass, question)
+    }
+
+    /// Writes down what the pass has seen. It doesn't wait.
+    pub fn note(&self, pass: &mut Pass<B>) -> Note<B>
+        ensures same { pass.new ≡ pass.old }
+        ensures note { result ≡ noted pass.old }
+    {
+        let badge = write_note(&self.history.shared, &mut pass.badge);
+        Note {
+            badge,
+            seen: pass.seen,
+            of: PhantomData,
+        }
+    }
+
+    /// Lets the pass see what the note says: of what the two have seen the longer, which the other begins. It doesn't wait.
+    pub fn learn(&self, pass: &mut Pass<B>, note: Note<B>)
+        ensures pass { pass.new ≡ learned pass.old note }
+        ensures front { IsPrefix pass.old.list pass.new.list }
+        ensures told { IsPrefix note.list pass.new.list }
+        ensures own { entries_of pass.new.number pass.new.list ≡ entries_of pass.old.number pass.old.list }
+        ensures start { note.start ≡ pass.old.start }
+    {
+        let Note { badge, seen, of: _ } = note;
+        learn(&self.history.shared, &mut pass.badge, badge);
+        if pass.seen < seen {
+            pass.seen = seen;
+        }
+    }
+}
