@@ -48,9 +48,8 @@ impl<K: Keeper + Drop, B: Naming> SharedDesk<K, B> {
         ensures cause { ReplyCause pass.new.found pass.new.left result.reply }
     {
         let day = clock.today();
-        self.lock
-            .lock(rt)
-            .call(alloc, &self.history.shared, pass, call, day)
+        let mut locked = self.lock.lock(rt);
+        locked.call(alloc, &self.history.shared, pass, call, day)
     }
 
     /// Answers a question of the pass. It waits for the lock.
@@ -66,9 +65,8 @@ impl<K: Keeper + Drop, B: Naming> SharedDesk<K, B> {
         ensures point { result.point ≡ point_of pass.new }
         ensures answered { Answers (answer_to (tables_at pass.new.start pass.new.list) question.now) result.answer }
     {
-        self.lock
-            .lock(rt)
-            .ask(alloc, &self.history.shared, pass, question)
+        let mut held = self.lock.lock(rt);
+        held.ask(alloc, &self.history.shared, pass, question)
     }
 
     /// Writes down what the pass has seen. It doesn't wait.

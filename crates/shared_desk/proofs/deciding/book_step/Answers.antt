@@ -1,4 +1,4 @@
-use Rattle.std.proofs.Common.{◌∙◌, arith, ap, length, sym, subst₂}
+use Rattle.std.proofs.Common.{rules, ◌∙◌, arith, ap, length, sym, subst₂}
 use Rattle.book_rows.specs.Book.{Book, appended}
 use Rattle.office_core.specs.Below.office_step.declared.call.Capacity.{Capacity}
 use Rattle.shared_desk.specs.Deciding.{IsLeft}
@@ -49,3 +49,9 @@ returns-in-NoMemory-clause-survives g c =
     (g.K.Keeper.leaves c.args.keeper.now) (g.K.Keeper.leaves c.commit.new.self) c.args.step.rows c.batch.result.now
     c.requires.survives c.requires.planned.appends c.batch.ensures c.reserve.ensures.capacity c.reserve.ensures.book
     c.requires.settled.kept c.in-NoMemory.ensures.leaves c.in-NoMemory.ensures.told c.in-NoMemory.ensures.crash
+
+pub returns-in-Failed-clause-settled : goal.returns-in-Failed-clause-settled
+returns-in-Failed-clause-settled g c = search rules
+
+pub returns-in_default-clause-cause : goal.returns-in_default-clause-cause
+returns-in_default-clause-cause g c = search rules

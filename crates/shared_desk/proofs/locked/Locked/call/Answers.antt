@@ -1,4 +1,4 @@
-use Rattle.std.proofs.Common.{ap, sym}
+use Rattle.std.proofs.Common.{rules, ap, sym}
 use Rattle.atomic_table.specs.Table.{Me}
 use Rattle.desk_history.specs.declared.views.View.{View}
 use Rattle.desk_history.specs.Seen.{holding_of, book_of, pass_in}
@@ -14,3 +14,9 @@ returns-clause-called g c =
     c.decide-reply.ensures.held c.decide-reply.ensures.holds_on
     c.self.inside.office.capacity c.self.inside.office.book c.pass.inside.number c.args.clock c.args.call c.decide-reply.result
     c.self.invariant.2.tables c.self.invariant.2.capacity_is c.pass.invariant.2 c.self.invariant.2.legal c.decide-reply.ensures.decides
+
+pub returns-clause-point : goal.returns-clause-point
+returns-clause-point g c = search rules
+
+pub decide-reply-requires-clause-number : goal.decide-reply-requires-clause-number
+decide-reply-requires-clause-number g c = search rules
