@@ -1,0 +1,63 @@
+ghost use Rattle.std.specs.Prelude.{◌≡◌, []};
+ghost use Rattle.book_rows.specs.Book.{Book};
+ghost use Rattle.desk_history.specs.declared.views.View.TheVariants.{Blank};
+
+use crate::desks::{INTERIM, begun, call_of, certified, desk, history, newest, next_pass, told};
+use book_rows::Tables;
+use desk_history::NewHistory;
+use keeper_core::PlannedKeeper;
+use office_core::office_answers::Reply;
+use shared_desk::Naming;
+use std::alloc::Global;
+use std::marker::Brand;
+use std::process::Abort;
+use std::sync::Wait;
+
+// The first commit fails, and nothing is booked. The same call by another pass is, and its repeat is answered alike. A pass
+// that learns of it has seen it, and the keeper has what the desk leaves.
+fn failing<B: Naming, R: Abort + Wait>(
+    rt: &R,
+    alloc: Global,
+    history: NewHistory,
+    tables: Tables,
+    first_commit: Vec<u64>,
+)
+    requires table { (history.table.shared.table_id ≡ B.table) × (history.book.table_id ≡ B.table) × (B.table.words ≡ 1) }
+    requires blank { history.book.me ≡ (Blank, []) }
+    requires told { (book : Book) → B.told book }
+    requires sound { B.sound → ⊥ }
+{
+    let keeper = PlannedKeeper::with(tables, first_commit);
+    let mut desk = desk::<PlannedKeeper, B, R>(rt, alloc, history, keeper);
+    let mut first = next_pass(rt, &mut desk);
+    let mut second = next_pass(rt, &mut desk);
+    let mut third = next_pass(rt, &mut desk);
+    let shared = desk.shared();
+    let call = call_of(rt, alloc, 1, 50, INTERIM);
+    let outcome = told(rt, alloc, shared, &mut first, "2024-02-01", call);
+    assert!(rt; (outcome.point, outcome.reply) == (4, Reply::StoreFault));
+    let call = call_of(rt, alloc, 1, 50, INTERIM);
+    let outcome = told(rt, alloc, shared, &mut second, "2024-02-01", call);
+    assert!(rt; (outcome.point, outcome.reply) == (5, certified(5)));
+    let call = call_of(rt, alloc, 1, 50, INTERIM);
+    let outcome = told(rt, alloc, shared, &mut first, "2024-02-03", call);
+    assert!(rt; (outcome.point, outcome.reply) == (5, certified(5)));
+    let note = shared.note(&mut first);
+    assert!(rt; third.seen() == 4);
+    shared.learn(&mut third, note);
+    assert!(rt; third.seen() == 5);
+    assert!(rt; newest(rt, alloc, shared, &mut third) == (2, 5));
+    let left = desk.finish(third);
+    assert!(rt; left.keeper.faults() == 1);
+    assert!(rt; left.tables.acts.len() == 5);
+    assert!(rt; left.keeper.tables().acts.len() == 5);
+}
+
+#[test]
+fn the_first_commit_fails(rt: HostRuntime) {
+    let alloc = rt.alloc();
+    let tables = begun::<Brand, HostRuntime>(&rt, alloc, history(&rt, alloc));
+    // The load is the call before.
+    let first_commit = [1].to_vec(alloc).expect(&rt, "memory");
+    failing::<Brand, HostRuntime>(&rt, alloc, history(&rt, alloc), tables, first_commit);
+}

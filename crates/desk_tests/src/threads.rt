@@ -1,0 +1,75 @@
+ghost use Rattle.std.specs.Prelude.{◌≡◌, ◌≤◌, []};
+ghost use Rattle.book_rows.specs.Book.{Book};
+ghost use Rattle.desk_history.specs.declared.views.View.TheVariants.{Blank};
+
+use crate::desks::{act_of, book, call_of, desk, history, next_pass, told};
+use desk_history::NewHistory;
+use keeper_core::MemoryKeeper;
+use sample_office::{APPLY, PLAN};
+use shared_desk::{Naming, Pass, SharedDesk};
+use std::alloc::Global;
+use std::marker::Brand;
+use std::process::Abort;
+use std::sync::Wait;
+use std::thread::{Threads, join};
+
+/// Three who apply, each told to the clerk whose pass it is.
+fn apply_all<B: Naming, R: Abort + Wait>(
+    rt: &R,
+    alloc: Global,
+    desk: &SharedDesk<MemoryKeeper, B>,
+    mut pass: Pass<B>,
+    clerk: u32,
+) -> Pass<B>
+    requires { (1 ≤ clerk) × (clerk ≤ 9) }
+{
+    for request in 0..3 {
+        let before = pass.seen();
+        let call = call_of(rt, alloc, clerk, request + 2, APPLY);
+        let outcome = told(rt, alloc, desk, &mut pass, "2024-01-02", call);
+        assert!(rt; before < outcome.point && outcome.point == pass.seen());
+        assert!(rt; act_of(outcome.reply) == outcome.point);
+    }
+    pass
+}
+
+fn by_two_threads<B: Naming + Send, R: Abort + Wait + Threads + Sync>(
+    rt: &R,
+    alloc: Global,
+    history: NewHistory,
+)
+    requires table { (history.table.shared.table_id ≡ B.table) × (history.book.table_id ≡ B.table) × (B.table.words ≡ 1) }
+    requires blank { history.book.me ≡ (Blank, []) }
+    requires told { (book : Book) → B.told book }
+    requires sound { B.sound → ⊥ }
+{
+    let mut desk = desk::<MemoryKeeper, B, R>(rt, alloc, history, MemoryKeeper::new(alloc));
+    let mut first = next_pass(rt, &mut desk);
+    let second = next_pass(rt, &mut desk);
+    let shared = desk.shared();
+    book(rt, alloc, shared, &mut first, 1, PLAN);
+    let (mut first, mut second) = join(
+        rt,
+        move || apply_all(rt, alloc, shared, first, 1),
+        move || apply_all(rt, alloc, shared, second, 2),
+    );
+    let note = shared.note(&mut second);
+    shared.learn(&mut first, note);
+    assert!(rt; first.seen() == 7);
+    let tables = desk.finish(first).tables;
+    assert!(rt; tables.acts.len() == 7);
+    for number in 1..=2 {
+        let own = tables
+            .acts
+            .iter()
+            .filter(|act| act.session == number)
+            .count();
+        assert!(rt; own == if number == 1 { 4 } else { 3 });
+    }
+}
+
+#[test]
+fn two_threads_share_a_desk(rt: HostRuntime) {
+    let alloc = rt.alloc();
+    by_two_threads::<Brand, HostRuntime>(&rt, alloc, history(&rt, alloc));
+}
