@@ -10,10 +10,10 @@ ghost use Rattle.shared_desk.specs.Desk.{IsFinished};
 ghost use Rattle.book_rows.specs.Book.{book_of};
 
 use crate::deciding::decide;
+use crate::histories_are_reached;
 use crate::naming::Naming;
 use crate::opened::Finished;
 use crate::pass::Pass;
-use crate::{histories_are_reached, histories_go_on};
 use days_core::Day;
 use desk_history::{
     HistorySeat, HistoryTable, SharedHistory, come_in, finish, go_back, look, passes_go_on,

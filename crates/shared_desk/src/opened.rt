@@ -1,11 +1,11 @@
-ghost use Rattle.std.specs.Prelude.{◌≡◌, ◌≤◌, ◌<◌, ◌+◌, None, Err, [], length, IfOk, IfErr, OnOk, IsOk};
-ghost use Rattle.std.specs.VecDeque.{deque_len, deque_capacity};
+ghost use Rattle.std.specs.Prelude.{◌≡◌, ◌≤◌, ◌<◌, ◌+◌, None, Err, [], IfOk, IfErr, OnOk, IsOk};
+ghost use Rattle.std.specs.VecDeque.{deque_capacity};
 ghost use Rattle.book_rows.specs.Book.{Book, book_of as rows_of};
 ghost use Rattle.keeper_core.specs.Keeping.{Gives, LoadCause};
 ghost use Rattle.office_core.specs.Below.office_step.Valid.{first_fault};
 ghost use Rattle.clerk_desk.specs.Opening.{Opens, IsUnopened, BlamesKeeper};
-ghost use Rattle.desk_history.specs.declared.views.View.TheVariants.{Blank, Free};
-ghost use Rattle.desk_history.specs.Seen.{book_of, start_on};
+ghost use Rattle.desk_history.specs.declared.views.View.TheVariants.{Blank};
+ghost use Rattle.desk_history.specs.Seen.{start_on};
 ghost use Rattle.shared_desk.specs.History.{book_in, capacity_of, IsLegalHistory};
 ghost use Rattle.shared_desk.specs.Desk.{IsFinished};
 ghost use Rattle.shared_desk.specs.Passes.{IsFresh};
