@@ -1,0 +1,15 @@
+use Rattle.std.proofs.Common.{◌≡◌}
+use Rattle.link_workers.proofs.SoFar.{SoFar}
+use Rattle.link_workers.proofs.alone.serve_links.Given as goal
+
+abbrev pub invariant-loop-source : goal.invariant-loop-source
+invariant-loop-source g l = record {
+  served : SoFar g.T.Seat.serves l.fn.seat l.seat
+      (g.L.Listener.left l.fn.listener) (g.L.Listener.left l.listener) (g.L.Listener.links l.fn.listener) (g.L.Listener.links l.listener);
+  unfaulted : g.L.Listener.faults l.listener ≡ g.L.Listener.faults l.fn.listener;
+  in_order : g.T.Seat.in_order l.seat;
+  follows : g.T.Seat.follows l.fn.seat l.seat;
+}
+
+abbrev pub decreases-loop-source : goal.decreases-loop-source
+decreases-loop-source g l = g.L.Listener.left l.listener

@@ -1,0 +1,4 @@
+use Rattle.link_workers.proofs.workers.serve_all.Given as goal
+
+abbrev pub ghosts-serve_shared : goal.ghosts-serve_shared
+ghosts-serve_shared g a = record { left = g.L.Listener.left a.listener; faults = g.L.Listener.faults a.listener }

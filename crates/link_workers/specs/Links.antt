@@ -1,0 +1,27 @@
+-- How one seat serves links, one after another, and what a listener then tells of them.
+use Rattle.std.specs.Prelude.{◌≡◌, ℕ, ◌+◌, Option, Some, IfSome, List, [], ◌∷◌, ◌++◌, length, map}
+use Rattle.office_links.specs.Links.{Fits, Links, Standing, unused}
+
+-- a link as it came, and as it was given back
+pub record Served : Type 0 where
+  pub came : Standing
+  pub given_back : Standing
+
+-- these were the first of the links that were left, just as nobody had used them, and have all been given back in their order
+pub record TellsServed (served : List Served) (links links_now : Links) : Type 0 where
+  pub came : map unused links.left ≡ map (λ link. link.came) served ++ map unused links_now.left
+  pub given_back : links_now.given_back ≡ links.given_back ++ map (λ link. link.given_back) served
+  pub room : links_now.room ≡ links.room
+
+module _ {Seat : Type 0} (serves : Seat → Served → Seat → Type 0) where
+  -- each of these links was served in its turn, by the seat as the one before it had left that
+  abbrev pub ServesEach : Seat → List Served → Seat → Type 0
+  ServesEach seat [] seat_now = seat_now ≡ seat
+  ServesEach seat (link ∷ links) seat_now = (mid : Seat) × serves seat link mid × ServesEach mid links seat_now
+
+  -- Some links were served, one after another, and no other was taken. Where the listener tells its links, it tells these.
+  pub record ServesLinks (seat seat_now : Seat) (left left_now : ℕ) (links links_now : Option Links) : Type 0 where
+    pub served : List Served
+    pub each : ServesEach seat served seat_now
+    pub count : left ≡ length served + left_now
+    pub told : IfSome links (λ told. (told_now : Links) × (links_now ≡ Some told_now) × Fits left_now told_now × TellsServed served told told_now)

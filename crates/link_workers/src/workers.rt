@@ -1,0 +1,166 @@
+ghost use Rattle.std.specs.Prelude.{◌≡◌, ◌<◌, ◌≤◌, true, false, List, length};
+ghost use Rattle.std.specs.List.{All};
+ghost use Rattle.office_io.specs.Outside.{Faulted};
+ghost use Rattle.link_workers.specs.Links.{ServesLinks};
+ghost use Rattle.link_workers.specs.Seats.{FollowsEach, ServesAlone};
+
+use crate::Seat;
+use crate::alone::serve_links;
+use crate::entry::{Entry, Start};
+use office_links::Listener;
+use std::alloc::Global;
+use std::marker::Brand;
+use std::sync::{Mutex, Wait};
+use std::thread;
+use std::thread::Threads;
+
+/// The listener after all that was served.
+#[derive(Debug, Drop)]
+pub struct Ended<L> {
+    pub listener: L,
+    /// Whether an accept failed. If none did, no link is left.
+    pub failed: bool,
+}
+
+/// Serves the links of a listener by as many workers as there are seats, the caller among them, which has the last seat.
+///
+/// Each worker serves links until none is left or an accept has failed; then no worker accepts a further link. A worker
+/// that can't be started leaves its links to the others. When all have ended, the caller goes on alone in the same way.
+pub fn serve_all<R: Threads + Wait + Sync, L: Listener + Send, T: Seat + Send>(
+    rt: &R,
+    alloc: Global,
+    listener: L,
+    seats: &mut [T],
+) -> Ended<L>
+where
+    L::In: Send,
+    L::Out: Send,
+    requires some { 0 < length seats.old }
+    requires in_order { All T.in_order seats.old }
+    ensures in_order { All T.in_order seats.new }
+    ensures follows { FollowsEach T.follows seats.old seats.new }
+    ensures fewer { L.left result.listener ≤ L.left listener }
+    ensures all { result.failed ≡ false → (L.left result.listener ≡ 0) × (L.faults result.listener ≡ L.faults listener) }
+    ensures failed { result.failed ≡ true → (0 < L.left result.listener) × Faulted (L.faults listener) (L.faults result.listener) }
+
+    // One worker alone serves, in order, the very links that are given back.
+    ensures alone { ServesAlone T.serves seats.old seats.new (L.left listener) (L.left result.listener)
+        (L.links listener) (L.links result.listener) }
+{
+    if seats.len() == 1 {
+        go_on(alloc, listener, &mut seats[0])
+    } else {
+        serve_shared::<R, L, T, Brand>(rt, alloc, listener, seats)
+    }
+}
+
+/// The same, where the listener's start is named.
+fn serve_shared<R: Threads + Wait + Sync, L: Listener + Send, T: Seat + Send, B: Start + Send>(
+    rt: &R,
+    alloc: Global,
+    listener: L,
+    seats: &mut [T],
+) -> Ended<L>
+where
+    L::In: Send,
+    L::Out: Send,
+    requires some { 0 < length seats.old }
+    requires in_order { All T.in_order seats.old }
+    requires left { L.left listener ≡ B.left }
+    requires faults { L.faults listener ≡ B.faults }
+    ensures in_order { All T.in_order seats.new }
+    ensures follows { FollowsEach T.follows seats.old seats.new }
+    ensures fewer { L.left result.listener ≤ B.left }
+    ensures all { result.failed ≡ false → (L.left result.listener ≡ 0) × (L.faults result.listener ≡ B.faults) }
+    ensures failed { result.failed ≡ true → (0 < L.left result.listener) × Faulted B.faults (L.faults result.listener) }
+{
+    let entry = Mutex::new(Entry::<L, B>::new(listener));
+    serve_each(rt, alloc, &entry, seats);
+    finish(alloc, entry.into_inner(), seats)
+}
+
+/// Goes on alone from the last seat, unless an accept has failed.
+fn finish<L: Listener, T: Seat, B: Start>(
+    alloc: Global,
+    entry: Entry<L, B>,
+    seats: &mut [T],
+) -> Ended<L>
+    requires some { 0 < length seats.old }
+    requires in_order { All T.in_order seats.old }
+    ensures in_order { All T.in_order seats.new }
+    ensures follows { (first : List T) → FollowsEach T.follows first seats.old → FollowsEach T.follows first seats.new }
+    ensures fewer { L.left result.listener ≤ B.left }
+    ensures all { result.failed ≡ false → (L.left result.listener ≡ 0) × (L.faults result.listener ≡ B.faults) }
+    ensures failed { result.failed ≡ true → (0 < L.left result.listener) × Faulted B.faults (L.faults result.listener) }
+{
+    let last = seats.len() - 1;
+    match entry.into_parts() {
+        (listener, true) => Ended {
+            listener,
+            failed: true,
+        },
+        (listener, false) => go_on(alloc, listener, &mut seats[last]),
+    }
+}
+
+/// Serves what the lock's listener has left, by a worker for each seat.
+fn serve_each<R: Threads + Wait + Sync, L: Listener + Send, T: Seat + Send, B: Start + Send>(
+    rt: &R,
+    alloc: Global,
+    entry: &Mutex<Entry<L, B>>,
+    seats: &mut [T],
+)
+where
+    L::In: Send,
+    L::Out: Send,
+    requires some { 0 < length seats.old }
+    requires in_order { All T.in_order seats.old }
+    ensures in_order { All T.in_order seats.new }
+    ensures follows { FollowsEach T.follows seats.old seats.new }
+{
+    let workers = seats.len();
+    thread::for_each_mut(
+        rt,
+        seats,
+        workers,
+        &|_: usize, seat: &mut T|
+            requires { T.in_order seat.old }
+            ensures { T.in_order seat.new × T.follows seat.old seat.new }
+        { serve_in_turn(rt, alloc, entry, seat) },
+    );
+}
+
+/// Serves links from one seat, until none is left or an accept has failed. The lock is free while a link is served.
+fn serve_in_turn<R: Wait, L: Listener, T: Seat, B: Start>(
+    rt: &R,
+    alloc: Global,
+    entry: &Mutex<Entry<L, B>>,
+    seat: &mut T,
+)
+    requires in_order { T.in_order seat.old }
+    ensures in_order { T.in_order seat.new }
+    ensures follows { T.follows seat.old seat.new }
+{
+    for _ in rt.forever() {
+        let Some((mut source, mut sink)) = entry.lock(rt).next() else {
+            return;
+        };
+        seat.serve(alloc, &mut source, &mut sink);
+        entry.lock(rt).done(source, sink);
+    }
+    unreachable!()
+}
+
+/// Goes on alone from one seat.
+fn go_on<L: Listener, T: Seat>(alloc: Global, mut listener: L, seat: &mut T) -> Ended<L>
+    requires in_order { T.in_order seat.old }
+    ensures in_order { T.in_order seat.new }
+    ensures follows { T.follows seat.old seat.new }
+    ensures served { ServesLinks T.serves seat.old seat.new (L.left listener) (L.left result.listener)
+        (L.links listener) (L.links result.listener) }
+    ensures all { result.failed ≡ false → (L.left result.listener ≡ 0) × (L.faults result.listener ≡ L.faults listener) }
+    ensures failed { result.failed ≡ true → (0 < L.left result.listener) × Faulted (L.faults listener) (L.faults result.listener) }
+{
+    let failed = !serve_links(alloc, &mut listener, seat);
+    Ended { listener, failed }
+}
