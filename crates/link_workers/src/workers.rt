@@ -79,7 +79,7 @@ where
     finish(alloc, entry.into_inner(), seats)
 }
 
-/// Goes on alone from the last seat, unless an accept has failed.
+/// Goes on alone from the last seat, unless an accept has failed. What a seat followed before, it follows still.
 fn finish<L: Listener, T: Seat, B: Start>(
     alloc: Global,
     entry: Entry<L, B>,
