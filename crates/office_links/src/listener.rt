@@ -40,6 +40,12 @@ pub trait Listener {
             Accepts (standing_by Self.In.left Self.In.faults Self.Out.held Self.Out.faults) told (links self.new) result) }
         ensures cause { AcceptCause (faults self.old) (faults self.new) result };
 
+    /// Ends a served link for its peer, who then comes to the end of what was written. It needs no listener, so it waits
+    /// for nobody who waits for the next link.
+    fn hang_up(sink: &mut Self::Out)
+        ensures held { Self.Out.held sink.new ≡ Self.Out.held sink.old }
+        ensures faults { Self.Out.faults sink.new ≡ Self.Out.faults sink.old };
+
     /// Gives a served link back. A listener that doesn't tell its links, or has no room, drops it.
     fn done(&mut self, source: Self::In, sink: Self::Out)
         ensures count { left self.new ≡ left self.old }

@@ -133,6 +133,8 @@ impl<S: Source + Drop, W: Sink + Drop> Listener for MemoryListener<S, W> {
         }
     }
 
+    fn hang_up(_sink: &mut W) {}
+
     fn done(&mut self, source: S, sink: W)
         ensures count { length self.new.left ≡ length self.old.left }
         ensures links { told_by (standing_by S.left S.faults W.held W.faults) self.new

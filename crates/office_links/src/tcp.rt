@@ -1,6 +1,6 @@
 use crate::sending::Sending;
 use crate::{Accepted, Listener};
-use office_io::{StreamSink, StreamSource};
+use office_io::StreamSource;
 use std::io;
 use std::marker::Model;
 use std::net::{Ipv4Addr, Net, TcpListener, TcpStream};
@@ -60,7 +60,7 @@ impl Listener for TcpLinks {
 
     type In = StreamSource<TcpStream>;
 
-    type Out = StreamSink<Sending>;
+    type Out = Sending;
 
     ghost left = { λ links. links.left };
 
@@ -68,14 +68,14 @@ impl Listener for TcpLinks {
 
     ghost faults = { λ links. links.faults };
 
-    fn accept(&mut self) -> Accepted<StreamSource<TcpStream>, StreamSink<Sending>> {
+    fn accept(&mut self) -> Accepted<StreamSource<TcpStream>, Sending> {
         if self.left == 0 {
             return Accepted::End;
         }
         match next_connection(&self.listener) {
             Ok((incoming, outgoing)) => {
                 self.left -= 1;
-                Accepted::Link(StreamSource::new(incoming), StreamSink::new(outgoing))
+                Accepted::Link(StreamSource::new(incoming), outgoing)
             }
             Err(_) => {
                 self.faults = self.faults.saturating_add(1);
@@ -84,7 +84,11 @@ impl Listener for TcpLinks {
         }
     }
 
-    fn done(&mut self, source: StreamSource<TcpStream>, sink: StreamSink<Sending>) {
+    fn hang_up(sink: &mut Sending) {
+        sink.end();
+    }
+
+    fn done(&mut self, source: StreamSource<TcpStream>, sink: Sending) {
         // The peer reads to the end of what was sent before the connection itself goes.
         drop(sink);
         drop(source);
