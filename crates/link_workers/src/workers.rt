@@ -146,6 +146,8 @@ fn serve_in_turn<R: Wait, L: Listener, T: Seat, B: Start>(
             return;
         };
         seat.serve(alloc, &mut source, &mut sink);
+        // The lock may be held by who waits for the next link, and the peer isn't to wait for that.
+        L::hang_up(&mut sink);
         entry.lock(rt).done(source, sink);
     }
     unreachable!()
