@@ -3,3 +3,4 @@ pub mod Settled
 pub mod Ends
 pub mod Fresh
 pub mod Beginning
+pub mod Further

@@ -41,3 +41,7 @@ IsCalled clock call old new reply = IsBooked clock call old new reply ⊎ IsUnbo
 -- the pass knows no less, and of its own it has some further entries
 abbrev pub KnowsMore : PassView → PassView → Type 0
 KnowsMore old new = (booked : List ActRow) × GoesOn old new booked
+
+-- the pass is as it was, or it knows more
+abbrev pub Further : PassView → PassView → Type 0
+Further old new = (new ≡ old) ⊎ KnowsMore old new
