@@ -1,3 +1,4 @@
 pub mod Later
 pub mod Replying
 pub mod Seen
+pub mod ForPass

@@ -8,6 +8,7 @@ ghost use Rattle.http_session.specs.Replies.{refuses};
 ghost use Rattle.http_front.specs.Told.{session, status_of, told_of_call, told_of_act};
 ghost use Rattle.http_front.specs.Desk.{Continues};
 ghost use Rattle.http_front.specs.Answers.{Says, SaysCause};
+ghost use Rattle.http_front.specs.Passes.{IsToldAs};
 
 use crate::asking::said_of_bad_form;
 use crate::said::{Said, Silence};
@@ -71,7 +72,15 @@ fn said_of_call<K: Keeper>(
     ensures kept_row { Keeps (K.bad keeper.old) (K.bad keeper.new) }
     ensures cause { SaysCause (K.faults keeper.old) (K.faults keeper.new) result }
 {
-    match replied(alloc, office, keeper, today, call) {
+    said_of_reply(alloc, replied(alloc, office, keeper, today, call))
+}
+
+/// What is said of a reply: nothing where the keeper failed, or memory ran out.
+pub(crate) fn said_of_reply(alloc: Global, reply: Reply) -> Result<Said, Silence>
+    ensures told { IsToldAs reply result }
+    ensures taken { IfOk result (λ said. refuses said.status ≡ false) }
+{
+    match reply {
         Reply::StoreFault => Err(Silence::Store),
         Reply::NoMemory => Err(Silence::NoMemory),
         reply => Ok(Said {

@@ -7,6 +7,7 @@ ghost use Rattle.http_session.specs.Replies.{refuses};
 ghost use Rattle.http_front.specs.Told.{Told, refused, told_of};
 ghost use Rattle.http_front.specs.Desk.{Continues};
 ghost use Rattle.http_front.specs.Answers.{Answers, IsReply, Says, SaysCause, Standing, point as point_of};
+ghost use Rattle.http_front.specs.Passes.{reply_of};
 
 use crate::acting::said_of_body;
 use crate::asking::{answered, lead, question_of, said_of_bad_form};
@@ -85,7 +86,7 @@ fn said_of<K: Keeper>(
 }
 
 /// A refusal that is told by its kind alone.
-fn refused(refusal: Refusal) -> Said
+pub(crate) fn refused(refusal: Refusal) -> Said
     requires { refuses (refusal_status refusal) ≡ false }
     ensures said { result ≡ refused refusal }
     ensures taken { refuses result.status ≡ false }
@@ -97,8 +98,9 @@ fn refused(refusal: Refusal) -> Said
 }
 
 /// What is said at a point, or why nothing is.
-fn replied(said: Result<Said, Silence>, point: u32) -> Reply
+pub(crate) fn replied(said: Result<Said, Silence>, point: u32) -> Reply
     requires taken { IfOk said (λ it. refuses it.status ≡ false) }
+    ensures exact { result ≡ reply_of said point }
     ensures reply { (told : Told) (old new : Standing) → point ≡ point_of new → Says told old.book new.book said →
         SaysCause old.faults new.faults said → IsReply told old new result }
     ensures taken { refuses result.status ≡ false }

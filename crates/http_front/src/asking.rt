@@ -1,11 +1,13 @@
-ghost use Rattle.std.specs.Prelude.{◌≡◌, true, false, IfOk};
-ghost use Rattle.clerk_desk.specs.Below.office_answers.Answering.{answer_to};
+ghost use Rattle.std.specs.Prelude.{◌≡◌, true, false, IfOk, Result};
+ghost use Rattle.clerk_desk.specs.Below.office_answers.{Answered.Answers, Answering.answer_to};
+ghost use Rattle.clerk_desk.specs.Below.office_answers.declared.answer.Answer.{Answer};
+ghost use Rattle.clerk_desk.specs.Below.office_step.declared.refusal.Refusal.{Refusal};
 ghost use Rattle.http_session.specs.Replies.{refuses};
 ghost use Rattle.http_front.specs.Told.{IsLed, question_of, said_of_answer, bad_form};
 ghost use Rattle.http_front.specs.Answers.{IsSaid};
 
 use crate::said::{Said, Silence};
-use clerk_desk::office_answers::{Asked as Unasked, Question, Reply};
+use clerk_desk::office_answers::{Answer, Asked as Unasked, Question, Reply};
 use clerk_desk::office_core::Office;
 use http_messages::Message;
 use http_responses::{Body, Status};
@@ -51,7 +53,15 @@ pub(crate) fn answered(alloc: Global, office: &Office, question: &Question) -> R
     ensures said { IsSaid (said_of_answer (answer_to office.now.book question.now)) result }
     ensures taken { IfOk result (λ said. refuses said.status ≡ false) }
 {
-    match office.ask(alloc, question) {
+    said_of_answer(alloc, office.ask(alloc, question))
+}
+
+/// What is said of an answer, or of why there is none.
+pub(crate) fn said_of_answer(alloc: Global, asked: Result<Answer, Unasked>) -> Result<Said, Silence>
+    ensures said { (right : Result Answer Refusal) → Answers right asked → IsSaid (said_of_answer right) result }
+    ensures taken { IfOk result (λ said. refuses said.status ≡ false) }
+{
+    match asked {
         Ok(answer) => Ok(Said {
             status: Status::Okay,
             body: Body::Text(text_of_answer(alloc, &answer)?),

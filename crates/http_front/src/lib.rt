@@ -2,12 +2,17 @@
 #![tactic(auto)]
 
 mod acting;
+mod alone;
 mod answering;
 mod asking;
 mod desk;
+mod pass_desk;
+mod passing;
 mod said;
-mod session;
+mod sharing;
 
+pub use alone::session_alone;
 pub use clerk_desk;
 pub use http_session::SessionEnd;
-pub use session::session_alone;
+pub use shared_desk;
+pub use sharing::session;

@@ -1,7 +1,7 @@
 use Rattle.clerk_desk.specs.Below.office_laws.History.{later_same}
 use Rattle.http_session.proofs.Endings.{ends_at_once}
 use Rattle.http_front.specs.Answers.{Answers, Never, point}
-use Rattle.http_front.proofs.session.session_alone.Goals as goal
+use Rattle.http_front.proofs.alone.session_alone.Goals as goal
 
 pub returns-in-Err-clause-ends : goal.returns-in-Err-clause-ends
 returns-in-Err-clause-ends g c =
