@@ -1,2 +1,3 @@
-mod SoFar
 mod Statuses
+mod SeatLemmas
+mod Leaving

@@ -7,8 +7,9 @@ use Rattle.office_links.specs.Links.{Links, Fits, unused}
 use Rattle.http_front.specs.Below.clerk_desk.{declared.opening.DeskFault.DeskFault, Opening.IsUnopened}
 use Rattle.book_rows.specs.Book.{Book}
 use Rattle.keeper_core.specs.Keeping.{BadRow}
-use Rattle.program_answers.specs.{Answer.Answer, Answer.Ends, Opening.Door, Opening.Fails, Opening.Serves, Opening.Tells, Opening.bad_book, Opening.largest}
-use Rattle.office_server.specs.{Links.Served, Links.TellsServed, Server.BreaksOff, Server.GivesAllBack, Server.IsWritten, Server.LinksServed, Server.NamesFault, Server.ServesAll, Server.Writes, Server.book_line}
+use Rattle.program_answers.specs.{Answer.Answer, Answer.Ends, Opening.Door, Opening.Tells, Opening.bad_book, Opening.largest}
+use Rattle.link_workers.specs.Links.{Served, TellsServed}
+use Rattle.office_server.specs.{Links.ServesInTurn, Server.Comes, Server.DeskServed, Server.EndsBy, Server.GivesAllBack, Server.IsUnserved, Server.IsWritten, Server.NamesFault, Server.ServesAll, Server.Writes, Server.book_line}
 
 -- ---- one answer
 
@@ -75,77 +76,87 @@ given_all served (Some links) links_now left_now none (told_now, is, fits, tells
 -- ---- a server
 
 module _
-    {L : Type 0} (listener listener_now : L) (shows : ℕ → Type 0) (left left_now : ℕ) (links links_now : Option Links)
+    {L : Type 0} (shows : ℕ → Type 0) (workers : ℕ) (listener listener_now : L) (left : L → ℕ) (links : L → Option Links)
     (holds holds_now : Book → Type 0) (bad_now : BadRow → Type 0) (old new : Door) (status : ℕ) where
-  abbrev Comes : Type 0
-  Comes = Serves (LinksServed shows left left_now links links_now) holds holds_now bad_now old new status
-      ⊎ ((listener_now ≡ listener) × Fails holds holds_now bad_now old new status)
+  abbrev Came : Type 0
+  Came = Comes shows workers listener listener_now left links holds holds_now bad_now old new status
 
-  -- links were served on this book until none was left, and the line was written
-  record Whole (start after : Book) : Type 0 where
-    pub works : LinksServed shows left left_now links links_now start after old new status
-    pub kept : (book : Book) → holds_now book → book ≡ after
-    pub none_left : left_now ≡ 0
+  abbrev Desk : Type 0
+  Desk = DeskServed shows workers (left listener) (left listener_now) (links listener) (links listener_now) holds holds_now old new status
+
+  -- links were served until none was left, and the line was written
+  record Whole (d : Desk) : Type 0 where
+    pub none_left : left listener_now ≡ 0
     pub source : new.counts.source ≡ old.counts.source
-    pub written : Appends old.held new.held (book_line after).text
+    pub written : Appends old.held new.held (book_line d.tables).text
     pub sink : new.counts.sink ≡ old.counts.sink
 
-  whole_of : (start after : Book) → ((book : Book) → holds_now book → book ≡ after) → LinksServed shows left left_now links links_now start after old new status
-      → ServesAll left_now after old new status → status ≡ 0 → Whole start after
-  whole_of start after kept works all zero = whole_by all.written where
-    whole_by : Writes (book_line after) old.held new.held old.counts.sink new.counts.sink status → Whole start after
-    whole_by (inl (inl ends)) =
-        record { works = works; kept = kept; none_left = all.none_left; source = all.source; written = ends.1; sink = ends.2 }
-    whole_by (inl (inr ends)) = let is = ends.0 in absurd (omega (arith, is, zero))
-    whole_by (inr ends) = let is = ends.0 in absurd (omega (arith, is, zero))
+  whole_of : (d : Desk) → status ≡ 0 → Whole d
+  whole_of d zero = by_end d.ended where
+    by_text : ServesAll (left listener_now) d.tables old new status
+        → Writes (book_line d.tables) old.held new.held old.counts.sink new.counts.sink status → Whole d
+    by_text all (inl (inl ends)) = record { none_left = all.none_left; source = all.source; written = ends.1; sink = ends.2 }
+    by_text all (inl (inr ends)) = let is = ends.0 in absurd (omega (arith, is, zero))
+    by_text all (inr ends) = let is = ends.0 in absurd (omega (arith, is, zero))
 
-  whole : Comes → status ≡ 0 → (start : Book) × (after : Book) × Whole start after
-  whole (inl s) zero = (s.start, s.after, by_end s.works.ended) where
-    by_end : ServesAll left_now s.after old new status ⊎ BreaksOff left_now old new status → Whole s.start s.after
-    by_end (inl all) = whole_of s.start s.after (λ book told. (s.kept book told).0) s.works all zero
-    by_end (inr broken) = let is = broken.status_is in absurd (omega (arith, is, zero))
+    by_end : EndsBy (left listener_now) d.tables old new status → Whole d
+    by_end (inl all) = by_text all all.written
+    by_end (inr (inl broken)) = let is = broken.status_is in absurd (omega (arith, is, zero))
+    by_end (inr (inr unserved)) = let is = unserved.status_is in absurd (omega (arith, is, zero))
+
+  whole : Came → status ≡ 0 → (d : Desk) × Whole d
+  whole (inl d) zero = (d, whole_of d zero)
   whole (inr (same, fails)) zero = absurd (tells_none old new fails.why status fails.told (omega (arith, zero)))
 
-  pub none_left : Comes → status ≡ 0 → left_now ≡ 0
-  none_left comes zero = let w = whole comes zero in w.2.none_left
+  pub none_left : Came → status ≡ 0 → left listener_now ≡ 0
+  none_left came zero = let w = whole came zero in w.1.none_left
 
-  pub given_back : Comes → status ≡ 0 → IfSome links (λ told. GivesAllBack told links_now)
-  given_back comes zero =
-      let w = whole comes zero in given_all w.2.works.served.served links links_now left_now w.2.none_left w.2.works.served.told
+  pub given_back : Came → workers ≡ 1 → status ≡ 0 → IfSome (links listener) (λ told. GivesAllBack told (links listener_now))
+  given_back came one zero = let w = whole came zero in by_turn w.1.none_left (w.0.in_turn one)
+    where
+      by_turn : {tables : Book} → left listener_now ≡ 0
+          → IsUnserved old new status ⊎ ServesInTurn shows (left listener) (left listener_now) (links listener) (links listener_now) tables
+          → IfSome (links listener) (λ told. GivesAllBack told (links listener_now))
+      by_turn none (inl unserved) = let is = unserved.status_is in absurd (omega (arith, is, zero))
+      by_turn none (inr turn) = given_all turn.served.served (links listener) (links listener_now) (left listener_now) none turn.served.told
 
-  pub written : Comes → status ≡ 0 → IsWritten holds_now old.held new.held
-  written comes zero = let w = whole comes zero in (w.1, w.2.written, w.2.kept)
+  pub written : Came → status ≡ 0 → IsWritten holds_now old.held new.held
+  written came zero = let w = whole came zero in (w.0.tables, w.1.written, w.0.leaves.kept)
 
-  pub quiet : Comes → status ≡ 0 → (new.counts.source ≡ old.counts.source) × (new.counts.sink ≡ old.counts.sink)
-  quiet comes zero = let w = whole comes zero in (w.2.source, w.2.sink)
+  pub quiet : Came → status ≡ 0 → (new.counts.source ≡ old.counts.source) × (new.counts.sink ≡ old.counts.sink)
+  quiet came zero = let w = whole came zero in (w.1.source, w.1.sink)
 
   -- no other end but a failed accept has that status
-  pub accept_fault : Comes → status ≡ 3 → (0 < left_now) × Faulted old.counts.source new.counts.source
-  accept_fault (inl s) three = by_end s.works.ended where
-    by_end : ServesAll left_now s.after old new status ⊎ BreaksOff left_now old new status → (0 < left_now) × Faulted old.counts.source new.counts.source
-    by_end (inl all) = by_text all.written where
-      by_text : Writes (book_line s.after) old.held new.held old.counts.sink new.counts.sink status → (0 < left_now) × Faulted old.counts.source new.counts.source
-      by_text (inl (inl ends)) = let is = ends.0 in absurd (omega (arith, is, three))
-      by_text (inl (inr ends)) = let is = ends.0 in absurd (omega (arith, is, three))
-      by_text (inr ends) = let is = ends.0 in absurd (omega (arith, is, three))
-    by_end (inr broken) = (broken.some_left, broken.source)
+  pub accept_fault : Came → status ≡ 3 → (0 < left listener_now) × Faulted old.counts.source new.counts.source
+  accept_fault (inl d) three = by_end d.ended where
+    by_text : Writes (book_line d.tables) old.held new.held old.counts.sink new.counts.sink status
+        → (0 < left listener_now) × Faulted old.counts.source new.counts.source
+    by_text (inl (inl ends)) = let is = ends.0 in absurd (omega (arith, is, three))
+    by_text (inl (inr ends)) = let is = ends.0 in absurd (omega (arith, is, three))
+    by_text (inr ends) = let is = ends.0 in absurd (omega (arith, is, three))
+
+    by_end : EndsBy (left listener_now) d.tables old new status → (0 < left listener_now) × Faulted old.counts.source new.counts.source
+    by_end (inl all) = by_text all.written
+    by_end (inr (inl broken)) = (broken.some_left, broken.source)
+    by_end (inr (inr unserved)) = let is = unserved.status_is in absurd (omega (arith, is, three))
   accept_fault (inr (same, fails)) three = absurd (tells_none old new fails.why status fails.told (omega (arith, three)))
 
-  pub write_fault : Comes → status ≡ 4 → Faulted old.counts.sink new.counts.sink
-  write_fault (inl s) four = by_end s.works.ended where
-    by_end : ServesAll left_now s.after old new status ⊎ BreaksOff left_now old new status → Faulted old.counts.sink new.counts.sink
-    by_end (inl all) = by_text all.written where
-      by_text : Writes (book_line s.after) old.held new.held old.counts.sink new.counts.sink status → Faulted old.counts.sink new.counts.sink
-      by_text (inl ends) = ends_four (book_line s.after) _ _ _ _ status (λ is. omega (arith, is)) four ends
-      by_text (inr ends) = let is = ends.0 in absurd (omega (arith, is, four))
-    by_end (inr broken) = let is = broken.status_is in absurd (omega (arith, is, four))
+  pub write_fault : Came → status ≡ 4 → Faulted old.counts.sink new.counts.sink
+  write_fault (inl d) four = by_end d.ended where
+    by_text : Writes (book_line d.tables) old.held new.held old.counts.sink new.counts.sink status → Faulted old.counts.sink new.counts.sink
+    by_text (inl ends) = ends_four (book_line d.tables) _ _ _ _ status (λ is. omega (arith, is)) four ends
+    by_text (inr ends) = let is = ends.0 in absurd (omega (arith, is, four))
+
+    by_end : EndsBy (left listener_now) d.tables old new status → Faulted old.counts.sink new.counts.sink
+    by_end (inl all) = by_text all.written
+    by_end (inr (inl broken)) = let is = broken.status_is in absurd (omega (arith, is, four))
+    by_end (inr (inr unserved)) = let is = unserved.status_is in absurd (omega (arith, is, four))
   write_fault (inr (same, fails)) four = tells_four old new fails.why status fails.told four
 
-  -- a book that was opened has only these ends
-  served_status : (start after : Book) → LinksServed shows left left_now links links_now start after old new status
-      → (status ≡ 5) ⊎ (status ≡ 6) → ⊥
-  served_status start after works is = by_end works.ended where
-    by_text : Writes (book_line after) old.held new.held old.counts.sink new.counts.sink status → (status ≡ 5) ⊎ (status ≡ 6) → ⊥
+  -- a desk that was opened has only these ends
+  served_status : Desk → (status ≡ 5) ⊎ (status ≡ 6) → ⊥
+  served_status d is = by_end d.ended is where
+    by_text : Writes (book_line d.tables) old.held new.held old.counts.sink new.counts.sink status → (status ≡ 5) ⊎ (status ≡ 6) → ⊥
     by_text (inl (inl ends)) (inl five) = let own = ends.0 in omega (arith, own, five)
     by_text (inl (inl ends)) (inr six) = let own = ends.0 in omega (arith, own, six)
     by_text (inl (inr ends)) (inl five) = let own = ends.0 in omega (arith, own, five)
@@ -153,17 +164,17 @@ module _
     by_text (inr ends) (inl five) = let own = ends.0 in omega (arith, own, five)
     by_text (inr ends) (inr six) = let own = ends.0 in omega (arith, own, six)
 
-    by_end : ServesAll left_now after old new status ⊎ BreaksOff left_now old new status → ⊥
-    by_end (inl all) = by_text all.written is
-    by_end (inr broken) = by_three broken.status_is is where
-      by_three : status ≡ 3 → (status ≡ 5) ⊎ (status ≡ 6) → ⊥
-      by_three three (inl five) = omega (arith, three, five)
-      by_three three (inr six) = omega (arith, three, six)
+    by_end : EndsBy (left listener_now) d.tables old new status → (status ≡ 5) ⊎ (status ≡ 6) → ⊥
+    by_end (inl all) five_or_six = by_text all.written five_or_six
+    by_end (inr (inl broken)) (inl five) = let own = broken.status_is in omega (arith, own, five)
+    by_end (inr (inl broken)) (inr six) = let own = broken.status_is in omega (arith, own, six)
+    by_end (inr (inr unserved)) (inl five) = let own = unserved.status_is in omega (arith, own, five)
+    by_end (inr (inr unserved)) (inr six) = let own = unserved.status_is in omega (arith, own, six)
 
-  pub store_fault : Comes → status ≡ 5 → (listener_now ≡ listener) × Faulted old.counts.keeper new.counts.keeper
-  store_fault (inl s) five = absurd (served_status s.start s.after s.works (inl five))
+  pub store_fault : Came → status ≡ 5 → (listener_now ≡ listener) × Faulted old.counts.keeper new.counts.keeper
+  store_fault (inl d) five = absurd (served_status d (inl five))
   store_fault (inr (same, fails)) five = (same, tells_five old new fails.why status fails.told five)
 
-  pub bad_book_told : Comes → status ≡ 6 → (listener_now ≡ listener) × NamesFault holds_now bad_now old.held new.held
-  bad_book_told (inl s) six = absurd (served_status s.start s.after s.works (inr six))
+  pub bad_book_told : Came → status ≡ 6 → (listener_now ≡ listener) × NamesFault holds_now bad_now old.held new.held
+  bad_book_told (inl d) six = absurd (served_status d (inr six))
   bad_book_told (inr (same, fails)) six = (same, tells_six holds_now bad_now old new fails.why status fails.is_why fails.told six)

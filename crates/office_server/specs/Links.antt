@@ -1,37 +1,42 @@
--- How links are served, one after another, and what a listener then tells of them.
-use Rattle.std.specs.Prelude.{◌≡◌, ℕ, ◌+◌, Option, Some, IfSome, List, [], ◌∷◌, ◌++◌, length, map}
-use Rattle.office_links.specs.Links.{Fits, Links, Standing as Link, unused}
+-- How a worker's seat at a desk serves links.
+use Rattle.std.specs.Prelude.{◌≡◌, ℕ, Option, IfSome, List}
+use mathlib.Core.List.{IsPrefix}
+use Rattle.office_links.specs.Links.{Links}
+use Rattle.book_rows.specs.{declared.rows.ActRow.ActRow, Book.Book}
+use Rattle.desk_history.specs.{declared.views.PassView.PassView, declared.views.Start.Start, Seen.point_of}
+use Rattle.shared_desk.specs.{History.IsLegalHistory, History.book_in, History.capacity_of, History.tables_at, Passes.IsFresh}
+use Rattle.program_answers.specs.Opening.{largest}
 use Rattle.http_front.specs.Below.http_session.{Completeness.Completes, Sessions.EndCause, Sessions.Ends, declared.end.SessionEnd.SessionEnd}
-use Rattle.http_front.specs.Answers.{Answers, Never, Standing, point}
-use Rattle.http_front.specs.Below.clerk_desk.Below.office_step.declared.call.Capacity.{Capacity}
+use Rattle.http_front.specs.Passes.{AnswersPass, NeverSilent}
+use Rattle.link_workers.specs.Links.{Served, ServesLinks}
 
--- a link as it came, and as it was given back
-pub record Served : Type 0 where
-  pub came : Link
-  pub given_back : Link
-
--- A session made this of a link, and left the office and the keeper's faults so.
-pub record IsServed (capacity : Capacity) (shows : ℕ → Type 0) (old new : Standing) (link : Served) : Type 0 where
+-- A session made this of a link, and left the pass so.
+pub record IsServed (shows : ℕ → Type 0) (old new : PassView) (link : Served) : Type 0 where
   pub end : SessionEnd
-  pub ends : Ends (Answers capacity shows) Never point old new link.came.left link.given_back.left link.came.held link.given_back.held end
-  pub complete : IfSome link.came.left (λ input. Completes (Answers capacity shows) point old new link.came.held link.given_back.held input end)
+  pub ends : Ends (AnswersPass shows) NeverSilent point_of old new link.came.left link.given_back.left link.came.held link.given_back.held end
+  pub complete : IfSome link.came.left (λ input. Completes (AnswersPass shows) point_of old new link.came.held link.given_back.held input end)
   pub cause : EndCause link.came.failed_reads link.given_back.failed_reads link.came.failed_writes link.given_back.failed_writes end
 
--- each of these links was served in its turn, by the office as the one before it had left that
-abbrev pub ServesEach : Capacity → (ℕ → Type 0) → Standing → List Served → Standing → Type 0
-ServesEach capacity shows old [] new = new ≡ old
-ServesEach capacity shows old (link ∷ links) new =
-    (mid : Standing) × IsServed capacity shows old mid link × ServesEach capacity shows mid links new
+-- One worker served the links, one after another, by one pass. The tables that are left are those after a legal history that
+-- goes on from what the pass then knows.
+pub record ServesInTurn (shows : ℕ → Type 0) (left left_now : ℕ) (links links_now : Option Links) (tables : Book) : Type 0 where
+  pub start : Start
+  pub pass : PassView
+  pub fresh : IsFresh start 1 pass
+  pub pass_now : PassView
+  pub served : ServesLinks (λ pass link pass_now. IsServed shows pass pass_now link) pass pass_now left left_now links links_now
+  pub history : List ActRow
+  pub legal : IsLegalHistory start history
+  pub front : IsPrefix pass_now.list history
+  pub whole : tables ≡ tables_at start history
 
--- these were the first of the links that were left, just as nobody had used them, and have all been given back in their order
-pub record TellsServed (served : List Served) (links links_now : Links) : Type 0 where
-  pub came : map unused links.left ≡ map (λ link. link.came) served ++ map unused links_now.left
-  pub given_back : links_now.given_back ≡ links.given_back ++ map (λ link. link.given_back) served
-  pub room : links_now.room ≡ links.room
-
--- Some links were served, one after another, and no other was taken. Where the listener tells its links, it tells these.
-pub record ServesLinks (capacity : Capacity) (shows : ℕ → Type 0) (old new : Standing) (left left_now : ℕ) (links links_now : Option Links) : Type 0 where
-  pub served : List Served
-  pub each : ServesEach capacity shows old served new
-  pub count : left ≡ length served + left_now
-  pub told : IfSome links (λ told. (told_now : Links) × (links_now ≡ Some told_now) × Fits left_now told_now × TellsServed served told told_now)
+-- What a desk leaves that was opened on a book of the program's capacity: the tables after a legal history from there. The
+-- keeper tells these and no others, and told that book.
+pub record LeavesDesk (told holds : Book → Type 0) (tables : Book) : Type 0 where
+  pub start : Start
+  pub capacity : capacity_of start ≡ largest
+  pub history : List ActRow
+  pub legal : IsLegalHistory start history
+  pub whole : tables ≡ tables_at start history
+  pub kept : (now : Book) → holds now → now ≡ tables
+  pub first : (now : Book) → holds now → told (book_in start.opening)

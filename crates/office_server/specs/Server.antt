@@ -5,9 +5,9 @@ use Rattle.office_io.specs.Outside.{Faulted}
 use Rattle.office_links.specs.Links.{Links}
 use Rattle.book_rows.specs.Book.{Book}
 use Rattle.keeper_core.specs.Keeping.{BadRow}
-use Rattle.http_front.specs.Below.clerk_desk.{Opening.IsFirstFault, Below.office_laws.History.IsLater, Below.office_step.declared.fault.Fault.Fault}
-use Rattle.program_answers.specs.{Answer.Answer, Answer.Ends, Opening.Door, Opening.bad_book, Opening.largest}
-use Rattle.office_server.specs.Links.{ServesLinks}
+use Rattle.http_front.specs.Below.clerk_desk.{Opening.IsFirstFault, Below.office_step.declared.fault.Fault.Fault}
+use Rattle.program_answers.specs.{Answer.Answer, Answer.Ends, Opening.Door, Opening.Fails, Opening.bad_book, Opening.largest}
+use Rattle.office_server.specs.Links.{LeavesDesk, ServesInTurn}
 
 -- how many acts a book has
 abbrev pub book_line : Book → Answer
@@ -19,11 +19,13 @@ Writes answer held held_now faults faults_now status =
     Ends answer held held_now faults faults_now status
     ⊎ ((status ≡ 7) × KeepsBytes held held_now × (faults_now ≡ faults))
 
+-- ---- how the serving ended; the listener stands in the place of the source
+
 -- no link was left, and no accept had failed
-pub record ServesAll (left_now : ℕ) (after : Book) (old new : Door) (status : ℕ) : Type 0 where
+pub record ServesAll (left_now : ℕ) (tables : Book) (old new : Door) (status : ℕ) : Type 0 where
   pub none_left : left_now ≡ 0
   pub source : new.counts.source ≡ old.counts.source
-  pub written : Writes (book_line after) old.held new.held old.counts.sink new.counts.sink status
+  pub written : Writes (book_line tables) old.held new.held old.counts.sink new.counts.sink status
 
 -- an accept failed while links were left, and nothing was written
 pub record BreaksOff (left_now : ℕ) (old new : Door) (status : ℕ) : Type 0 where
@@ -33,12 +35,30 @@ pub record BreaksOff (left_now : ℕ) (old new : Door) (status : ℕ) : Type 0 w
   pub sink : new.counts.sink ≡ old.counts.sink
   pub status_is : status ≡ 3
 
--- Links were served on the book, until none was left or an accept failed. The listener stands in the place of the source.
-pub record LinksServed (shows : ℕ → Type 0) (left left_now : ℕ) (links links_now : Option Links) (start after : Book) (old new : Door) (status : ℕ) : Type 0 where
-  pub later : IsLater largest start after
-  pub served : ServesLinks largest shows (record { book = start; faults = old.counts.keeper }) (record { book = after; faults = new.counts.keeper })
-      left left_now links links_now
-  pub ended : ServesAll left_now after old new status ⊎ BreaksOff left_now old new status
+-- memory ran out before a link was taken
+pub record IsUnserved (old new : Door) (status : ℕ) : Type 0 where
+  pub source : new.counts.source ≡ old.counts.source
+  pub held : KeepsBytes old.held new.held
+  pub sink : new.counts.sink ≡ old.counts.sink
+  pub status_is : status ≡ 7
+
+abbrev pub EndsBy : ℕ → Book → Door → Door → ℕ → Type 0
+EndsBy left_now tables old new status =
+    ServesAll left_now tables old new status ⊎ (BreaksOff left_now old new status ⊎ IsUnserved old new status)
+
+-- A desk was opened on the keeper's book, and its workers served the links. One worker alone served them in their turn.
+pub record DeskServed
+    (shows : ℕ → Type 0) (workers left left_now : ℕ) (links links_now : Option Links) (holds holds_now : Book → Type 0) (old new : Door) (status : ℕ) : Type 0 where
+  pub tables : Book
+  pub leaves : LeavesDesk holds holds_now tables
+  pub ended : EndsBy left_now tables old new status
+  pub in_turn : workers ≡ 1 → IsUnserved old new status ⊎ ServesInTurn shows left left_now links links_now tables
+
+-- or the book wasn't opened, and the listener is as it was
+abbrev pub Comes : {L : Type 0} → (ℕ → Type 0) → ℕ → L → L → (L → ℕ) → (L → Option Links) → (Book → Type 0) → (Book → Type 0) → (BadRow → Type 0) → Door → Door → ℕ → Type 0
+Comes shows workers listener listener_now left links holds holds_now bad_now old new status =
+    DeskServed shows workers (left listener) (left listener_now) (links listener) (links listener_now) holds holds_now old new status
+    ⊎ ((listener_now ≡ listener) × Fails holds holds_now bad_now old new status)
 
 -- ---- what a status says by itself
 

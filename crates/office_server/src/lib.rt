@@ -1,7 +1,9 @@
-//! The server of an office with one worker: it serves the links of a listener one after another on the keeper's book.
+//! The server: links are taken, served by the desk of an office that several workers share, and given back.
 #![tactic(auto)]
 
-mod links;
+mod desk;
+mod seat;
+mod seats;
 mod server;
 
-pub use server::run_serve;
+pub use server::{Served, run_serve};

@@ -1,105 +1,174 @@
-ghost use Rattle.std.specs.Prelude.{◌≡◌, ◌<◌, ◌⊎◌, None, IfOk, IfSome, string_bytes};
-ghost use Rattle.book_rows.specs.Book.{Book};
-ghost use Rattle.keeper_core.specs.Keeping.{Keeps};
+ghost use Rattle.std.specs.Prelude.{◌≡◌, ◌<◌, ◌≤◌, [], None, IfOk, IfSome, string_bytes};
+ghost use Rattle.std.specs.Io.KnownBytes.{Keeps as KeepsBytes};
+ghost use Rattle.book_rows.specs.Book.{Book, book_of as rows_of};
+ghost use Rattle.desk_history.specs.declared.views.View.TheVariants.{Blank};
 ghost use Rattle.office_io.specs.Outside.{Faulted};
-ghost use Rattle.http_front.specs.Below.clerk_desk.Below.office_laws.History.{IsLater};
-ghost use Rattle.http_front.specs.Below.clerk_desk.Serving.{ToldBefore};
-ghost use Rattle.program_answers.specs.Opening.{Fails, Serves, door, largest};
-ghost use Rattle.office_server.specs.Server.{GivesAllBack, IsWritten, LinksServed, NamesFault, Writes, book_line};
+ghost use Rattle.program_answers.specs.Opening.{door, largest};
+ghost use Rattle.shared_desk.specs.History.{capacity_of};
+ghost use Rattle.office_server.specs.declared.desk.How.TheVariants as ended;
+ghost use Rattle.office_server.specs.Server.{Comes, DeskServed, GivesAllBack, IsWritten, NamesFault, Writes, book_line};
 
-use crate::links::serve_links;
-use http_front::clerk_desk::office_core::Office;
-use http_front::clerk_desk::open_office;
+use crate::desk::{How, Left, serve_desk};
+use book_rows::Tables;
+use desk_history::{NewHistory, new_history};
+use http_front::shared_desk::{Desk, Naming, Unopened};
 use keeper_core::Keeper;
 use office_io::{Clock, Sink};
 use office_links::Listener;
 use program_answers::{LARGEST, finish, tell_unopened};
 use std::alloc::{AllocError, Global};
+use std::marker::Brand;
+use std::sync::Wait;
+use std::thread::Threads;
 
-/// Opens the keeper's book, serves the links of the listener on it one after another, writes how many acts the book then
-/// has, and gives the status. However a session ends, the next link is served. After an accept that failed none is.
+/// What a server hands back with every status.
+#[derive(Drop)]
+pub struct Served<K, L> {
+    pub status: u8,
+    pub keeper: K,
+    pub listener: L,
+}
+
+/// Opens a desk on the keeper's book, serves the links of the listener by so many workers, from 1 to 32, the caller among
+/// them, writes how many acts the book then has, and gives the status. However a session ends, its worker serves the next
+/// link. After an accept that failed none is accepted. A worker that can't be started leaves its links to the others.
 ///
 /// 0: no link is left, and the line is written. 3: an accept failed. 4: the sink failed. 5: the keeper failed when the book
 /// was opened. 6: the book isn't an office's. 7: memory ran out.
-pub fn run_serve<K: Keeper, L: Listener, W: Sink, C: Clock>(
+pub fn run_serve<
+    R: Threads + Wait + Sync,
+    K: Keeper + Drop + Send,
+    L: Listener + Send,
+    W: Sink,
+    C: Clock + Sync,
+>(
+    rt: &R,
     alloc: Global,
-    listener: &mut L,
+    workers: u32,
+    listener: L,
     sink: &mut W,
     clock: &C,
-    keeper: &mut K,
-) -> u8
-    // The links are served on the book that the keeper tells; or the book isn't opened, and the listener is as it was.
-    ensures comes { Serves (LinksServed (C.may_show clock.now) (L.left listener.old) (L.left listener.new) (L.links listener.old) (L.links listener.new))
-        (K.holds keeper.old) (K.holds keeper.new) (K.bad keeper.new)
-        (door None (W.held sink.old) (L.faults listener.old) (W.faults sink.old) (K.faults keeper.old))
-        (door None (W.held sink.new) (L.faults listener.new) (W.faults sink.new) (K.faults keeper.new)) result
-        ⊎ ((listener.new ≡ listener.old) × Fails (K.holds keeper.old) (K.holds keeper.new) (K.bad keeper.new)
-        (door None (W.held sink.old) (L.faults listener.old) (W.faults sink.old) (K.faults keeper.old))
-        (door None (W.held sink.new) (L.faults listener.new) (W.faults sink.new) (K.faults keeper.new)) result) }
+    keeper: K,
+) -> Served<K, L>
+where
+    L::In: Send,
+    L::Out: Send,
+    requires workers { (1 ≤ workers) × (workers ≤ 32) }
 
-    // Status 0 in plain facts: no link is left, each that there was is given back, and nothing failed but sessions.
-    ensures none_left { result ≡ 0 → L.left listener.new ≡ 0 }
-    ensures given_back { result ≡ 0 → IfSome (L.links listener.old) (λ told. GivesAllBack told (L.links listener.new)) }
-    ensures written { result ≡ 0 → IsWritten (K.holds keeper.new) (W.held sink.old) (W.held sink.new) }
-    ensures quiet { result ≡ 0 → (L.faults listener.new ≡ L.faults listener.old) × (W.faults sink.new ≡ W.faults sink.old) }
+    // The links are served at a desk on the book that the keeper told; or the book isn't opened, and the listener is as it was.
+    ensures comes { Comes (C.may_show clock.now) workers listener result.listener L.left L.links
+        (K.holds keeper) (K.holds result.keeper) (K.bad result.keeper)
+        (door None (W.held sink.old) (L.faults listener) (W.faults sink.old) (K.faults keeper))
+        (door None (W.held sink.new) (L.faults result.listener) (W.faults sink.new) (K.faults result.keeper)) result.status }
 
-    // Every other status has its cause; 7 is want of memory, when the book is opened or for the line.
-    ensures accept_fault { result ≡ 3 → (0 < L.left listener.new) × Faulted (L.faults listener.old) (L.faults listener.new) }
-    ensures write_fault { result ≡ 4 → Faulted (W.faults sink.old) (W.faults sink.new) }
-    ensures store_fault { result ≡ 5 → (listener.new ≡ listener.old) × Faulted (K.faults keeper.old) (K.faults keeper.new) }
-    ensures bad_book { result ≡ 6 → (listener.new ≡ listener.old)
-        × NamesFault (K.holds keeper.new) (K.bad keeper.new) (W.held sink.old) (W.held sink.new) }
+    // Status 0 in plain facts: no link is left, each that there was is given back if one worker served, and nothing failed
+    // but sessions.
+    ensures none_left { result.status ≡ 0 → L.left result.listener ≡ 0 }
+    ensures given_back { workers ≡ 1 → result.status ≡ 0 → IfSome (L.links listener) (λ told. GivesAllBack told (L.links result.listener)) }
+    ensures written { result.status ≡ 0 → IsWritten (K.holds result.keeper) (W.held sink.old) (W.held sink.new) }
+    ensures quiet { result.status ≡ 0 → (L.faults result.listener ≡ L.faults listener) × (W.faults sink.new ≡ W.faults sink.old) }
+
+    // Every other status has its cause; 7 is want of memory, when the book is opened, for the seats or for the line.
+    ensures accept_fault { result.status ≡ 3 → (0 < L.left result.listener) × Faulted (L.faults listener) (L.faults result.listener) }
+    ensures write_fault { result.status ≡ 4 → Faulted (W.faults sink.old) (W.faults sink.new) }
+    ensures store_fault { result.status ≡ 5 → (result.listener ≡ listener) × Faulted (K.faults keeper) (K.faults result.keeper) }
+    ensures bad_book { result.status ≡ 6 → (result.listener ≡ listener)
+        × NamesFault (K.holds result.keeper) (K.bad result.keeper) (W.held sink.old) (W.held sink.new) }
 {
-    match open_office(alloc, keeper, LARGEST) {
-        Ok(mut office) => {
-            let status = serve_office(alloc, &mut office, listener, sink, clock, keeper);
-            let _of_an_office = office.tables();
-            status
+    match new_history(alloc) {
+        Ok(history) => {
+            serve_on::<R, K, L, W, C, Brand>(
+                rt, alloc, history, workers, listener, sink, clock, keeper,
+            )
         }
-        Err(fault) => tell_unopened(alloc, sink, fault),
+        Err(_) => Served {
+            status: 7,
+            keeper,
+            listener,
+        },
     }
 }
 
-/// Serves the links on an office, and then writes how many acts it has.
-fn serve_office<K: Keeper, L: Listener, W: Sink, C: Clock>(
+/// The same, over a new history whose table is named.
+fn serve_on<
+    R: Threads + Wait + Sync,
+    K: Keeper + Drop + Send,
+    L: Listener + Send,
+    W: Sink,
+    C: Clock + Sync,
+    B: Naming + Send,
+>(
+    rt: &R,
     alloc: Global,
-    office: &mut Office,
-    listener: &mut L,
+    history: NewHistory,
+    workers: u32,
+    listener: L,
     sink: &mut W,
     clock: &C,
-    keeper: &mut K,
-) -> u8
-    requires told { (book : Book) → K.holds keeper.old book → book ≡ office.old.book }
-    requires capacity { office.old.capacity ≡ largest }
-    ensures served { LinksServed (C.may_show clock.now) (L.left listener.old) (L.left listener.new) (L.links listener.old) (L.links listener.new)
-        office.old.book office.new.book
-        (door None (W.held sink.old) (L.faults listener.old) (W.faults sink.old) (K.faults keeper.old))
-        (door None (W.held sink.new) (L.faults listener.new) (W.faults sink.new) (K.faults keeper.new)) result }
-    ensures capacity { office.new.capacity ≡ office.old.capacity }
-    ensures kept { (book : Book) → K.holds keeper.new book → book ≡ office.new.book }
-    ensures told_before { ToldBefore (K.holds keeper.old) (K.holds keeper.new) }
-    ensures kept_row { Keeps (K.bad keeper.old) (K.bad keeper.new) }
+    keeper: K,
+) -> Served<K, L>
+where
+    L::In: Send,
+    L::Out: Send,
+    requires workers { (1 ≤ workers) × (workers ≤ 32) }
+    requires table { (history.table.shared.table_id ≡ B.table) × (history.book.table_id ≡ B.table) × (B.table.words ≡ 1) }
+    requires blank { history.book.me ≡ (Blank, []) }
+    requires told { (book : Book) → K.holds keeper book → B.told book }
+    requires told_by { (book : Book) → B.told book → K.holds keeper book }
+    requires sound { B.sound → K.tells_crash keeper → (book : Book) → K.holds keeper book → (after : Book) → K.leaves keeper after → after ≡ book }
+    ensures { Comes (C.may_show clock.now) workers listener result.listener L.left L.links
+        (K.holds keeper) (K.holds result.keeper) (K.bad result.keeper)
+        (door None (W.held sink.old) (L.faults listener) (W.faults sink.old) (K.faults keeper))
+        (door None (W.held sink.new) (L.faults result.listener) (W.faults sink.new) (K.faults result.keeper)) result.status }
 {
-    if serve_links(alloc, office, keeper, listener, clock) {
-        write_book(alloc, office, sink)
-    } else {
-        3
+    match Desk::<K, B>::open(alloc, history, keeper, LARGEST) {
+        Ok(desk) => {
+            let Left {
+                finished,
+                listener,
+                how,
+            } = serve_desk(rt, alloc, desk, workers, listener, clock);
+            let status = status_of(alloc, &finished.tables, how, sink);
+            Served {
+                status,
+                keeper: finished.keeper,
+                listener,
+            }
+        }
+        Err(Unopened { fault, keeper }) => Served {
+            status: tell_unopened(alloc, sink, fault),
+            keeper,
+            listener,
+        },
     }
 }
 
-/// Writes how many acts an office has.
-fn write_book<W: Sink>(alloc: Global, office: &Office, sink: &mut W) -> u8
-    ensures { Writes (book_line office.now.book) (W.held sink.old) (W.held sink.new) (W.faults sink.old) (W.faults sink.new) result }
+/// Tells how the serving ended that left these tables.
+fn status_of<W: Sink>(alloc: Global, tables: &Tables, how: How, sink: &mut W) -> u8
+    ensures whole { how ≡ ended.Whole → Writes (book_line (rows_of tables.now)) (W.held sink.old) (W.held sink.new) (W.faults sink.old) (W.faults sink.new) result }
+    ensures failed { how ≡ ended.AcceptFailed → (result ≡ 3) × KeepsBytes (W.held sink.old) (W.held sink.new) × (W.faults sink.new ≡ W.faults sink.old) }
+    ensures unserved { how ≡ ended.Unserved → (result ≡ 7) × KeepsBytes (W.held sink.old) (W.held sink.new) × (W.faults sink.new ≡ W.faults sink.old) }
 {
-    match book_line(alloc, office) {
+    match how {
+        How::Whole => write_book(alloc, tables, sink),
+        How::AcceptFailed => 3,
+        How::Unserved => 7,
+    }
+}
+
+/// Writes how many acts there are.
+fn write_book<W: Sink>(alloc: Global, tables: &Tables, sink: &mut W) -> u8
+    ensures { Writes (book_line (rows_of tables.now)) (W.held sink.old) (W.held sink.new) (W.faults sink.old) (W.faults sink.new) result }
+{
+    match book_line(alloc, tables) {
         Ok(line) => finish(sink, 0, line.as_bytes()),
         Err(_) => 7,
     }
 }
 
-fn book_line(alloc: Global, office: &Office) -> Result<String, AllocError>
-    ensures { IfOk result (λ line. string_bytes line ≡ (book_line office.now.book).text) }
+fn book_line(alloc: Global, tables: &Tables) -> Result<String, AllocError>
+    ensures { IfOk result (λ line. string_bytes line ≡ (book_line (rows_of tables.now)).text) }
 {
-    let acts = office.tables().acts.len() as u32;
+    let acts = tables.acts.len();
     format!(in alloc; "book {acts}\n")
 }

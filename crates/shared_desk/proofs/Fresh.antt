@@ -5,7 +5,7 @@ use Rattle.desk_history.specs.Moves.{new_pass}
 use Rattle.shared_desk.specs.Passes.{IsFresh, AreFresh}
 
 -- the pass with the number after theirs
-fresh_push : (start : Start) (next number : ℕ) (passes : List PassView) (pass : PassView) → AreFresh start next passes →
+pub fresh_push : (start : Start) (next number : ℕ) (passes : List PassView) (pass : PassView) → AreFresh start next passes →
     number ≡ next + length passes → IsFresh start number pass → AreFresh start next (passes ++ pass ∷ [])
 fresh_push start next number [] pass fresh is new =
     (subst (λ (n : ℕ). IsFresh start n pass) (let same : number ≡ next = omega (arith, is) in same) new, tt)

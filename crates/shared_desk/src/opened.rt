@@ -1,7 +1,7 @@
 ghost use Rattle.std.specs.Prelude.{◌≡◌, ◌≤◌, ◌<◌, ◌+◌, None, Err, [], IfOk, IfErr, OnOk, IsOk};
 ghost use Rattle.std.specs.VecDeque.{deque_capacity};
 ghost use Rattle.book_rows.specs.Book.{Book, book_of as rows_of};
-ghost use Rattle.keeper_core.specs.Keeping.{Gives, LoadCause};
+ghost use Rattle.keeper_core.specs.Keeping.{Gives, Keeps, LoadCause};
 ghost use Rattle.office_core.specs.Below.office_step.Valid.{first_fault};
 ghost use Rattle.clerk_desk.specs.Opening.{Opens, IsUnopened, BlamesKeeper};
 ghost use Rattle.desk_history.specs.declared.views.View.TheVariants.{Blank};
@@ -94,6 +94,7 @@ impl<K: Keeper + Drop, B: Naming> Desk<K, B> {
             × LoadCause (K.faults keeper) (K.faults un.keeper) loaded × Opens capacity loaded (Err un.fault)) }
         ensures unopened { IfErr result (λ un. IsUnopened capacity (K.holds un.keeper) (K.bad un.keeper) un.fault) }
         ensures cause { IfErr result (λ un. BlamesKeeper (K.faults keeper) (K.faults un.keeper) un.fault) }
+        ensures kept { IfErr result (λ un. Keeps (K.holds keeper) (K.holds un.keeper)) }
     {
         let Ok(waiting) = VecDeque::with_capacity(alloc, MOST_PASSES as usize) else {
             return Err(Unopened {

@@ -1,0 +1,89 @@
+-- What a desk leaves that ends with a pass.
+use Rattle.std.proofs.Common.{◌≡◌, ◌∙◌, ◌⊎◌, ◌<◌, inl, inr, refl, ℕ, List, sym, subst}
+use Rattle.std.specs.{Prelude.Option, Prelude.None, Io.KnownBytes.Keeps as KeepsBytes}
+use Rattle.office_io.specs.Outside.{Faulted}
+use Rattle.book_rows.specs.{Book.Book}
+use Rattle.desk_history.specs.declared.views.{PassView.PassView, Start.Start}
+use Rattle.link_workers.specs.Links.{ServesLinks}
+use Rattle.office_links.specs.Links.{Links}
+use Rattle.program_answers.specs.Opening.{Door, door, largest}
+use Rattle.shared_desk.specs.{Desk.IsFinished, History.IsLegalHistory, History.capacity_of, History.tables_at, Passes.IsFresh}
+use Rattle.office_server.specs.{Links.IsServed, Links.LeavesDesk, Links.ServesInTurn, Server.EndsBy, Server.IsUnserved, Server.Writes, Server.book_line, declared.desk.How.How}
+
+module _ (start : Start) (pass : PassView) (tables : Book) (told holds : Book → Type 0) (sound tells : Type 0) (leaves : Book → Type 0) (same : pass.start ≡ start)
+    (finished : IsFinished pass tables told holds sound tells leaves) where
+  pub leaves_desk : capacity_of start ≡ largest → LeavesDesk told holds tables
+  leaves_desk capacity = record {
+    start = pass.start;
+    capacity = subst (λ (s : Start). capacity_of s ≡ largest) (sym same) capacity;
+    history = finished.history;
+    legal = finished.legal;
+    whole = finished.whole;
+    kept = finished.kept;
+    first = finished.first;
+  }
+
+  pub in_turn : (shows : ℕ → Type 0) (first : PassView) (left left_now : ℕ) (links links_now : Option Links) → IsFresh start 1 first
+      → ServesLinks (λ old link new. IsServed shows old new link) first pass left left_now links links_now → ServesInTurn shows left left_now links links_now tables
+  in_turn shows first left left_now links links_now fresh served = record {
+    start = start;
+    pass = first;
+    fresh = fresh;
+    pass_now = pass;
+    served = served;
+    history = finished.history;
+    legal = subst (λ (s : Start). IsLegalHistory s finished.history) same finished.legal;
+    front = finished.front;
+    whole = subst (λ (s : Start). tables ≡ tables_at s finished.history) same finished.whole;
+  }
+
+-- the book that the desk was told of, said otherwise
+pub told_otherwise : (told other holds : Book → Type 0) (tables : Book) → ((book : Book) → told book → other book) → LeavesDesk told holds tables → LeavesDesk other holds tables
+told_otherwise told other holds tables means leaves = record {
+  start = leaves.start;
+  capacity = leaves.capacity;
+  history = leaves.history;
+  legal = leaves.legal;
+  whole = leaves.whole;
+  kept = leaves.kept;
+  first = λ now is. means _ (leaves.first now is);
+}
+
+-- ---- how it ended
+
+pub turned : (Served InTurn : Type 0) (how how_now : How) → how_now ≡ how → (Served → InTurn) → (how ≡ How.Unserved) ⊎ Served → (how_now ≡ How.Unserved) ⊎ InTurn
+turned Served InTurn how how_now same turns (inl is) = inl (same ∙ is)
+turned Served InTurn how how_now same turns (inr served) = inr (turns served)
+
+module _
+    (left_now : ℕ) (tables : Book) (held held_now : Option (List ℕ)) (listener listener_now sink sink_now keeper keeper_now status : ℕ) where
+  abbrev old : Door
+  old = door None held listener sink keeper
+
+  abbrev new : Door
+  new = door None held_now listener_now sink_now keeper_now
+
+  unserved : (how : How) → (how ≡ How.Unserved → listener_now ≡ listener) → (how ≡ How.Unserved → (status ≡ 7) × KeepsBytes held held_now × (sink_now ≡ sink))
+      → how ≡ How.Unserved → IsUnserved old new status
+  unserved how stays told is = let t = told is in record { source = stays is; held = t.1; sink = t.2; status_is = t.0 }
+
+  pub ends_by : (how : How)
+      → (how ≡ How.Whole → (left_now ≡ 0) × (listener_now ≡ listener))
+      → (how ≡ How.AcceptFailed → (0 < left_now) × Faulted listener listener_now)
+      → (how ≡ How.Unserved → listener_now ≡ listener)
+      → (how ≡ How.Whole → Writes (book_line tables) held held_now sink sink_now status)
+      → (how ≡ How.AcceptFailed → (status ≡ 3) × KeepsBytes held held_now × (sink_now ≡ sink))
+      → (how ≡ How.Unserved → (status ≡ 7) × KeepsBytes held held_now × (sink_now ≡ sink))
+      → EndsBy left_now tables old new status
+  ends_by How.Whole whole failed stays told_whole told_failed told_unserved =
+      let w = whole refl in inl (record { none_left = w.0; source = w.1; written = told_whole refl })
+  ends_by How.AcceptFailed whole failed stays told_whole told_failed told_unserved =
+      let f = failed refl in let t = told_failed refl in
+      inr (inl (record { some_left = f.0; source = f.1; held = t.1; sink = t.2; status_is = t.0 }))
+  ends_by How.Unserved whole failed stays told_whole told_failed told_unserved =
+      inr (inr (unserved How.Unserved stays told_unserved refl))
+
+  pub turn_by : (how : How) (InTurn : Type 0) → (how ≡ How.Unserved → listener_now ≡ listener)
+      → (how ≡ How.Unserved → (status ≡ 7) × KeepsBytes held held_now × (sink_now ≡ sink)) → (how ≡ How.Unserved) ⊎ InTurn → IsUnserved old new status ⊎ InTurn
+  turn_by how InTurn stays told (inl is) = inl (unserved how stays told is)
+  turn_by how InTurn stays told (inr turn) = inr turn

@@ -1,0 +1,23 @@
+use Rattle.std.proofs.Common.{◌∙◌, sym, subst}
+use Rattle.book_rows.specs.Book.{book_of}
+use Rattle.shared_desk.specs.Passes.{AreFresh}
+use Rattle.office_server.specs.Links.{ServesInTurn}
+use Rattle.office_server.proofs.{Leaving.in_turn, Leaving.leaves_desk, Leaving.turned, SeatLemmas.fresh_starts, SeatLemmas.one_long}
+use Rattle.office_server.proofs.desk.serve_desk.Goals as goal
+
+pub returns-in-Ok-clause-leaves : goal.returns-in-Ok-clause-leaves
+returns-in-Ok-clause-leaves g c =
+    let same = c.serve_by-worked.ensures.start c.args.desk.start (fresh_starts c.args.desk.start 1 c.in-Ok.passes.items c.in-Ok.ensures.fresh) in
+    leaves_desk c.args.desk.start c.serve_by-worked.result.pass _ _ _ _ _ _ same c.left_by.ensures.finished c.requires.capacity
+
+pub returns-in-Ok-clause-in_turn : goal.returns-in-Ok-clause-in_turn
+returns-in-Ok-clause-in_turn g c = λ one.
+    let same = c.serve_by-worked.ensures.start c.args.desk.start (fresh_starts c.args.desk.start 1 c.in-Ok.passes.items c.in-Ok.ensures.fresh) in
+    let first = one_long c.in-Ok.passes.items (c.in-Ok.ensures.many ∙ one) in
+    let fresh = (subst (AreFresh c.args.desk.start 1) first.1 c.in-Ok.ensures.fresh).0 in
+    turned _ _ _ _ c.left_by.ensures.how (λ served. subst (λ listener.
+    ServesInTurn (g.C.Clock.may_show c.args.clock.now) (g.L.Listener.left c.args.listener) (g.L.Listener.left listener) (g.L.Listener.links c.args.listener) (g.L.Listener.links listener)
+    (book_of c.left_by.result.finished.tables))
+    (sym c.left_by.ensures.listener)
+    (in_turn c.args.desk.start c.serve_by-worked.result.pass _ _ _ _ _ _ same c.left_by.ensures.finished (g.C.Clock.may_show c.args.clock.now) first.0 _ _ _ _ fresh served))
+    (c.serve_by-worked.ensures.alone first.0 first.1)

@@ -1,0 +1,150 @@
+ghost use Rattle.std.specs.Prelude.{◌≡◌, ◌⊎◌, ◌≤◌, ◌<◌, [], ◌∷◌, All, length};
+ghost use Rattle.book_rows.specs.Book.{book_of as rows_of};
+ghost use Rattle.office_io.specs.Outside.{Faulted};
+ghost use Rattle.program_answers.specs.Opening.{largest};
+ghost use Rattle.desk_history.specs.declared.views.{PassView.PassView, Start.Start};
+ghost use Rattle.link_workers.specs.Links.{ServesLinks};
+ghost use Rattle.shared_desk.specs.{Desk.IsFinished, History.capacity_of};
+ghost use Rattle.office_server.specs.Links.{IsServed, LeavesDesk, ServesInTurn};
+ghost use Rattle.office_server.specs.declared.desk.How.TheVariants as how;
+
+use crate::seats::{gathered, passes_of, seats_by};
+use http_front::shared_desk::{Desk, Finished, Naming, Pass, SharedDesk};
+use keeper_core::Keeper;
+use link_workers::{Ended, serve_all};
+use office_io::Clock;
+use office_links::Listener;
+use std::alloc::Global;
+use std::sync::Wait;
+use std::thread::Threads;
+
+/// What a desk and a listener leave when links were served.
+#[derive(Drop)]
+pub(crate) struct Left<K, L> {
+    pub(crate) finished: Finished<K>,
+    pub(crate) listener: L,
+    pub(crate) how: How,
+}
+
+/// How the serving ended.
+#[derive(Clone, Copy, PartialEq, Eq)]
+pub(crate) enum How {
+    /// No link is left.
+    Whole,
+    /// An accept failed.
+    AcceptFailed,
+    /// Memory ran out before a link was taken.
+    Unserved,
+}
+
+/// Serves the links of a listener at a desk of which nobody has a pass, by so many workers, and ends the desk.
+pub(crate) fn serve_desk<
+    R: Threads + Wait + Sync,
+    K: Keeper + Drop + Send,
+    B: Naming + Send,
+    L: Listener + Send,
+    C: Clock + Sync,
+>(rt: &R, alloc: Global, mut desk: Desk<K, B>, workers: u32, listener: L, clock: &C) -> Left<K, L>
+where
+    L::In: Send,
+    L::Out: Send,
+    requires workers { (1 ≤ workers) × (workers ≤ 32) }
+    requires made { desk.made ≡ 0 }
+    requires capacity { capacity_of desk.start ≡ largest }
+    ensures leaves { LeavesDesk B.told (K.holds result.finished.keeper) (rows_of result.finished.tables) }
+    ensures whole { result.how ≡ how.Whole → (L.left result.listener ≡ 0) × (L.faults result.listener ≡ L.faults listener) }
+    ensures failed { result.how ≡ how.AcceptFailed → (0 < L.left result.listener) × Faulted (L.faults listener) (L.faults result.listener) }
+    ensures unserved { result.how ≡ how.Unserved → result.listener ≡ listener }
+    ensures in_turn { workers ≡ 1 → (result.how ≡ how.Unserved) ⊎ ServesInTurn (C.may_show clock.now)
+        (L.left listener) (L.left result.listener) (L.links listener) (L.links result.listener) (rows_of result.finished.tables) }
+{
+    match passes_of(alloc, &mut desk, workers) {
+        Ok(passes) => {
+            let worked = serve_by(rt, alloc, desk.shared(), passes, listener, clock);
+            left_by(desk, worked)
+        }
+        Err(pass) => left_by(
+            desk,
+            Worked {
+                pass,
+                listener,
+                how: How::Unserved,
+            },
+        ),
+    }
+}
+
+/// What the workers leave: the pass that has seen what all have.
+#[derive(Drop)]
+struct Worked<L, B: Naming> {
+    pass: Pass<B>,
+    listener: L,
+    how: How,
+}
+
+/// Ends a desk with a pass.
+fn left_by<K: Keeper + Drop, B: Naming, L>(desk: Desk<K, B>, worked: Worked<L, B>) -> Left<K, L>
+    ensures finished { IsFinished worked.pass (rows_of result.finished.tables) B.told (K.holds result.finished.keeper)
+        B.sound (K.tells_crash result.finished.keeper) (K.leaves result.finished.keeper) }
+    ensures listener { result.listener ≡ worked.listener }
+    ensures how { result.how ≡ worked.how }
+{
+    let Worked {
+        pass,
+        listener,
+        how,
+    } = worked;
+    Left {
+        finished: desk.finish(pass),
+        listener,
+        how,
+    }
+}
+
+/// Serves the links by a worker for each of the passes.
+fn serve_by<
+    R: Threads + Wait + Sync,
+    K: Keeper + Drop + Send,
+    B: Naming + Send,
+    L: Listener + Send,
+    C: Clock + Sync,
+>(
+    rt: &R,
+    alloc: Global,
+    desk: &SharedDesk<K, B>,
+    passes: Vec<Pass<B>>,
+    listener: L,
+    clock: &C,
+) -> Worked<L, B>
+where
+    L::In: Send,
+    L::Out: Send,
+    requires some { 0 < length passes.items }
+    ensures start { (start : Start) → All (λ pass. pass.start ≡ start) passes.items → result.pass.start ≡ start }
+    ensures whole { result.how ≡ how.Whole → (L.left result.listener ≡ 0) × (L.faults result.listener ≡ L.faults listener) }
+    ensures failed { result.how ≡ how.AcceptFailed → (0 < L.left result.listener) × Faulted (L.faults listener) (L.faults result.listener) }
+    ensures unserved { result.how ≡ how.Unserved → result.listener ≡ listener }
+    ensures alone { (pass : PassView) → passes.items ≡ pass ∷ [] → (result.how ≡ how.Unserved)
+        ⊎ ServesLinks (λ old link new. IsServed (C.may_show clock.now) old new link) pass result.pass
+        (L.left listener) (L.left result.listener) (L.links listener) (L.links result.listener) }
+{
+    match seats_by(rt, alloc, desk, passes, clock) {
+        Ok(mut seats) => {
+            let Ended { listener, failed } = serve_all(rt, alloc, listener, &mut seats);
+            Worked {
+                pass: gathered(seats),
+                listener,
+                how: if failed {
+                    How::AcceptFailed
+                } else {
+                    How::Whole
+                },
+            }
+        }
+        Err(pass) => Worked {
+            pass,
+            listener,
+            how: How::Unserved,
+        },
+    }
+}
