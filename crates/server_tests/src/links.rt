@@ -1,4 +1,4 @@
-use crate::serving::{ends, has_given_back, links, post, serve, small_office};
+use crate::serving::{ends, has_given_back, links, post, serve, serve_by, small_office};
 
 /// The household has less income: it is certified anew from February on.
 const INTERIM: &str =
@@ -10,17 +10,18 @@ const ASK: &str = "GET /households/1 HTTP/1.1\r\n\r\n";
 #[test]
 fn links_are_served_on_one_book(rt: HostRuntime) {
     let alloc = rt.alloc();
-    let mut keeper = small_office(&rt, alloc);
+    let keeper = small_office(&rt, alloc);
     let interim = post(&rt, alloc, 5, INTERIM);
-    let mut two = links(&rt, alloc, &[interim.as_str(), ASK], &[], 4_096);
-    assert!(rt; serve(&rt, alloc, &mut two, &mut keeper, 40).is(0, "book 5\n"));
-    assert!(rt; has_given_back(&two, 2));
+    let two = links(&rt, alloc, &[interim.as_str(), ASK], &[], 4_096);
+    let told = serve(&rt, alloc, two, keeper, 40);
+    assert!(rt; told.is(0, "book 5\n"));
+    assert!(rt; has_given_back(&told.links, 2));
     let made = "'household':1,'record':2,'reimbursement':0,'tenant_rent':152,'ttp':212}}";
-    assert!(rt; ends(&rt, alloc, &two, 0, made));
+    assert!(rt; ends(&rt, alloc, &told.links, 0, made));
     let seen = "book: 5\r\ncontent-length: 57\r\ncontent-type: application/json\r\n\r\n\
         {'household':1,'live':[1,2],'name':'Ada Reed','newest':2}";
-    assert!(rt; ends(&rt, alloc, &two, 1, seen));
-    assert!(rt; keeper.tables().acts.len() == 5);
+    assert!(rt; ends(&rt, alloc, &told.links, 1, seen));
+    assert!(rt; told.keeper.tables().acts.len() == 5);
 }
 
 // A link that is hung up inside a message, one that sends no message, and one without room for a response are given back,
@@ -28,27 +29,50 @@ fn links_are_served_on_one_book(rt: HostRuntime) {
 #[test]
 fn each_end_of_a_session_goes_on(rt: HostRuntime) {
     let alloc = rt.alloc();
-    let mut keeper = small_office(&rt, alloc);
-    let mut three = links(
+    let keeper = small_office(&rt, alloc);
+    let three = links(
         &rt,
         alloc,
         &["GET /house", "no head\r\n\r\n", ASK],
         &[],
         4_096,
     );
-    assert!(rt; serve(&rt, alloc, &mut three, &mut keeper, 40).is(0, "book 4\n"));
-    assert!(rt; has_given_back(&three, 3));
-    assert!(rt; ends(&rt, alloc, &three, 1, "{'refused':{'kind':'BadHead'}}"));
-    assert!(rt; ends(&rt, alloc, &three, 2, "'newest':1}"));
-    let mut full = links(&rt, alloc, &[ASK, ASK], &[], 0);
-    assert!(rt; serve(&rt, alloc, &mut full, &mut keeper, 40).is(0, "book 4\n"));
-    assert!(rt; has_given_back(&full, 2));
+    let told = serve(&rt, alloc, three, keeper, 40);
+    assert!(rt; told.is(0, "book 4\n"));
+    assert!(rt; has_given_back(&told.links, 3));
+    assert!(rt; ends(&rt, alloc, &told.links, 1, "{'refused':{'kind':'BadHead'}}"));
+    assert!(rt; ends(&rt, alloc, &told.links, 2, "'newest':1}"));
+    let full = links(&rt, alloc, &[ASK, ASK], &[], 0);
+    let told = serve(&rt, alloc, full, told.keeper, 40);
+    assert!(rt; told.is(0, "book 4\n"));
+    assert!(rt; has_given_back(&told.links, 2));
 }
 
 #[test]
 fn no_links_are_served(rt: HostRuntime) {
     let alloc = rt.alloc();
-    let mut keeper = small_office(&rt, alloc);
-    let mut none = links(&rt, alloc, &[], &[], 40);
-    assert!(rt; serve(&rt, alloc, &mut none, &mut keeper, 40).is(0, "book 4\n"));
+    let keeper = small_office(&rt, alloc);
+    let none = links(&rt, alloc, &[], &[], 40);
+    assert!(rt; serve(&rt, alloc, none, keeper, 40).is(0, "book 4\n"));
+}
+
+// However many workers there are, each link is served and given back, and the act that one of them posts is in the book.
+#[test]
+fn several_workers_serve_each_link(rt: HostRuntime) {
+    let alloc = rt.alloc();
+    for workers in [2, 8, 32] {
+        let keeper = small_office(&rt, alloc);
+        let interim = post(&rt, alloc, 5, INTERIM);
+        let some = links(
+            &rt,
+            alloc,
+            &[ASK, interim.as_str(), ASK, "GET /house", ASK],
+            &[],
+            4_096,
+        );
+        let told = serve_by(&rt, alloc, workers, some, keeper, 40);
+        assert!(rt; told.is(0, "book 5\n"));
+        assert!(rt; has_given_back(&told.links, 5));
+        assert!(rt; told.keeper.tables().acts.len() == 5);
+    }
 }

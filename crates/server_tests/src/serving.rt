@@ -1,3 +1,5 @@
+ghost use Rattle.std.specs.Prelude.{◌≤◌};
+
 use keeper_core::{Keeper, MemoryKeeper};
 use office_io::{FixedClock, MemorySink, MemorySource};
 use office_links::{Link, MemoryListener, listener_of_inputs};
@@ -6,17 +8,21 @@ use plain_data::Text;
 use sample_office::{PLAN, RENTS, START, UNIT, day, written};
 use std::alloc::Global;
 use std::process::Abort;
+use std::sync::Wait;
+use std::thread::Threads;
 
 pub type Links = MemoryListener<MemorySource, MemorySink>;
 
-/// What a server wrote, and its status.
+/// What a server wrote and handed back, and its status.
 #[derive(Drop)]
-pub struct Told {
+pub struct Told<K> {
     pub status: u8,
     pub line: String,
+    pub links: Links,
+    pub keeper: K,
 }
 
-impl Told {
+impl<K> Told<K> {
     pub fn is(&self, status: u8, line: &str) -> bool {
         self.status == status && self.line.as_str() == line
     }
@@ -50,33 +56,50 @@ pub fn links(
     listener_of_inputs(alloc, inputs, failing, room).expect(rt, "memory")
 }
 
-/// Serves the links on the keeper's book on 2 January 2024, into a sink with so much room.
-pub fn serve<K: Keeper>(
-    rt: &impl Abort,
+/// Serves the links by one worker on the keeper's book on 2 January 2024, into a sink with so much room.
+pub fn serve<R: Abort + Threads + Wait + Sync, K: Keeper + Drop + Send>(
+    rt: &R,
     alloc: Global,
-    links: &mut Links,
-    keeper: &mut K,
+    links: Links,
+    keeper: K,
     room: usize,
-) -> Told {
+) -> Told<K> {
+    serve_by(rt, alloc, 1, links, keeper, room)
+}
+
+/// The same, by so many workers.
+pub fn serve_by<R: Abort + Threads + Wait + Sync, K: Keeper + Drop + Send>(
+    rt: &R,
+    alloc: Global,
+    workers: u32,
+    links: Links,
+    keeper: K,
+    room: usize,
+) -> Told<K>
+    requires { (1 ≤ workers) × (workers ≤ 32) }
+{
     let mut sink = MemorySink::new(alloc, room, Vec::new(alloc), 40).expect(rt, "memory");
     let clock = FixedClock::new(day("2024-01-02"));
-    let status = run_serve(alloc, links, &mut sink, &clock, keeper);
-    let line = String::from_utf8(sink.into_bytes()).expect(rt, "no text");
-    Told { status, line }
+    let served = run_serve(rt, alloc, workers, links, &mut sink, &clock, keeper);
+    Told {
+        status: served.status,
+        line: String::from_utf8(sink.into_bytes()).expect(rt, "no text"),
+        links: served.listener,
+        keeper: served.keeper,
+    }
 }
 
 /// A keeper of the book of four acts that one link posts: a plan, a unit, rents and a household of one of 70.
-pub fn small_office(rt: &impl Abort, alloc: Global) -> MemoryKeeper {
+pub fn small_office<R: Abort + Threads + Wait + Sync>(rt: &R, alloc: Global) -> MemoryKeeper {
     let mut text = String::new(alloc);
     for (request, act) in [(1u64, PLAN), (2, UNIT), (3, RENTS), (4, START)] {
         let message = post(rt, alloc, request, act);
         text.push_str(&message).expect(rt, "memory");
     }
-    let mut keeper = MemoryKeeper::new(alloc);
-    let mut first = links(rt, alloc, &[text.as_str()], &[], 4_096);
-    let told = serve(rt, alloc, &mut first, &mut keeper, 40);
+    let first = links(rt, alloc, &[text.as_str()], &[], 4_096);
+    let told = serve(rt, alloc, first, MemoryKeeper::new(alloc), 40);
     assert!(rt; told.is(0, "book 4\n"));
-    keeper
+    told.keeper
 }
 
 /// Whether so many links were given back.
