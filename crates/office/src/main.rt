@@ -7,9 +7,12 @@ use keeper_sqlite::SqliteKeeper;
 use office_io::{Clock, Sink, StreamSink, StreamSource, SystemClock};
 use office_links::TcpLinks;
 use office_server::run_serve;
-use sqlite::{Connection, Error, ErrorCode};
+use sqlite::{Alter, Connection, Error, ErrorCode, FileStore};
+use sqlite_disk::Disk;
 use std::process::ExitCode;
 use std::rt::Env;
+use std::sync::Wait;
+use std::thread::Threads;
 use std::{env, io};
 
 /// The status where no port is bound.
@@ -23,45 +26,100 @@ fn words_of<R: Env + AllocGlobal>(rt: &R) -> io::Result<Vec<String>> {
     Ok(env::args(rt)?.skip(1).collect(rt.alloc())?)
 }
 
+/// What came of a run: the status, and what kept the book.
+#[derive(Drop)]
+struct Ran<K> {
+    status: u8,
+    kept: K,
+}
+
 /// Runs the program that the words name over the real streams and clock, and a keeper.
-fn run_over<K: Keeper>(rt: &HostRuntime, words: &[String], keeper: &mut K) -> u8 {
+fn run_over<T: Threads + Wait + Sync, K: Keeper + Drop + Send>(
+    rt: &HostRuntime,
+    threads: &T,
+    words: &[String],
+    mut keeper: K,
+) -> Ran<K> {
     let mut sink = StreamSink::new(rt.stdout());
     let clock = SystemClock::new(rt);
     match serve_words(words) {
-        // There are no workers yet beside the one, so other numbers of them are words that the program doesn't know.
-        Some(serve) if serve.workers == 1 => serve_port(rt, &serve, &mut sink, &clock, keeper),
-        _ => {
+        Some(serve) => serve_port(rt, threads, &serve, &mut sink, &clock, keeper),
+        None => {
             let mut source = StreamSource::new(rt.stdin());
-            office_prog::run(rt.alloc(), words, &mut source, &mut sink, &clock, keeper)
+            let status = office_prog::run(
+                rt.alloc(),
+                words,
+                &mut source,
+                &mut sink,
+                &clock,
+                &mut keeper,
+            );
+            Ran {
+                status,
+                kept: keeper,
+            }
         }
     }
 }
 
 /// Serves so many links that come to a port of this machine's own address.
-fn serve_port<K: Keeper, W: Sink, C: Clock>(
+fn serve_port<T: Threads + Wait + Sync, K: Keeper + Drop + Send, W: Sink, C: Clock + Sync>(
     rt: &HostRuntime,
+    threads: &T,
     serve: &Serve,
     sink: &mut W,
     clock: &C,
-    keeper: &mut K,
-) -> u8 {
+    keeper: K,
+) -> Ran<K> {
     match TcpLinks::bind(rt, serve.port, serve.connections) {
-        Ok(mut links) => run_serve(rt.alloc(), &mut links, sink, clock, keeper),
-        Err(_) => NOT_BOUND,
+        Ok(links) => {
+            let workers = serve.workers.clamp(1, 32);
+            let served = run_serve(threads, rt.alloc(), workers, links, sink, clock, keeper);
+            Ran {
+                status: served.status,
+                kept: served.keeper,
+            }
+        }
+        Err(_) => Ran {
+            status: NOT_BOUND,
+            kept: keeper,
+        },
     }
 }
 
 /// The same, over the book in the file at the path.
-fn run_on_file(rt: &HostRuntime, path: &str, words: &[String]) -> u8 {
-    let connection = match Connection::open(rt, path) {
-        Ok(connection) => connection,
-        Err(Error::SqliteFailure(ErrorCode::OutOfMemory)) => return NO_MEMORY,
-        Err(_) => return NOT_OPENED,
-    };
-    let mut keeper = SqliteKeeper::adopt(connection);
-    let status = run_over(rt, words, &mut keeper);
-    // All that was acknowledged is kept by now. This copies the log into the file; where that fails, the next open does it.
-    let _ = keeper.release().close();
+fn run_on_file<T: Threads + Wait + Sync>(
+    rt: &HostRuntime,
+    threads: &T,
+    path: &str,
+    words: &[String],
+) -> u8 {
+    match Connection::open(rt, path) {
+        Ok(connection) => closed(run_on(rt, threads, words, connection)),
+        Err(Error::SqliteFailure(ErrorCode::OutOfMemory)) => NO_MEMORY,
+        Err(_) => NOT_OPENED,
+    }
+}
+
+/// The same, over the book of a connection. It speaks of any store, since a check of a file's own has all its parts before it.
+fn run_on<T: Threads + Wait + Sync, S: Alter + Drop + Send>(
+    rt: &HostRuntime,
+    threads: &T,
+    words: &[String],
+    connection: Connection<S>,
+) -> Ran<Connection<S>> {
+    let ran = run_over(rt, threads, words, SqliteKeeper::adopt(connection));
+    Ran {
+        status: ran.status,
+        kept: ran.kept.release(),
+    }
+}
+
+/// Closes the file after a run, and gives the status. All that was acknowledged is kept by now: this copies the log into the
+/// file, and where that fails, the next open does it.
+fn closed<D: Disk + Drop>(ran: Ran<Connection<FileStore<D>>>) -> u8 {
+    let Ran { status, kept } = ran;
+    let _ = kept.close();
     status
 }
 
@@ -76,8 +134,8 @@ fn main(rt: HostRuntime) -> ExitCode {
     };
     let (book, others) = book_and_words(&words);
     let status = match book {
-        Some(path) => run_on_file(&rt, path, others),
-        None => run_over(&rt, others, &mut MemoryKeeper::new(rt.alloc())),
+        Some(path) => run_on_file(&rt, &rt, path, others),
+        None => run_over(&rt, &rt, others, MemoryKeeper::new(rt.alloc())).status,
     };
     ExitCode::from(status)
 }
