@@ -1,4 +1,2 @@
-pub mod Later
-pub mod Replying
 pub mod Seen
 pub mod ForPass

@@ -1,5 +1,3 @@
 pub mod Below
 pub mod Told
-pub mod Answers
-pub mod Desk
 pub mod Passes

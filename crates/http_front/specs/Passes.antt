@@ -7,7 +7,7 @@ use Rattle.json_front.specs.Calls.{call_from}
 use Rattle.http_messages.specs.declared.message.Message.{Message}
 use Rattle.http_responses.specs.declared.{body.Reply.Reply, refusal.Refusal.Refusal}
 use Rattle.http_routes.specs.{Asks.name_of, declared.asked.Routed.Routed}
-use Rattle.http_front.specs.{Answers.IsSaid, Told.IsLed, Told.bad_form, Told.question_of, Told.refused, Told.said_of_answer, Told.said_of_reply, declared.said.Said.Said, declared.said.Silence.Silence}
+use Rattle.http_front.specs.{Told.IsLed, Told.IsSaid, Told.bad_form, Told.question_of, Told.refused, Told.said_of_answer, Told.said_of_reply, declared.said.Said.Said, declared.said.Silence.Silence}
 use Rattle.shared_desk.specs.{History.IsLegalHistory, History.tables_at, Calls.IsCalled, Calls.KnowsMore}
 
 -- the desk's reply in text, unless memory ran out; there is none where the keeper failed, or memory ran out before

@@ -1,14 +1,12 @@
 ghost use Rattle.std.specs.Prelude.{◌≡◌, true, false, IfOk, Result};
-ghost use Rattle.clerk_desk.specs.Below.office_answers.{Answered.Answers, Answering.answer_to};
+ghost use Rattle.clerk_desk.specs.Below.office_answers.Answered.{Answers};
 ghost use Rattle.clerk_desk.specs.Below.office_answers.declared.answer.Answer.{Answer};
 ghost use Rattle.clerk_desk.specs.Below.office_step.declared.refusal.Refusal.{Refusal};
 ghost use Rattle.http_session.specs.Replies.{refuses};
-ghost use Rattle.http_front.specs.Told.{IsLed, question_of, said_of_answer, bad_form};
-ghost use Rattle.http_front.specs.Answers.{IsSaid};
+ghost use Rattle.http_front.specs.Told.{IsLed, IsSaid, bad_form, question_of, said_of_answer};
 
 use crate::said::{Said, Silence};
 use clerk_desk::office_answers::{Answer, Asked as Unasked, Question, Reply};
-use clerk_desk::office_core::Office;
 use http_messages::Message;
 use http_responses::{Body, Status};
 use http_routes::{Asked, Routed, Routes};
@@ -46,14 +44,6 @@ pub(crate) fn question_of(asked: Asked) -> Option<Question>
         Asked::Due { day } => Some(Question::Due { day }),
         Asked::Targets { day } => Some(Question::Targets { day }),
     }
-}
-
-/// The answer to a question, or why there is none.
-pub(crate) fn answered(alloc: Global, office: &Office, question: &Question) -> Result<Said, Silence>
-    ensures said { IsSaid (said_of_answer (answer_to office.now.book question.now)) result }
-    ensures taken { IfOk result (λ said. refuses said.status ≡ false) }
-{
-    said_of_answer(alloc, office.ask(alloc, question))
 }
 
 /// What is said of an answer, or of why there is none.

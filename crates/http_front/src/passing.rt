@@ -5,9 +5,8 @@ ghost use Rattle.http_session.specs.Replies.{refuses};
 ghost use Rattle.shared_desk.specs.Calls.{Further};
 ghost use Rattle.http_front.specs.Passes.{AnswersPass, SaysAnswer, SaysBody, SaysCall, SaysTo};
 
-use crate::acting::said_of_reply;
-use crate::answering::{refused, replied};
 use crate::asking::{lead, question_of, said_of_answer, said_of_bad_form};
+use crate::replying::{refused, replied, said_of_reply};
 use crate::said::{Said, Silence};
 use clerk_desk::office_answers::Question;
 use clerk_desk::office_core::Call;

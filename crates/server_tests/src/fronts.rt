@@ -1,11 +1,20 @@
+ghost use Rattle.std.specs.Prelude.{◌≡◌, []};
+ghost use Rattle.book_rows.specs.Book.{Book};
+ghost use Rattle.desk_history.specs.declared.views.View.TheVariants.{Blank};
+
 use crate::serving::post;
-use http_front::clerk_desk::office_core::{Capacity, Office};
-use http_front::{SessionEnd, session_alone};
+use desk_history::{NewHistory, new_history};
+use http_front::clerk_desk::office_core::Capacity;
+use http_front::shared_desk::{Desk, Naming};
+use http_front::{SessionEnd, session};
 use keeper_core::PlannedKeeper;
 use office_io::{FixedClock, MemorySink, MemorySource};
+use plain_data::NoMemory;
 use sample_office::{PLAN, RENTS, START, UNIT, day, written};
 use std::alloc::Global;
+use std::marker::Brand;
 use std::process::Abort;
+use std::sync::Wait;
 
 /// The messages that post the plan, a unit, rents and a household of one of 70.
 fn opening(rt: &impl Abort, alloc: Global) -> String {
@@ -39,24 +48,67 @@ impl Told {
     }
 }
 
-/// Serves the messages, with ' for ", on an empty book, whose keeper fails at these calls.
-fn served(rt: &impl Abort, alloc: Global, text: &str, failing: &[u64], most: usize) -> Told {
+/// Serves the messages, with ' for ", by the first pass of a desk on an empty book, whose keeper fails at these calls.
+fn served<R: Abort + Wait>(
+    rt: &R,
+    alloc: Global,
+    text: &str,
+    failing: &[u64],
+    most: usize,
+) -> Told {
     assert!(rt; most > 0);
+    let history = history(rt, alloc);
     let input = written(alloc, text).expect(rt, "memory").into_bytes();
     let mut source = MemorySource::new(input, Vec::new(alloc), most);
-    let mut sink = MemorySink::new(alloc, 16_384, Vec::new(alloc), 16_384).expect(rt, "memory");
-    let clock = FixedClock::new(day("2024-01-01"));
-    let mut keeper = PlannedKeeper::new(alloc, failing.to_vec(alloc).expect(rt, "memory"));
+    let keeper = PlannedKeeper::new(alloc, failing.to_vec(alloc).expect(rt, "memory"));
+    served_by::<R, Brand>(rt, alloc, history, keeper, &mut source)
+}
+
+/// A history with no name yet.
+fn history(rt: &impl Abort, alloc: Global) -> NewHistory
+    ensures words { result.table.shared.table_id.words ≡ 1 }
+    ensures same { result.book.table_id ≡ result.table.shared.table_id }
+    ensures blank { result.book.me ≡ (Blank, []) }
+{
+    match new_history(alloc) {
+        Ok(history) => history,
+        Err(NoMemory) => panic!(rt; "no memory"),
+    }
+}
+
+/// The same, at a desk whose history has a name.
+fn served_by<R: Abort + Wait, B: Naming>(
+    rt: &R,
+    alloc: Global,
+    history: NewHistory,
+    keeper: PlannedKeeper,
+    source: &mut MemorySource,
+) -> Told
+    requires table { (history.table.shared.table_id ≡ B.table) × (history.book.table_id ≡ B.table) × (B.table.words ≡ 1) }
+    requires blank { history.book.me ≡ (Blank, []) }
+    requires told { (book : Book) → B.told book }
+    requires sound { B.sound → ⊥ }
+{
     let capacity = Capacity {
         acts: 100,
         lines: 1_000,
     };
-    let mut office = Office::new(alloc, capacity).expect(rt, "memory");
-    let end = session_alone(
+    let mut desk = match Desk::<PlannedKeeper, B>::open(alloc, history, keeper, capacity) {
+        Ok(desk) => desk,
+        Err(_) => panic!(rt; "no desk"),
+    };
+    let mut pass = match desk.pass() {
+        Ok(pass) => pass,
+        Err(_) => panic!(rt; "no pass"),
+    };
+    let mut sink = MemorySink::new(alloc, 16_384, Vec::new(alloc), 16_384).expect(rt, "memory");
+    let clock = FixedClock::new(day("2024-01-01"));
+    let end = session(
+        rt,
         alloc,
-        &mut office,
-        &mut keeper,
-        &mut source,
+        desk.shared(),
+        &mut pass,
+        source,
         &mut sink,
         &clock,
     );
@@ -64,7 +116,7 @@ fn served(rt: &impl Abort, alloc: Global, text: &str, failing: &[u64], most: usi
     Told {
         end,
         responses: responses.replace(alloc, "\"", "'").expect(rt, "memory"),
-        kept: keeper.tables().acts.len(),
+        kept: desk.finish(pass).keeper.tables().acts.len(),
     }
 }
 
@@ -97,7 +149,7 @@ fn acts_are_made_in_turn(rt: HostRuntime) {
 }
 
 /// Whether the message, behind the opening ones, has this response and nothing is kept of it.
-fn has(rt: &impl Abort, alloc: Global, message: &str, wanted: &str) -> bool {
+fn has<R: Abort + Wait>(rt: &R, alloc: Global, message: &str, wanted: &str) -> bool {
     let mut text = opening(rt, alloc);
     text.push_str(message).expect(rt, "memory");
     let mut responses = opened(rt, alloc);
