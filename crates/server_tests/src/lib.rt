@@ -6,6 +6,10 @@ mod faults;
 #[cfg(test)]
 mod fronts;
 #[cfg(test)]
+mod gated;
+#[cfg(test)]
 mod links;
 #[cfg(test)]
 mod serving;
+#[cfg(test)]
+mod two_clerks;

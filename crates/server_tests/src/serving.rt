@@ -5,7 +5,7 @@ use office_io::{FixedClock, MemorySink, MemorySource};
 use office_links::{Link, MemoryListener, listener_of_inputs};
 use office_server::run_serve;
 use plain_data::Text;
-use sample_office::{PLAN, RENTS, START, UNIT, day, written};
+use sample_office::{FACTS, PLAN, RENTS, START, UNIT, day, written};
 use std::alloc::Global;
 use std::process::Abort;
 use std::sync::Wait;
@@ -38,6 +38,20 @@ pub fn post(rt: &impl Abort, alloc: Global, request: u64, act: &str) -> String {
     );
     message.expect(rt, "memory")
 }
+
+/// The message that posts as clerk 1, with request 50, that household 1 has 10,800 dollars of benefits a year from 20 January
+/// 2024 on, told of in time and worked on on 1 February.
+pub fn raise(rt: &impl Abort, alloc: Global) -> String {
+    let facts = FACTS.replace(alloc, "9600", "10800").expect(rt, "memory");
+    let act = format!(in alloc;
+        "{{'done':'2024-02-01','event':'2024-01-20','facts':{facts},'from':'2024-03-01','household':1,'kind':'interim','notice':'2024-01-25','seen':1}}"
+    );
+    post(rt, alloc, 50, &act.expect(rt, "memory"))
+}
+
+/// The reply to it where it is act 5.
+pub const RAISED: &str =
+    "{'act':5,'day':'2024-02-01','made':{'assistance':500,'household':1,'record':2,'reimbursement':0,'tenant_rent':200,'ttp':260}}";
 
 /// A listener of a link for each of these texts, whose sink has so much room.
 pub fn links(
