@@ -48,7 +48,8 @@ impl Told {
     }
 }
 
-/// Serves the messages, with ' for ", by the first pass of a desk on an empty book, whose keeper fails at these calls.
+/// Serves the messages, with ' for ", by the first pass of a desk on an empty book, whose keeper fails at these calls, of
+/// which the first, 0, is the load.
 fn served<R: Abort + Wait>(
     rt: &R,
     alloc: Global,
@@ -274,7 +275,7 @@ fn a_keeper_that_fails_is_blamed_once(rt: HostRuntime) {
             .push_str(&response(&rt, alloc, status, point, body))
             .expect(&rt, "memory");
     }
-    let told = served(&rt, alloc, &opening(&rt, alloc), &[2], 4_096);
+    let told = served(&rt, alloc, &opening(&rt, alloc), &[3], 4_096);
     assert!(rt; told.is(SessionEnd::Ended, &wanted, 2));
 }
 

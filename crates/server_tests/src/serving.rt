@@ -39,10 +39,13 @@ pub fn post(rt: &impl Abort, alloc: Global, request: u64, act: &str) -> String {
     message.expect(rt, "memory")
 }
 
-/// The message that posts as clerk 1, with request 50, that household 1 has 10,800 dollars of benefits a year from 20 January
-/// 2024 on, told of in time and worked on on 1 February.
+/// The message that posts as clerk 1, with request 50, that household 1 has 10,800 dollars of benefits a year and no medical
+/// expenses from 20 January 2024 on, told of in time and worked on on 1 February.
 pub fn raise(rt: &impl Abort, alloc: Global) -> String {
     let facts = FACTS.replace(alloc, "9600", "10800").expect(rt, "memory");
+    let facts = facts
+        .replace(alloc, "'medical':1000", "'medical':0")
+        .expect(rt, "memory");
     let act = format!(in alloc;
         "{{'done':'2024-02-01','event':'2024-01-20','facts':{facts},'from':'2024-03-01','household':1,'kind':'interim','notice':'2024-01-25','seen':1}}"
     );
