@@ -66,7 +66,9 @@ fn rows_in(rt: &HostRuntime, path: &str) -> Option<Rows> {
     let Ok(mut from) = Connection::open(rt, path) else {
         return None;
     };
-    rows_of(&mut from).ok()
+    let rows = rows_of(&mut from).ok();
+    // (a connection that goes out of use here would bring all that its store frees into this function's proof)
+    from.close().is_ok().then_some(rows)?
 }
 
 fn fill<S: Alter>(alloc: Global, conn: &mut Connection<S>, rows: &Rows) -> Result<(), Error> {

@@ -33,7 +33,22 @@ fn apply_all<B: Naming, R: Abort + Wait>(
     pass
 }
 
-fn by_two_threads<B: Naming + Send, R: Abort + Wait + Threads + Sync>(
+/// The same by two threads, of the second clerk and of the third.
+fn both_apply<B: Naming + Send, R: Abort + Wait + Threads + Sync>(
+    rt: &R,
+    alloc: Global,
+    desk: &SharedDesk<MemoryKeeper, B>,
+    second: Pass<B>,
+    third: Pass<B>,
+) -> (Pass<B>, Pass<B>) {
+    join(
+        rt,
+        move || apply_all(rt, alloc, desk, second, 2),
+        move || apply_all(rt, alloc, desk, third, 3),
+    )
+}
+
+fn by_three_threads<B: Naming + Send, R: Abort + Wait + Threads + Sync>(
     rt: &R,
     alloc: Global,
     history: NewHistory,
@@ -46,19 +61,22 @@ fn by_two_threads<B: Naming + Send, R: Abort + Wait + Threads + Sync>(
     let mut desk = desk::<MemoryKeeper, B, R>(rt, alloc, history, MemoryKeeper::new(alloc));
     let mut first = next_pass(rt, &mut desk);
     let second = next_pass(rt, &mut desk);
+    let third = next_pass(rt, &mut desk);
     let shared = desk.shared();
     book(rt, alloc, shared, &mut first, 1, PLAN);
-    let (mut first, mut second) = join(
+    let (mut first, (mut second, mut third)) = join(
         rt,
         move || apply_all(rt, alloc, shared, first, 1),
-        move || apply_all(rt, alloc, shared, second, 2),
+        move || both_apply(rt, alloc, shared, second, third),
     );
     let note = shared.note(&mut second);
     shared.learn(&mut first, note);
-    assert!(rt; first.seen() == 7);
+    let note = shared.note(&mut third);
+    shared.learn(&mut first, note);
+    assert!(rt; first.seen() == 10);
     let tables = desk.finish(first).tables;
-    assert!(rt; tables.acts.len() == 7);
-    for number in 1..=2 {
+    assert!(rt; tables.acts.len() == 10);
+    for number in 1..=3 {
         let own = tables
             .acts
             .iter()
@@ -69,7 +87,7 @@ fn by_two_threads<B: Naming + Send, R: Abort + Wait + Threads + Sync>(
 }
 
 #[test]
-fn two_threads_share_a_desk(rt: HostRuntime) {
+fn three_threads_share_a_desk(rt: HostRuntime) {
     let alloc = rt.alloc();
-    by_two_threads::<Brand, HostRuntime>(&rt, alloc, history(&rt, alloc));
+    by_three_threads::<Brand, HostRuntime>(&rt, alloc, history(&rt, alloc));
 }
