@@ -60,6 +60,13 @@ module _ (records live : List Record) (corrected : List (Option ℕ)) (indexed :
       let alike : get_or live i d ≡ get_or live j d = numbers_own records indexed.kept.numbered _ _ one other same in
       false≢true (sym (itself (get_or live i d)) ∙ subst (λ next. comes_before (get_or live i d) next ≡ true) (sym alike) behind)
 
+  -- and none the number 0
+  pub numbered_live : All (λ r. 1 ≤ r.number) live
+  numbered_live k d within = at_least (counted (get_or live k d) (Contains-get_or live k d within))
+    where
+      at_least : Contains records (get_or live k d) → 1 ≤ (get_or live k d).number
+      at_least (place, low, at) = omega (arith, ap (λ (r : Record). r.number) at, indexed.kept.numbered.number place (get_or live k d) low)
+
   older : (held r : Record) → held.number ≡ newest_number records + 1 → Contains records r → r.number < held.number
   older held r next (place, low, at) =
       omega (arith, ap (λ (r : Record). r.number) at, indexed.kept.numbered.number place r low, indexed.kept.numbered.newest, next)

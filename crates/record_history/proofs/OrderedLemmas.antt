@@ -149,6 +149,11 @@ all-stay number live none =
         let low = slice_get_within live (position_or_len is_gone live) r (sym (find_at is_gone live) ∙ is) in
         absurd (let there = rw (lt-ltb _ _ low) at none in cc)
 
+-- and where no record has it, all do
+pub none_out : (live : List Record) → All (λ r. 1 ≤ r.number) live → filter (λ r. not (r.number == 0)) live ≡ live
+none_out live numbered =
+    filter_all (λ (r : Record). not (r.number == 0)) live (λ k d within. rw (ne_eqb (get_or live k d).number 0 (λ none. absurd (omega (arith, none, numbered k d within)))) refl)
+
 -- ---- what follows
 
 pub itself : (r : Record) → comes_before r r ≡ false

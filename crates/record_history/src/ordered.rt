@@ -48,6 +48,7 @@ pub fn follow(live: &mut Vec<Record>, held: &Record)
     requires room { vec_len live.old < vec_capacity live.old }
     requires in_order { StandInOrder live.old.items }
     requires own { AllPairs (λ r other. r.number ≢ other.number) live.old.items }
+    requires numbered { All (λ r. 1 ≤ r.number) live.old.items }
     requires newest { All (λ r. r.number < held.now.number) live.old.items }
     ensures live { AreInOrder (with_live live.old.items held.now) live.new.items }
     ensures len { vec_len live.new ≤ vec_len live.old + 1 }
@@ -73,12 +74,17 @@ fn put_in(live: &mut Vec<Record>, held: Record)
     let _ = live.insert(at, held);
 }
 
+/// Takes out the record of that number, where 0 is that of none.
 fn take_out(live: &mut Vec<Record>, number: u32)
-    requires { AllPairs (λ r other. r.number ≢ other.number) live.old.items }
+    requires numbered { All (λ r. 1 ≤ r.number) live.old.items }
+    requires own { AllPairs (λ r other. r.number ≢ other.number) live.old.items }
     ensures items { live.new.items ≡ filter (λ r. not (r.number == number)) live.old.items }
     ensures len { vec_len live.new ≤ vec_len live.old }
     ensures capacity { vec_capacity live.new ≡ vec_capacity live.old }
 {
+    if number == 0 {
+        return;
+    }
     if let Some(place) = place_of(live, number) {
         let _ = live.remove(place);
     }

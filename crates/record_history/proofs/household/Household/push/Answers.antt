@@ -1,11 +1,14 @@
 use Rattle.record_history.proofs.Words.{◌≤◌, ◌+◌, length, rules}
-use Rattle.record_history.proofs.Following.{own_live, older_live, indexed_push}
+use Rattle.record_history.proofs.Following.{own_live, numbered_live, older_live, indexed_push}
 use Rattle.record_history.proofs.CorrectedLemmas.{corrected_push}
 use Rattle.record_history.proofs.household.Household.push.Goals as goal
 
 pub follow-requires-clause-own : goal.follow-requires-clause-own
 follow-requires-clause-own c =
     own_live c.args.self.now.records.items c.args.self.now.live.items c.args.self.now.corrected.items c.requires.indexed
+
+pub follow-requires-clause-numbered : goal.follow-requires-clause-numbered
+follow-requires-clause-numbered c = numbered_live c.args.self.now.records.items c.args.self.now.live.items c.args.self.now.corrected.items c.requires.indexed
 
 pub follow-requires-clause-newest : goal.follow-requires-clause-newest
 follow-requires-clause-newest c =
