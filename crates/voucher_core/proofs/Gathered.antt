@@ -1,11 +1,15 @@
 -- Lines that are gathered one after another.
-use Rattle.voucher_core.proofs.Words.{◌≡◌, ℕ, suc, ◌+◌, ◌-◌, ◌<◌, ◌≤◌, List, [], ◌∷◌, ◌++◌, length, map, take, drop, get_or, set, Option, Some, pos, ◌-ℤ◌, max, false, refl, ap, sym, ◌∙◌, subst, arith, append_assoc, to_z, of_z, w32, SomeIff, ◌==◌, ne_eqb, Record, range_with_len, flat_map, ints, to_z-of_z, to_z_pos, flat_map_more, map_push, take_more, drop_more, append-nil, length-take-le, Closing, Line, lines_for, adjustment_lines, placed, range-more}
+use Rattle.voucher_core.proofs.Words.{◌≡◌, ℕ, zero, suc, ◌+◌, ◌-◌, ◌<◌, ◌≤◌, List, [], ◌∷◌, ◌++◌, length, map, take, drop, get_or, set, Option, Some, None, pos, ◌-ℤ◌, max, false, refl, ap, sym, ◌∙◌, subst, arith, append_assoc, to_z, of_z, w32, SomeIff, ◌==◌, ne_eqb, Record, range_with_len, flat_map, ints, to_z-of_z, to_z_pos, flat_map_more, map_push, take_more, drop_more, append-nil, length-take-le, Closing, Line, lines_for, adjustment_lines, placed, range-more}
 use Rattle.std.proofs.Math.Seq.{set-append_seam, get_or-append_seam}
 use Rattle.days_core.specs.RentBounds.{most_gross_rent}
 
 -- the value that is there
 pub unwrapped : {T : Type 0} (o : Option T) (P : Type 0) (v x : T) → SomeIff o P v → o ≡ Some x → x ≡ v
 unwrapped o P v x h e = (subst (λ (q : Option _). SomeIff q P v) e h).1
+
+-- and where none is, it can't be
+pub nothing_there : {T : Type 0} (o : Option T) (P : Type 0) (v : T) → SomeIff o P v → o ≡ None → ¬ P
+nothing_there o P v h e = subst (λ (q : Option _). SomeIff q P v) e h
 
 -- one piece more
 pub pieces-more : (f : ℕ → List Line) (a k : ℕ) (start lines new : List Line) → a ≤ k → lines ≡ start ++ flat_map f (range_with_len a (k - a)) →
@@ -28,11 +32,16 @@ some-more f of xs i d start lines new within so_far more =
 pub none-more : (lines new none : List Line) → new ≡ lines → none ≡ [] → new ≡ lines ++ none
 none-more lines new none same is = same ∙ sym (append-nil lines) ∙ ap (λ (ls : List Line). lines ++ ls) (sym is)
 
--- no piece yet
-pub pieces-none : (f : ℕ → List Line) (a k : ℕ) (start : List Line) → k ≡ a → start ≡ start ++ flat_map f (range_with_len a (k - a))
-pieces-none f a k start same =
-    let none : 0 ≡ k - a = omega arith in
-    sym (append-nil start) ∙ ap (λ (n : ℕ). start ++ flat_map f (range_with_len a n)) none
+-- no piece yet, where each so far adds nothing
+pub pieces-none : (f : ℕ → List Line) (a k : ℕ) (start : List Line) → a ≤ k → ((n : ℕ) → a ≤ n → n < k → f n ≡ []) →
+    start ≡ start ++ flat_map f (range_with_len a (k - a))
+pieces-none f a k start low none =
+    sym (append-nil start) ∙ ap (λ (ls : List Line). start ++ ls) (sym (all_none a (k - a) (λ n from to. none n from (omega (arith, to)))))
+  where
+    all_none : (first count : ℕ) → ((n : ℕ) → first ≤ n → n < first + count → f n ≡ []) → flat_map f (range_with_len first count) ≡ []
+    all_none first zero each = refl
+    all_none first (suc count) each =
+        rw (each first (omega arith) (omega arith)) (all_none (first + 1) count (λ n from to. each n (omega (arith, from)) (omega (arith, to))))
 
 -- all adjustments
 pub adjustments-all : (own : ℕ → List Record) (count : ℕ) (closing : Closing) (month : ℕ) (start lines : List Line) → (closing.last_close ≡ 0 → ⊥) →

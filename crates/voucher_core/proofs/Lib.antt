@@ -11,6 +11,7 @@ pub mod Usable
 pub mod Unchanged
 pub mod Untouched
 pub mod Newer
+pub mod Counted
 pub mod Gathered
 pub mod Few
 pub mod LongestRuns

@@ -1,8 +1,10 @@
 -- The newest records, and from which day on they touch a household.
-use Rattle.voucher_core.proofs.Words.{◌≡◌, ℕ, zero, suc, ◌<◌, ◌≤◌, List, [], ◌∷◌, Bool, true, false, length, get_or, drop, refl, sym, arith, nat_tests, All, nat_le, nat_lt, ◌==◌, ◌&&◌, eqb-true, filter_all, All-passing, Record, AreNumbered, ActsRise, made_after, earlier_start, is_newly_corrected, is_touched, TouchesFrom}
+use Rattle.voucher_core.proofs.Words.{◌≡◌, ℕ, zero, suc, ◌<◌, ◌≤◌, List, [], ◌∷◌, Bool, true, false, length, get_or, drop, refl, sym, arith, nat_tests, All, nat_le, nat_lt, ◌==◌, ◌&&◌, eqb-true, filter_all, All-passing, last_of, first_of-suc, days_in_bounds, Record, AreNumbered, ActsRise, made_after, earlier_start, is_newly_corrected, is_touched, TouchesFrom}
 use Rattle.std.specs.List.Sorted.{IsPartitionPoint, IsPartitionedBy}
 use Rattle.std.specs.Prelude.{min}
 use Rattle.std.proofs.lemmas.{Bool.and_parts, List.Folds.Any-from_list_any, List.Sorted.IsPartitionedBy-leb}
+use Rattle.days_core.specs.Calendar.{last_month, month_of}
+use Rattle.days_core.proofs.Bridge.{first_of_mono, first_of-end, month_up_to_begins}
 use Rattle.voucher_core.proofs.Named.{lead_back}
 
 -- The newest records ----
@@ -54,3 +56,14 @@ module _ (records : List Record) (numbered : AreNumbered records) (last day : �
             day ≤ (get_or records k d).from
         by_either k d within touched true is = omega (arith, newer k d within is)
         by_either k d within touched false is = corrected k d within (rw is at touched)
+
+-- Months before a day ----
+
+-- a month before that of a day ends before the day
+pub ends_before : (month day : ℕ) → month < month_of day → last_of month < day
+ends_before month day before =
+    omega (arith, first_of_mono (suc month) (month_of day) (omega arith), month_up_to_begins last_month day, first_of-suc month, days_in_bounds month)
+
+-- and each month before those that the calendar doesn't have
+pub ends_by_last : (month day : ℕ) → month ≤ 3839 → 116877 < day → last_of month < day
+ends_by_last month day within past = omega (arith, first_of_mono (suc month) 3840 (omega arith), first_of-end)

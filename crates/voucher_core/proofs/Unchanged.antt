@@ -19,7 +19,7 @@ by_greatest act most (r ∷ rs) within =
     let rest = by_greatest act (max most r.act) rs within in
     (omega (arith, rest.0), All-cons (λ (q : Record). q.act ≤ act) r rs (omega (arith, rest.0)) rest.1)
 
-all_known : (act : ℕ) (records : List Record) → newest_act records ≤ act → as_of act records ≡ records
+pub all_known : (act : ℕ) (records : List Record) → newest_act records ≤ act → as_of act records ≡ records
 all_known act records newest =
     filter_all (λ (r : Record). nat_le r.act act) records (λ k d within. le-leb _ act ((by_greatest act 0 records newest).1 k d within))
 

@@ -1,6 +1,6 @@
 -- Before the first day that new records touch, nothing has changed.
-use Rattle.voucher_core.proofs.Words.{◌≡◌, ℕ, ◌<◌, ◌≤◌, List, [], ◌∷◌, Bool, true, false, Some, refl, ap, sym, ◌∙◌, arith, nat_tests, common_steps, All, filter, nat_le, nat_lt, ◌==◌, ◌&&◌, get_or, list_any, or_parts, ltb-false, le-leb, lt-leb, last_of, first_of-suc, filter_alike, filter-filter, Record, Stretch, as_of, is_live, latest, in_force, Change, Closing, day_at, force_on, changes, household_lines, is_newly_corrected, is_touched, TouchesFrom}
-use Rattle.voucher_core.proofs.{Alike.force_of, Alike.force_is, Named.changes_of_days, Unchanged.IsUnchanged, Unchanged.no_line}
+use Rattle.voucher_core.proofs.Words.{◌≡◌, ℕ, ◌<◌, ◌≤◌, List, [], ◌∷◌, Bool, true, false, Some, refl, ap, sym, ◌∙◌, arith, nat_tests, common_steps, All, filter, nat_le, nat_lt, ◌==◌, ◌&&◌, get_or, list_any, or_parts, ltb-false, le-leb, lt-leb, last_of, first_of-suc, filter_alike, filter-filter, Record, Stretch, as_of, is_live, latest, in_force, Change, Closing, day_at, force_on, changes, lines_for, household_lines, changed_since, touched_household, is_newly_corrected, is_touched, TouchesFrom, BeginsUntouched, IsTouchedAfter, Touched, Line, map, flat_map, All-head, All-tail}
+use Rattle.voucher_core.proofs.{Alike.force_of, Alike.force_is, Named.changes_of_days, Unchanged.IsUnchanged, Unchanged.no_line, Unchanged.all_of_changed}
 
 never : (a b : Bool) → (a && (b && false)) ≡ false
 never a b = grind (arith, common_steps)
@@ -61,3 +61,21 @@ none_before own closing order household month first touches before = no_line clo
         let key = is.key run.first (omega arith) is.in_order in
         let earlier : day_at month run.first < first = omega (arith, first_of-suc month, is.to, is.from, is.in_order) in
         cc (same_force closing.last_close closing.act order (own household) first (day_at month run.first) touches earlier)
+
+-- and one that ends before each of their first days has none at all
+pub month_untouched : (own : ℕ → List Record) (count : ℕ) (closing : Closing) (changed : List Touched) → closing.last_close ≤ closing.act →
+    map touched_household changed ≡ changed_since closing.last_close own count → All (BeginsUntouched closing.last_close own) changed →
+    (month : ℕ) → All (IsTouchedAfter month) changed → lines_for own count closing (Some closing.last_close) month ≡ []
+month_untouched own count closing changed order same untouched month after =
+    sym (all_of_changed own count closing month order) ∙ ap (flat_map of_household) (sym same) ∙ none_of changed untouched after
+  where
+    of_household : ℕ → List Line
+    of_household h = household_lines own closing (Some closing.last_close) h month
+
+    none_of : (touched : List Touched) → All (BeginsUntouched closing.last_close own) touched → All (IsTouchedAfter month) touched →
+        flat_map of_household (map touched_household touched) ≡ []
+    none_of [] all later = refl
+    none_of (t ∷ ts) all later =
+        rw (none_before own closing order t.household month t.first
+        (All-head (BeginsUntouched closing.last_close own) t ts all) (All-head (IsTouchedAfter month) t ts later).after)
+        (none_of ts (All-tail (BeginsUntouched closing.last_close own) t ts all) (All-tail (IsTouchedAfter month) t ts later))

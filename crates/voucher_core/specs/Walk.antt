@@ -1,6 +1,7 @@
 -- How a closing goes over households and days: past those that add nothing.
-use Rattle.std.specs.Prelude.{ℕ, ◌<◌, ◌≤◌, ◌≡◌, ◌==◌, ◌&&◌, ◌||◌, nat_lt, min, Bool, true, All, List, [], ◌∷◌, filter, find, Option}
+use Rattle.std.specs.Prelude.{ℕ, ◌<◌, ◌≤◌, ◌≡◌, ◌==◌, ◌&&◌, ◌||◌, nat_lt, min, Bool, true, All, List, [], ◌∷◌, filter, find, Option, IfSome}
 use Rattle.std.specs.{List.range_with_len, List.list_any, Option.option_map_or}
+use Rattle.days_core.specs.Calendar.{last_of}
 use Rattle.record_history.specs.{declared.records.Record.Record, declared.stretch.Stretch.Stretch, Records.as_of, Records.newest_act}
 use Rattle.voucher_core.specs.{declared.closing.Closing.Closing, declared.line.Line.Line, declared.touched.Touched.Touched, Lines.month_lines, Lines.known_before}
 
@@ -40,9 +41,17 @@ touched_household t = t.household
 abbrev pub BeginsUntouched : ℕ → (ℕ → List Record) → Touched → Type 0
 BeginsUntouched last_close own t = TouchesFrom last_close (own t.household) t.first
 
+-- nor does anything change for it in the month, or before
+pub record IsTouchedAfter (month : ℕ) (t : Touched) : Type 0 where
+  pub after : last_of month < t.first
+
 -- the record doesn't begin after the day and before the next
 pub record BeginsNotWithin (day next : ℕ) (r : Record) : Type 0 where
   pub outside : day < r.from → next ≤ r.from
+
+-- nor does the one that the record corrects or withdraws, if it is among these
+pub record CorrectsNotWithin (records : List Record) (day next : ℕ) (r : Record) : Type 0 where
+  pub corrected : IfSome (find (λ c. c.number == r.corrects) records) (BeginsNotWithin day next)
 
 -- the stretches, of which the newest is the first, with that one going on to the day
 abbrev pub up_to : {K : Type 0} → ℕ → List (Stretch K) → List (Stretch K)

@@ -7,11 +7,12 @@ ghost use Rattle.record_history.specs.Held.{records_of};
 ghost use Rattle.record_history.specs.Stretch.{with_day};
 ghost use Rattle.voucher_core.specs.Lines.{known_before, force_on, change_on, is_same_change, changes};
 ghost use Rattle.voucher_core.specs.Bounds.{IsUsable};
-ghost use Rattle.voucher_core.specs.Walk.{BeginsNotWithin, up_to};
+ghost use Rattle.voucher_core.specs.Walk.{up_to};
 
+use crate::starts::next_start;
 use days_core::{Day, Month, first_of, last_of};
 use plain_data::NoMemory;
-use record_history::{History, Record, Stretch, add_day};
+use record_history::{History, Stretch, add_day};
 
 /// What counts in a closing of the record in force: 0 and 0 where none is.
 #[derive(Clone, Copy, PartialEq, Eq)]
@@ -34,7 +35,7 @@ const NOTHING: InForce = InForce {
 
 /// Makes the runs the changes of a month for a household, the days by their places in the month.
 ///
-/// What is in force is looked up once for each run of days on which no record begins but on the first.
+/// What is in force is looked up once for each run of days on which no record that counts begins but on the first.
 pub fn changes_of_month(
     runs: &mut Vec<Stretch<Change>>,
     history: &History,
@@ -51,29 +52,12 @@ pub fn changes_of_month(
     let end = last_of(month).number() + 1;
     let mut day = first;
     while day < end {
-        let next = next_start(history.records(household), day, end);
+        let next = next_start(history, household, day, end, paid_at, act);
         let change = change_on(history, household, day, paid_at, act);
         add_run(runs, day + 1 - first, next - first, change)?;
         day = next;
     }
     Ok(())
-}
-
-/// The first day after this one on which some record begins, or the end where none does before it.
-fn next_start(records: &[Record], day: u32, end: u32) -> u32
-    requires { day < end }
-    ensures after { day < result }
-    ensures within { result ≤ end }
-    ensures none_between { All (BeginsNotWithin day result) records.now }
-{
-    let mut next = end;
-    for held in records {
-        let from = held.from.number();
-        if day < from && from < next {
-            next = from;
-        }
-    }
-    next
 }
 
 /// Adds the days from the first to the last, which follow those of the runs and have one change.

@@ -8,6 +8,7 @@ mod closing;
 mod laws;
 mod line;
 mod lines;
+mod starts;
 mod sums;
 mod touched;
 

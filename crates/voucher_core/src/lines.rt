@@ -11,7 +11,7 @@ ghost use Rattle.voucher_core.specs.Bounds.{IsUsable};
 ghost use Rattle.voucher_core.specs.Walk.{household_lines, touched_household, BeginsUntouched};
 
 use crate::changes::{Change, changes_of_month};
-use crate::touched::{Touched, touched_since};
+use crate::touched::{Touched, first_changed, touched_since};
 use crate::{Closing, Line};
 use days_core::{Day, Month, days_in, last_of};
 use plain_data::NoMemory;
@@ -21,8 +21,8 @@ use std::alloc::Global;
 
 /// Adds the lines for the months before the closed one, which are none where there was no closing before.
 ///
-/// Only the households that have a new record since the last closing are looked at, and only from the month on in which
-/// something can have changed for them.
+/// Only the households that have a new record since the last closing are looked at, and only from the first month on in
+/// which something can have changed for one of them.
 pub fn add_adjustments(
     alloc: Global,
     lines: &mut Vec<Line>,
@@ -38,7 +38,7 @@ pub fn add_adjustments(
     }
     let changed = touched_since(alloc, history, closing.last_close)?;
     let mut runs = Vec::new(alloc);
-    for month in closing.first_month.number()..closing.closed.number() {
+    for month in first_changed(&changed, closing)..closing.closed.number() {
         let month = Month::from_number(month).unwrap();
         add_changed(lines, &mut runs, history, &changed, closing, month)?;
     }

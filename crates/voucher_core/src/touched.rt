@@ -1,9 +1,11 @@
 //! The households for which something may have changed since a closing, and from which day on.
 
-ghost use Rattle.std.specs.Prelude.{◌≡◌, ◌≤◌, All, IfOk, map, length};
+ghost use Rattle.std.specs.Prelude.{◌≡◌, ◌≤◌, ◌<◌, ℕ, max, All, IfOk, map, length};
 ghost use Rattle.record_history.specs.Held.{records_of, ActsRise};
-ghost use Rattle.voucher_core.specs.Walk.{changed_since, made_after, earlier_start, touched_household, BeginsUntouched, TouchesFrom};
+ghost use Rattle.voucher_core.specs.Walk.{changed_since, made_after, earlier_start, touched_household, BeginsUntouched, TouchesFrom, IsTouchedAfter};
 
+use crate::Closing;
+use days_core::{Day, month_of};
 use plain_data::NoMemory;
 use record_history::{History, Record};
 use std::alloc::Global;
@@ -48,7 +50,7 @@ fn touched_from(history: &History, household: u32, last_close: u32) -> u32
 }
 
 /// The records of acts after that one, of records in the order of their acts.
-fn made_after(records: &[Record], last_close: u32) -> &[Record]
+pub fn made_after(records: &[Record], last_close: u32) -> &[Record]
     requires { ActsRise records.now }
     ensures { result.now ≡ made_after last_close records.now }
 {
@@ -65,4 +67,29 @@ fn earlier_start(history: &History, household: u32, held: &Record) -> u32
         Some(corrected) => own.min(corrected.from.number()),
         None => own,
     }
+}
+
+/// The number of the first month, up to the closed one, in which something may have changed for one of these.
+pub fn first_changed(changed: &[Touched], closing: &Closing) -> u32
+    ensures from { closing.now.first_month ≤ result }
+    ensures to { result ≤ max closing.now.first_month closing.now.closed }
+    ensures untouched { (month : ℕ) → closing.now.first_month ≤ month → month < result → All (IsTouchedAfter month) changed.now }
+{
+    let closed = closing.closed.number();
+    let reached = match Day::from_number(first_day(changed)) {
+        Some(day) => closed.min(month_of(day).number()),
+        None => closed,
+    };
+    reached.max(closing.first_month.number())
+}
+
+/// The first of their days.
+fn first_day(changed: &[Touched]) -> u32
+    ensures { All (λ t. result ≤ t.first) changed.now }
+{
+    let mut first = u32::MAX;
+    for touched in changed {
+        first = first.min(touched.first);
+    }
+    first
 }

@@ -1,4 +1,4 @@
-use Rattle.voucher_core.proofs.Words.{◌≡◌, ◌-◌, ◌∙◌, arith, List, All, last_of, first_of, first_of-suc, days_in_bounds, Record, as_of, records_of, newest_first, day_at, known_before, change_on, is_same_change, BeginsNotWithin}
+use Rattle.voucher_core.proofs.Words.{◌≡◌, ◌-◌, ◌∙◌, arith, List, last_of, first_of, first_of-suc, days_in_bounds, Record, as_of, records_of, newest_first, day_at, known_before, change_on, is_same_change}
 use Rattle.voucher_core.proofs.Alike.{change_alike}
 use Rattle.voucher_core.proofs.Usable.{no_day, none_allowed, next_run, run_allowed, all_days, all_usable}
 use Rattle.voucher_core.proofs.changes.changes_of_month.Goals as goal
@@ -22,8 +22,9 @@ pub loop-day-preserved : goal.loop-day-preserved
 loop-day-preserved c =
     let own : List Record = records_of c.args.history.now.households c.args.household in
     let first : c.number-first.result ≡ first_of c.args.month = c.number-first.ensures.value ∙ c.first_of.ensures in
-    let apart : All (BeginsNotWithin c.loop-day.day c.next_start-next.result) own = rw (← c.records.ensures.records) c.next_start-next.ensures.none_between in
-    let alike = λ (other : _) (from : _) (to : _). change_alike own c.args.act c.loop-day.day c.next_start-next.result other apart from to c.args.paid_at in
+    let alike = λ (other : _) (from : _) (to : _).
+    change_alike (known_before c.args.paid_at own) (as_of c.args.act own) c.loop-day.day c.next_start-next.result other
+    c.next_start-next.ensures.before c.next_start-next.ensures.now from to in
     record {
       from = omega arith;
       to = c.next_start-next.ensures.within;

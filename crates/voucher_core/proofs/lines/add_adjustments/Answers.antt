@@ -1,12 +1,16 @@
 use Rattle.voucher_core.proofs.Words.{◌≡◌, ◌++◌, ◌∙◌, ap, arith, length, Some, ℕ, List, map, flat_map, records_of, Line, lines_for, household_lines, touched_household}
-use Rattle.voucher_core.proofs.{Gathered.pieces-none, Gathered.pieces-more, Gathered.adjustments-all, Gathered.unwrapped, Unchanged.all_of_changed}
+use Rattle.voucher_core.proofs.{Gathered.pieces-none, Gathered.pieces-more, Gathered.adjustments-all, Gathered.unwrapped, Unchanged.all_of_changed, Untouched.month_untouched}
 use Rattle.voucher_core.proofs.lines.add_adjustments.Goals as goal
 
 pub loop-month-init : goal.loop-month-init
 loop-month-init c = record {
   lines =
       pieces-none (lines_for (records_of c.args.history.now.households) (length c.args.history.now.households) c.args.closing.now (Some c.args.closing.now.last_close))
-      c.args.closing.now.first_month c.number-month.result c.args.lines.now.items c.number-month.ensures.value;
+      c.args.closing.now.first_month c.first_changed-month.result c.args.lines.now.items c.first_changed-month.ensures.from
+      (λ month from to.
+      month_untouched (records_of c.args.history.now.households) (length c.args.history.now.households) c.args.closing.now c.in_ok-changed.changed.items
+      c.requires.last_close c.in_ok-changed.ensures.households c.in_ok-changed.ensures.untouched month
+      (rw c.deref.ensures.value at (c.first_changed-month.ensures.untouched month from to)));
   within = omega arith;
 }
 
@@ -19,10 +23,10 @@ loop-month-preserved c =
           c.args.closing.now.first_month c.loop-month.month c.args.lines.now.items c.loop-month.lines.items c.add_changed.new.lines.items (omega arith) c.loop-month.invariant.lines
           (c.in_ok-add_changed.ensures
           ∙ ap (λ (m : ℕ). c.loop-month.lines.items
-          ++ flat_map (λ h. household_lines (records_of c.args.history.now.households) c.args.closing.now (Some c.args.closing.now.last_close) h m) (map touched_household c.deref.result.now)) found
+          ++ flat_map (λ h. household_lines (records_of c.args.history.now.households) c.args.closing.now (Some c.args.closing.now.last_close) h m) (map touched_household c.deref-in-loop-month.result.now)) found
           ∙ ap (λ (hs : List ℕ). c.loop-month.lines.items
           ++ flat_map (λ h. household_lines (records_of c.args.history.now.households) c.args.closing.now (Some c.args.closing.now.last_close) h c.loop-month.month) hs)
-          (ap (map touched_household) c.deref.ensures.value ∙ c.in_ok-changed.ensures.households)
+          (ap (map touched_household) c.deref-in-loop-month.ensures.value ∙ c.in_ok-changed.ensures.households)
           ∙ ap (λ (more : List Line). c.loop-month.lines.items ++ more)
           (all_of_changed (records_of c.args.history.now.households) (length c.args.history.now.households) c.args.closing.now c.loop-month.month c.requires.last_close));
       within = omega arith;
