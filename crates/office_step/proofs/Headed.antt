@@ -1,9 +1,8 @@
 -- The record of an act stands under the act's heading.
-use Rattle.std.proofs.Common.{◌≡◌, ◌∙◌, sym, ap, refl, subst, ℕ, ◌+◌, Bool, true, false, Some}
+use Rattle.std.proofs.Common.{◌≡◌, ◌∙◌, sym, ap, refl, subst, ℕ, ◌+◌, Bool, false, Some}
 use Rattle.std.proofs.lemmas.Option.{option_and_then_some, same_Some}
 use Rattle.list_laws.proofs.Options.{option_map_some}
 use Rattle.record_history.specs.{declared.records.Record.Record, Records.newest_number}
-use Rattle.facts_core.specs.declared.facts.Facts.{Facts}
 use Rattle.rent_table.specs.Table.{limits_on}
 use Rattle.certified_figures.specs.{Figures.figures_of, Figures.carried_figures, Figures.no_figures, declared.figures.Figures.Figures}
 use Rattle.book_rows.specs.declared.{command.Command.Command, household.HouseholdChange.HouseholdChange}

@@ -1,3 +1,4 @@
 pub mod Passed
 pub mod Earlier
 pub mod Headed
+pub mod NoneStale
