@@ -3,3 +3,4 @@ pub mod Lists
 pub mod Sound
 pub mod Standing
 pub mod Next
+pub mod Reviewed

@@ -3,7 +3,8 @@ use Rattle.office_register.proofs.Words.{nat_tests, ◌≡◌, refl, ℕ, ◌+�
 use Rattle.std.proofs.lemmas.List.Sums.{sum_by_push, sum_by-set}
 use Rattle.record_history.specs.Records.{newest_act}
 use Rattle.rent_table.specs.declared.rows.LimitRow.{LimitRow}
-use Rattle.office_step.specs.declared.known.{Application.Application, Request.Request}
+use Rattle.days_core.specs.OfficeDays.{last_office_month}
+use Rattle.office_step.specs.declared.known.{Application.Application, Request.Request, Closed.Closed}
 use Rattle.record_history.proofs.Latest.{records_are}
 
 -- ---- a record among those of its household
@@ -148,6 +149,20 @@ module _ (known : Known) (s : IsSound known) (few : known.count < 100000) where
             (All-push (All (λ r. r.act ≤ known.count + 1)) known.households [] later.households.acts (All-nil (λ r. r.act ≤ known.count + 1))) (omega arith);
         dates = record_pushed HasDates more r (All-push (All HasDates) known.households [] s.households.dates (All-nil HasDates)) dates;
       })
+
+  pub sound_closing : (closing : Closed) → closing.month ≤ last_office_month → closing.act ≡ known.count + 1 →
+      IsSound (record known { count = known.count + 1; closing = Some closing })
+  sound_closing closing month act = record {
+    count = later.count;
+    plan = s.plan;
+    plan_act = s.plan_act;
+    units = later.units;
+    rents = later.rents;
+    limits = later.limits;
+    applicants = later.applicants;
+    households = later.households;
+    closing = record { month = month; act = omega (arith, act) };
+  }
 
 pub sound_without : (known : Known) (number : ℕ) → IsSound known → IsSound (record known { waiting = without number known.waiting })
 sound_without known number s = record {

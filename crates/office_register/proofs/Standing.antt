@@ -1,7 +1,9 @@
 -- What an accepted act comes to, since nothing stands against it.
-use Rattle.office_register.proofs.Words.{◌≡◌, refl, sym, ℕ, ◌≤◌, ◌<◌, List, Option, Some, None, true, false, arith, All, length, ◌==◌, is_some, none-some, nat_tests, Record, UnitRow, unit_at, Applicant, is_listed, UnitAct, RentsAct, Command, is_fit, are_rents, Known, plan_given, book_full, Passed, passed, IsAccepted, common_steps}
+use Rattle.office_register.proofs.Words.{◌≡◌, refl, sym, ℕ, ◌≤◌, ◌<◌, List, Option, Some, None, true, false, arith, All, length, ◌==◌, is_some, none-some, nat_tests, Record, UnitRow, unit_at, Applicant, is_listed, UnitAct, RentsAct, Command, is_fit, are_rents, Known, plan_given, book_full, Passed, passed, IsAccepted, IsSound, common_steps}
 use Rattle.std.proofs.lemmas.List.Folds.{list_any_none}
-use Rattle.office_step.specs.declared.refusal.Refusal.{Refusal}
+use Rattle.days_core.specs.OfficeDays.{last_office_month}
+use Rattle.book_rows.specs.declared.closings.CloseAct.{CloseAct}
+use Rattle.office_step.specs.{declared.refusal.Refusal.Refusal, Against.wrong_month}
 use Rattle.list_laws.proofs.Finds.{find_fails}
 
 pub passes : {known : Known} {asked : Command} {made : Option Record} → (a : IsAccepted known asked made) → Passed known a.most a.today asked
@@ -27,6 +29,10 @@ rents_fit rents fit = grind (arith, common_steps)
 
 pub bedrooms_fit : (unit : UnitAct) → is_fit (Command.Unit unit) ≡ true → unit.bedrooms ≤ 5
 bedrooms_fit unit fit = grind (arith, common_steps)
+
+-- the month that is closed next is one that an office closes
+pub month_fits : (known : Known) (close : CloseAct) → IsSound known → wrong_month known (Command.Close close) ≡ None → close.month ≤ last_office_month
+month_fits known close sound none = grind (arith, nat_tests, common_steps, sound.plan, sound.closing, none)
 
 -- ---- what isn't there yet
 

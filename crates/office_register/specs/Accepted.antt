@@ -1,5 +1,5 @@
 -- Which acts may come next.
-use Rattle.std.specs.Prelude.{ℕ, ◌≡◌, ◌≤◌, ◌<◌, ◌+◌, Bool, true, false, Option, None, List, [], ◌∷◌, ◌++◌, unwrap_or}
+use Rattle.std.specs.Prelude.{ℕ, ◌≡◌, ◌≤◌, ◌<◌, ◌+◌, true, Option, None, List, [], ◌∷◌, ◌++◌, unwrap_or}
 use Rattle.std.specs.Option.{option_map}
 use Rattle.days_core.specs.OfficeDays.{last_office_day}
 use Rattle.record_history.specs.{declared.records.Record.Record, Records.newest_number, Held.with_record}

@@ -1,11 +1,14 @@
 -- What a register holds, the room that it has for more, and what holds of every register.
-use Rattle.std.specs.Prelude.{ℕ, ◌≡◌, ◌≤◌, true, Option, List, All, IfSome, length, sum_by, is_some}
+use Rattle.std.specs.Prelude.{ℕ, ◌≡◌, ◌≤◌, ◌<◌, true, false, Option, List, All, IfSome, length, sum_by, is_some}
 use Rattle.days_core.specs.{OfficeDays.last_office_day, OfficeDays.last_office_month}
 use Rattle.record_history.specs.declared.records.Record.{Record}
 use Rattle.rent_table.specs.declared.rows.{Unit.Unit as UnitRow, RentRow.RentRow, LimitRow.LimitRow}
 use Rattle.wait_list.specs.declared.applicant.Applicant.{Applicant}
 use Rattle.book_rows.specs.Fit.{is_plan, are_rents}
-use Rattle.office_step.specs.{declared.known.Application.Application, declared.known.Request.Request, declared.known.Closed.Closed, Known.Known, Households.AreBy}
+use Rattle.due_dates.specs.Stale.{is_rent_stale_on, rent_due_day_of}
+use Rattle.record_history.specs.Records.{newest_act}
+use Rattle.office_step.specs.{declared.known.Application.Application, declared.known.Request.Request, declared.known.Closed.Closed, Known.Known, Known.own_in, Households.AreBy, Against.plan_day}
+use Rattle.office_register.specs.declared.register.Reviewed.{Reviewed}
 
 -- what is known, for how many more rows of every sort there is room, and for how many more records of each household and,
 -- last, of the one to come
@@ -66,3 +69,27 @@ pub record IsSound (known : Known) : Type 0 where
   pub applicants : AreApplicants known.count known.applications known.waiting
   pub households : AreHouseholds known.count known.names known.households known.requests
   pub closing : IfSome known.closing (IsClosing known.count)
+
+-- the least day of the span on which the household's rents are stale
+abbrev pub rent_due_from : Known → ℕ → ℕ → ℕ → Option ℕ
+rent_due_from known household first last = rent_due_day_of (own_in known household) known.units known.rents first last
+
+-- the household has no stale rents on a day from the plan's first on and before that one
+abbrev pub HasNoneStale : Known → ℕ → ℕ → Type 0
+HasNoneStale known next household =
+    (day : ℕ) → plan_day known ≤ day → day < next → is_rent_stale_on (own_in known household) known.units known.rents day ≡ false
+
+-- so it is of each household of which no record came after the closing
+pub record IsReviewed (known : Known) (reviewed : Reviewed) : Type 0 where
+  pub act : reviewed.act ≤ known.count
+  pub first : plan_day known ≤ reviewed.next
+  pub none_stale : (household : ℕ) → newest_act (own_in known household) ≤ reviewed.act → HasNoneStale known reviewed.next household
+
+-- each of its days comes before that one
+abbrev pub EndsBefore : Known → ℕ → Reviewed → Type 0
+EndsBefore known next reviewed = (day : ℕ) → plan_day known ≤ day → day < reviewed.next → day < next
+
+-- what holds of a register
+pub record IsRegister (known : Known) (reviewed : Option Reviewed) : Type 0 where
+  pub sound : IsSound known
+  pub review : IfSome reviewed (IsReviewed known)

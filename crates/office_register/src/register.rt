@@ -1,4 +1,4 @@
-ghost use Rattle.std.specs.Prelude.{◌≡◌, true, Some, IfOk, is_some};
+ghost use Rattle.std.specs.Prelude.{◌≡◌, true, Some, IfOk, is_some, min, max};
 ghost use Rattle.wait_list.specs.Rank.{best_rank};
 ghost use Rattle.office_step.specs.Acts.{ranks_of};
 
@@ -6,7 +6,7 @@ use book_rows::{
     AdmitAct, ApplyAct, AskTransferAct, CloseAct, Command, HouseholdAct, LimitsAct, RemoveAct,
     RentsAct, StartAct, UnitAct,
 };
-use days_core::Month;
+use days_core::{Day, Month, first_of};
 use office_step::{Application, Closed, Request};
 use plain_data::{Listed, NoMemory, Text};
 use record_history::{Dates, History, Record};
@@ -30,10 +30,19 @@ pub struct Register {
     tenancies: Tenancies,
     requests: Vec<Option<Request>>,
     closing: Option<Closed>,
+    reviewed: Option<Reviewed>,
+}
+
+/// A closing that no plan or unit came after: it looked for stale rents on all days before this one, and no rents came
+/// after it that begin before.
+#[derive(Clone, Copy)]
+struct Reviewed {
+    act: u32,
+    next: Day,
 }
 
 impl Model for Register {
-    ghost use Rattle.office_register.specs.Registered.{Registered, IsSound};
+    ghost use Rattle.office_register.specs.Registered.{Registered, IsRegister};
 
     ghost Value = { Registered };
 
@@ -41,22 +50,25 @@ impl Model for Register {
 
     ghost view = { λ register. record { known = known_in register; room = room_in register; record_room = register.tenancies.room } };
 
-    ghost invariant = { λ register. IsSound (known_in register) };
+    ghost invariant = { λ register. IsRegister (known_in register) register.reviewed };
 }
 
 impl Register {
-    ghost use Rattle.std.specs.Prelude.{◌≡◌, ◌≤◌, ◌<◌, ◌+◌, [], ◌∷◌, ◌++◌, ℕ, None, Some, length, true, All, IfSome, IfOk, OnOk, IsOk, is_some, option_copied, sum_by};
+    ghost use Rattle.std.specs.Prelude.{◌≡◌, ◌≤◌, ◌<◌, ◌+◌, [], ◌∷◌, ◌++◌, ℕ, None, Some, length, true, All, IfSome, IfOk, OnOk, IsOk, is_some, option_copied, sum_by, nat_le};
     ghost use Rattle.days_core.specs.OfficeDays.{last_office_month};
+    ghost use Rattle.days_core.specs.Calendar.{last_of};
     ghost use Rattle.record_history.specs.Held.{room_of, with_record, IsWithin};
+    ghost use Rattle.record_history.specs.Records.{newest_act};
     ghost use Rattle.wait_list.specs.Waiting.{without};
     ghost use Rattle.book_rows.specs.Book.{empty_book};
     ghost use Rattle.book_rows.specs.Fit.{is_plan, are_rents};
     ghost use Rattle.book_rows.specs.declared.command.Command.TheVariants as command;
     ghost use Rattle.office_step.specs.Acts.{at_number, name_given};
     ghost use Rattle.office_register.specs.Accepted.{applicant_name};
-    ghost use Rattle.office_step.specs.Known.{known_of};
+    ghost use Rattle.office_step.specs.Known.{known_of, own_in};
+    ghost use Rattle.office_step.specs.Against.{plan_day};
     ghost use Rattle.office_step.specs.After.{next_act, known_after};
-    ghost use Rattle.office_register.specs.Registered.{HasDates};
+    ghost use Rattle.office_register.specs.Registered.{HasDates, IsReviewed, EndsBefore, rent_due_from};
     ghost use Rattle.office_register.specs.Accepted.{IsAccepted, IsNext, with_household, with_further};
 
     pub fn new(alloc: Global) -> Result<Register, NoMemory>
@@ -73,6 +85,7 @@ impl Register {
             tenancies: Tenancies::new(alloc)?,
             requests: Vec::new(alloc),
             closing: None,
+            reviewed: None,
         })
     }
 
@@ -187,6 +200,34 @@ impl Register {
         self.closing
     }
 
+    /// The first day of the plan, and 1880-01-01 where there is none.
+    pub fn plan_day(&self) -> Day
+        ensures { result ≡ plan_day self.now.known }
+    {
+        match &self.plan {
+            Some(plan) => first_of(plan.first),
+            None => Day::from_number(0).unwrap(),
+        }
+    }
+
+    /// From which day on the household's rents may have become stale: what is looked for from the plan's first day on is
+    /// found from this one on. All days before it were looked at by the last closing, where nothing has changed them since.
+    pub fn review_day(&self, household: u32) -> Day
+        ensures { (last : ℕ) → rent_due_from self.now.known household result last ≡ rent_due_from self.now.known household (plan_day self.now.known) last }
+    {
+        match self.reviewed {
+            Some(reviewed) if self.is_unchanged(household, reviewed.act) => reviewed.next,
+            _ => self.plan_day(),
+        }
+    }
+
+    /// Whether no record of the household came after the act.
+    fn is_unchanged(&self, household: u32, act: u32) -> bool
+        ensures { result ≡ nat_le (newest_act (own_in self.now.known household)) act }
+    {
+        self.history().newest_act(household) <= act
+    }
+
     /// Knows of one more act, and takes no memory: the one of the command that was asked, the name of the household that it
     /// makes and the record that it makes.
     pub fn note(&mut self, asked: Command, name: Option<Text>, made: Option<Record>)
@@ -293,6 +334,7 @@ impl Register {
         self.count += 1;
         self.plan = Some(plan);
         self.plan_act = Some(self.count);
+        self.reviewed = None;
     }
 
     fn note_unit(&mut self, unit: UnitAct)
@@ -309,6 +351,7 @@ impl Register {
             bedrooms: unit.bedrooms,
             accessible: unit.accessible,
         });
+        self.reviewed = None;
     }
 
     fn note_rents(&mut self, rents: RentsAct)
@@ -316,6 +359,7 @@ impl Register {
         requires accepted { IsAccepted self.old.known (command.Rents rents) None }
         ensures { self.new.known ≡ known_after self.old.known (command.Rents rents) None }
     {
+        let reviewed = self.reviewed_before(rents.from);
         self.count += 1;
         self.table.push_rents(RentRow {
             group: rents.group,
@@ -323,6 +367,20 @@ impl Register {
             act: self.count,
             rents: rents.rents,
         });
+        self.reviewed = reviewed;
+    }
+
+    /// What is left of the last review where something changes from the day on.
+    fn reviewed_before(&self, day: Day) -> Option<Reviewed>
+        ensures review { IfSome result (IsReviewed self.now.known) }
+        ensures before { IfSome result (EndsBefore self.now.known day) }
+    {
+        let reviewed = self.reviewed?;
+        let next = later_of(self.plan_day(), earlier_of(reviewed.next, day));
+        Some(Reviewed {
+            act: reviewed.act,
+            next,
+        })
     }
 
     fn note_limits(&mut self, limits: LimitsAct)
@@ -399,11 +457,26 @@ impl Register {
         requires { IsAccepted self.old.known (command.Close close) None }
         ensures { self.new.known ≡ known_after self.old.known (command.Close close) None }
     {
+        let next = self.day_behind(close.month);
         self.count += 1;
         self.closing = Some(Closed {
             month: close.month,
             act: self.count,
         });
+        self.reviewed = Some(Reviewed {
+            act: self.count,
+            next,
+        });
+    }
+
+    /// The first day behind the month, or the plan's first where that one is later.
+    fn day_behind(&self, month: Month) -> Day
+        requires { month ≤ last_office_month }
+        ensures first { plan_day self.now.known ≤ result }
+        ensures behind { (day : ℕ) → day < result → plan_day self.now.known ≤ day → day ≤ last_of month }
+    {
+        let behind = first_of(Month::from_number(month.number() + 1).unwrap());
+        later_of(self.plan_day(), behind)
     }
 
     fn note_start(&mut self, start: StartAct, made: Option<Record>)
@@ -479,6 +552,18 @@ impl Register {
         self.count += 1;
         self.tenancies.push(held);
     }
+}
+
+fn earlier_of(day: Day, other: Day) -> Day
+    ensures { result ≡ min day other }
+{
+    if other < day { other } else { day }
+}
+
+fn later_of(day: Day, other: Day) -> Day
+    ensures { result ≡ max day other }
+{
+    if day < other { other } else { day }
 }
 
 fn copy_of(alloc: Global, text: &Text) -> Result<Text, NoMemory>

@@ -1,5 +1,5 @@
 use Rattle.office_register.proofs.Words.{known_in}
-use Rattle.office_register.proofs.{Lists.place_next, Sound.sound_household}
+use Rattle.office_register.proofs.{Lists.place_next, Sound.sound_household, Reviewed.reviewed_household}
 use Rattle.office_register.proofs.register.Register.add_household.Goals as goal
 
 pub invariant_of-self : goal.invariant_of-self
@@ -11,4 +11,7 @@ invariant_of-self c =
       c.push.ensures.households,
       place_next c.self.inside.tenancies.households c.args.held.household asked.household,
     )
-    (sound_household (known_in c.self.inside) c.self.invariant asked.few c.args.name c.args.held asked.next.act c.requires.dates)
+    (record {
+      sound = sound_household (known_in c.self.inside) c.self.invariant.sound asked.few c.args.name c.args.held asked.next.act c.requires.dates;
+      review = reviewed_household (known_in c.self.inside) c.self.inside.reviewed c.self.invariant.review c.args.name c.args.held asked.next.act;
+    })
