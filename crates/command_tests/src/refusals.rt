@@ -1,8 +1,9 @@
 use days_core::{Day, Month};
 use office_refusals::{
-    act_day, annual_right, book_full, corrected_right, day_range, interim_right, lines_full,
-    name_taken, next_to_close, no_assistance, no_household, no_plan, no_rent, no_unit, not_next,
-    overdue, plan_given, rent_due, resume_right, stale, unseen, wrong_day, wrong_month,
+    act_day, annual_right, book_full, corrected_right, day_range, household_rent_due,
+    interim_right, lines_full, name_taken, next_to_close, no_assistance, no_household, no_plan,
+    no_rent, no_unit, not_next, overdue, plan_given, resume_right, stale, unseen, wrong_day,
+    wrong_month,
 };
 use office_step::{Named, Refusal};
 use record_history::{Dates, History, Kind};
@@ -258,9 +259,9 @@ fn assert_rents_due(rt: &impl Abort, history: &History, table: &RentTable) {
         day: day("2024-06-01"),
     };
     let first = day("2024-01-01");
-    let may = rent_due(history, table, first, day("2024-05-31"));
+    let may = household_rent_due(history, table, first, day("2024-05-31"), 1);
     assert_refused(rt, may, None);
-    let june = rent_due(history, table, first, day("2024-06-30"));
+    let june = household_rent_due(history, table, first, day("2024-06-30"), 1);
     assert_refused(rt, june, Some(due));
 }
 

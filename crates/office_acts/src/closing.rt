@@ -1,13 +1,14 @@
 //! The act that closes a month, and its lines.
 
 ghost use Rattle.std.specs.Prelude.{◌<◌, ◌^◌, length, ◌≡◌, ◌≤◌, ◌+◌, [], None, option_and_then, IfSome, IfOk, IsOk};
-ghost use Rattle.std.specs.Option.{option_map, option_map_or};
+ghost use Rattle.std.specs.Option.{option_map, option_map_or, option_or};
 ghost use Rattle.days_core.specs.OfficeDays.{last_office_month};
 ghost use Rattle.office_step.specs.Made.{last_close, closing_by, lines_of_close, lines_of};
-ghost use Rattle.office_step.specs.Against.{next_month, wrong_month, rent_due, overdue};
+ghost use Rattle.office_step.specs.Against.{next_month, plan_day, wrong_month, rent_due, overdue};
+ghost use Rattle.office_step.specs.Known.{own_in};
+ghost use Rattle.office_step.specs.Refusals as test;
 ghost use Rattle.office_acts.specs.Judged.{ClosesBy};
 
-use crate::lookups::plan_day;
 use book_rows::{CloseAct, Command};
 use days_core::{Day, Month, last_of};
 use office_refusals as refusals;
@@ -53,12 +54,43 @@ pub fn rent_due(register: &Register, asked: &Command) -> Option<Refusal>
     ensures { result ≡ rent_due register.now.known asked.now }
 {
     match asked {
-        Command::Close(close) => {
-            let (first, last) = (plan_day(register), last_of(close.month));
-            refusals::rent_due(register.history(), register.table(), first, last)
-        }
+        Command::Close(close) => first_rent_due(register, last_of(close.month)),
         _ => None,
     }
+}
+
+/// Refused where the rents of a household are due by the day: the least such household, and its least day.
+fn first_rent_due(register: &Register, last: Day) -> Option<Refusal>
+    ensures { result ≡ test.rent_due register.now.known.households register.now.known.units register.now.known.rents (plan_day register.now.known) last }
+{
+    let mut due = None;
+    for place in 0..register.households() {
+        due = due_so_far(due, register, last, place + 1);
+    }
+    due
+}
+
+/// What was found before, or else that of the household.
+fn due_so_far(
+    found: Option<Refusal>,
+    register: &Register,
+    last: Day,
+    household: u32,
+) -> Option<Refusal>
+    ensures { result ≡ option_or found (test.household_rent_due (own_in register.now.known household) register.now.known.units register.now.known.rents (plan_day register.now.known) last household) }
+{
+    match found {
+        Some(_) => found,
+        None => household_rent_due(register, last, household),
+    }
+}
+
+/// The days before which nothing has changed since the last closing aren't looked at again.
+fn household_rent_due(register: &Register, last: Day, household: u32) -> Option<Refusal>
+    ensures { result ≡ test.household_rent_due (own_in register.now.known household) register.now.known.units register.now.known.rents (plan_day register.now.known) last household }
+{
+    let first = register.review_day(household);
+    refusals::household_rent_due(register.history(), register.table(), first, last, household)
 }
 
 /// Refused where a household should have been certified anew.

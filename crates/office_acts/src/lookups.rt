@@ -6,23 +6,12 @@ ghost use Rattle.record_history.specs.Held.{IsWithin};
 ghost use Rattle.office_register.specs.Registered.{HasDates};
 ghost use Rattle.office_step.specs.Households.{record_at, unit_continued};
 ghost use Rattle.office_step.specs.Known.{own_in};
-ghost use Rattle.office_step.specs.Against.{plan_day};
 
-use days_core::{Day, first_of};
+use days_core::Day;
 use office_refusals::continued;
 use office_register::Register;
 use record_history::{Dates, Record};
 use rent_table::{Plan, RentTable, Unit};
-
-/// The first day of the plan, and 1880-01-01 where there is none.
-pub fn plan_day(register: &Register) -> Day
-    ensures { result ≡ plan_day register.now.known }
-{
-    match register.plan() {
-        Some(plan) => first_of(plan.first),
-        None => Day::from_number(0).unwrap(),
-    }
-}
 
 /// The unit of that number.
 pub fn unit_in(register: &Register, number: u32) -> Option<&Unit>

@@ -12,7 +12,7 @@ ghost use Rattle.office_step.specs.Refusals.{others_of, interim_right, corrected
 ghost use Rattle.office_step.specs.Against.{facts_rule, facts_rule_in, from_range, told_range, day_range, day_range_in, no_rent, no_rent_on, no_limits, not_live, not_live_in, wrong_interim, wrong_correction, wrong_day, wrong_day_in};
 ghost use Rattle.office_register.specs.Registered.{HasDates};
 
-use crate::lookups::{plan_day, target_in};
+use crate::lookups::target_in;
 use book_rows::{Command, CorrectAct, HouseholdChange, InterimAct};
 use days_core::{Day, LAST_OFFICE_DAY, Month};
 use due_dates::gross_day;
@@ -93,7 +93,7 @@ fn day_range_in(register: &Register, today: Day, change: &HouseholdChange) -> Op
         HouseholdChange::Transfer(transfer) => from_range(register, transfer.from),
         HouseholdChange::MoveOut(move_out) => {
             let last = Day::from_number(LAST_DAY_LIVED).unwrap();
-            range(plan_day(register), last, move_out.last)
+            range(register.plan_day(), last, move_out.last)
         }
         HouseholdChange::Terminate(terminate) => from_range(register, terminate.from),
         _ => None,
@@ -114,7 +114,7 @@ fn from_range(register: &Register, from: Day) -> Option<Refusal>
     ensures { result ≡ from_range register.now.known from }
 {
     let last = Day::from_number(LAST_OFFICE_DAY).unwrap();
-    range(plan_day(register), last, from)
+    range(register.plan_day(), last, from)
 }
 
 /// Of the days of a change that was told.

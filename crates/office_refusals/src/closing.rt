@@ -1,7 +1,6 @@
 ghost use Rattle.std.specs.Prelude.{◌≡◌};
-ghost use Rattle.std.specs.Option.{option_or};
 ghost use Rattle.record_history.specs.Held.{records_of};
-ghost use Rattle.office_step.specs.Refusals.{month_after, next_to_close, wrong_month, household_rent_due, rent_due};
+ghost use Rattle.office_step.specs.Refusals.{month_after, next_to_close, wrong_month, household_rent_due};
 
 use days_core::{Day, LAST_OFFICE_MONTH, Month};
 use due_dates::rent_due_day;
@@ -39,36 +38,9 @@ pub fn wrong_month(next: Option<Month>, month: Month) -> Option<Refusal>
     Some(Refusal::WrongMonth { next })
 }
 
-/// Refused where a household's record in force, neither a move-out nor a termination, has other rents than its unit on
-/// a day of the span: the least such household, and its least day.
-pub fn rent_due(history: &History, table: &RentTable, first: Day, last: Day) -> Option<Refusal>
-    ensures { result ≡ rent_due history.now.households table.now.units table.now.rents first last }
-{
-    let mut due = None;
-    for place in 0..history.households() {
-        due = due_so_far(due, history, table, first, last, place + 1);
-    }
-    due
-}
-
-/// What was found before, or else that of the household.
-fn due_so_far(
-    found: Option<Refusal>,
-    history: &History,
-    table: &RentTable,
-    first: Day,
-    last: Day,
-    household: u32,
-) -> Option<Refusal>
-    ensures { result ≡ option_or found (household_rent_due (records_of history.now.households household) table.now.units table.now.rents first last household) }
-{
-    match found {
-        Some(_) => found,
-        None => household_rent_due(history, table, first, last, household),
-    }
-}
-
-fn household_rent_due(
+/// Refused where the household's record in force, neither a move-out nor a termination, has other rents than its unit on
+/// a day of the span: the least such day.
+pub fn household_rent_due(
     history: &History,
     table: &RentTable,
     first: Day,

@@ -17,7 +17,7 @@ mod units;
 pub use admission::{ineligible, no_assistance, not_next};
 pub use book::{book_full, lines_full, no_plan, plan_given};
 pub use certifying::{day_range, facts_rule, no_limits, no_rent, not_live, wrong_day};
-pub use closing::{next_to_close, rent_due, wrong_month};
+pub use closing::{household_rent_due, next_to_close, wrong_month};
 pub use days::act_day;
 pub use lateness::overdue;
 pub use made::{change_by, continued, entry, rents_in_unit, told_extremely_low};
