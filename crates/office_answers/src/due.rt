@@ -8,7 +8,6 @@ ghost use Rattle.office_answers.specs.DueList.{is_assisted_on, horizon, due_of, 
 
 use crate::{Answer, Asked, DueDay};
 use days_core::Day;
-use office_acts::office_refusals::annual_right;
 use office_acts::office_register::Register;
 use office_acts::office_step::Refusal;
 use plain_data::{Listed, NoMemory};
@@ -24,42 +23,41 @@ pub fn due_answer(alloc: Global, register: &Register, day: Day) -> Result<Answer
     if register.plan().is_none() {
         return Err(Asked::Refused(Refusal::NoPlan));
     }
-    let dues = due_list(alloc, register.history(), day)?;
+    let dues = due_list(alloc, register, day)?;
     Ok(Answer::Due(Listed::new(dues)))
 }
 
 /// What is due, in the order of its days, and of one day in that of the households.
-fn due_list(alloc: Global, history: &History, day: Day) -> Result<Vec<DueDay>, NoMemory>
-    ensures { IfOk result (λ dues. dues.items ≡ due_list history.now.households day) }
+fn due_list(alloc: Global, register: &Register, day: Day) -> Result<Vec<DueDay>, NoMemory>
+    ensures { IfOk result (λ dues. dues.items ≡ due_list register.now.known.households day) }
 {
-    let mut dues = due_days(alloc, history, day)?;
+    let mut dues = due_days(alloc, register, day)?;
     dues.sort_by_key(|due| due.day.number())?;
     Ok(dues)
 }
 
-fn due_days(alloc: Global, history: &History, day: Day) -> Result<Vec<DueDay>, NoMemory>
-    ensures all { IfOk result (λ dues. dues.items ≡ due_days history.now.households day) }
+fn due_days(alloc: Global, register: &Register, day: Day) -> Result<Vec<DueDay>, NoMemory>
+    ensures all { IfOk result (λ dues. dues.items ≡ due_days register.now.known.households day) }
     ensures soon { IfOk result (λ dues. All (λ due. due.day ≤ horizon day) dues.items) }
 {
     let mut dues = Vec::new(alloc);
-    for place in 0..history.households() {
-        if let Some(due) = due_of(history, day, place + 1) {
+    for place in 0..register.households() {
+        if let Some(due) = due_of(register, day, place + 1) {
             dues.push(due)?;
         }
     }
     Ok(dues)
 }
 
-/// When the household is due, where it is assisted on the day.
-fn due_of(history: &History, day: Day, household: u32) -> Option<DueDay>
-    ensures value { result ≡ due_of history.now.households day household }
+/// When the household is due, where it is assisted on the day. Most aren't due soon, so that is asked first.
+fn due_of(register: &Register, day: Day, household: u32) -> Option<DueDay>
+    ensures value { result ≡ due_of register.now.known.households day household }
     ensures soon { IfSome result (λ due. due.day ≤ horizon day) }
 {
-    if !is_assisted_on(history, household, day) {
-        return None;
-    }
-    let due = annual_right(history, household)?;
-    if due.number() <= day.number() + DAYS_AHEAD {
+    let due = register.next_annual(household)?;
+    if due.number() <= day.number() + DAYS_AHEAD
+        && is_assisted_on(register.history(), household, day)
+    {
         Some(DueDay {
             day: due,
             household,

@@ -4,3 +4,4 @@ pub mod Sound
 pub mod Standing
 pub mod Next
 pub mod Reviewed
+pub mod Annuals

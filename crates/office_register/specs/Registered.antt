@@ -1,5 +1,5 @@
 -- What a register holds, the room that it has for more, and what holds of every register.
-use Rattle.std.specs.Prelude.{ℕ, ◌≡◌, ◌≤◌, ◌<◌, true, false, Option, List, All, IfSome, length, sum_by, is_some}
+use Rattle.std.specs.Prelude.{ℕ, ◌≡◌, ◌≤◌, ◌<◌, true, false, Option, List, All, IfSome, length, map, sum_by, is_some}
 use Rattle.days_core.specs.{OfficeDays.last_office_day, OfficeDays.last_office_month}
 use Rattle.record_history.specs.declared.records.Record.{Record}
 use Rattle.rent_table.specs.declared.rows.{Unit.Unit as UnitRow, RentRow.RentRow, LimitRow.LimitRow}
@@ -7,7 +7,7 @@ use Rattle.wait_list.specs.declared.applicant.Applicant.{Applicant}
 use Rattle.book_rows.specs.Fit.{is_plan, are_rents}
 use Rattle.due_dates.specs.Stale.{is_rent_stale_on, rent_due_day_of}
 use Rattle.record_history.specs.Records.{newest_act}
-use Rattle.office_step.specs.{declared.known.Application.Application, declared.known.Request.Request, declared.known.Closed.Closed, Known.Known, Known.own_in, Households.AreBy, Against.plan_day}
+use Rattle.office_step.specs.{declared.known.Application.Application, declared.known.Request.Request, declared.known.Closed.Closed, Known.Known, Known.own_in, Households.AreBy, Against.plan_day, Refusals.annual_right}
 use Rattle.office_register.specs.declared.register.Reviewed.{Reviewed}
 
 -- what is known, for how many more rows of every sort there is room, and for how many more records of each household and,
@@ -90,6 +90,7 @@ abbrev pub EndsBefore : Known → ℕ → Reviewed → Type 0
 EndsBefore known next reviewed = (day : ℕ) → plan_day known ≤ day → day < reviewed.next → day < next
 
 -- what holds of a register
-pub record IsRegister (known : Known) (reviewed : Option Reviewed) : Type 0 where
+pub record IsRegister (known : Known) (reviewed : Option Reviewed) (annuals : List (Option ℕ)) : Type 0 where
   pub sound : IsSound known
   pub review : IfSome reviewed (IsReviewed known)
+  pub yearly : annuals ≡ map annual_right known.households

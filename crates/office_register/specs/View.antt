@@ -25,4 +25,5 @@ room_in register =
     min register.list.room
     (min (min register.table.unit_room (min register.table.rent_room register.table.limit_room))
     (min (vec_capacity register.applications - vec_len register.applications)
-    (min (vec_capacity register.names - vec_len register.names) (vec_capacity register.requests - vec_len register.requests))))
+    (min (vec_capacity register.names - vec_len register.names)
+    (min (vec_capacity register.requests - vec_len register.requests) (vec_capacity register.annuals - vec_len register.annuals)))))

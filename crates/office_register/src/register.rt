@@ -7,6 +7,7 @@ use book_rows::{
     RentsAct, StartAct, UnitAct,
 };
 use days_core::{Day, Month, first_of};
+use office_refusals::annual_right;
 use office_step::{Application, Closed, Request};
 use plain_data::{Listed, NoMemory, Text};
 use record_history::{Dates, History, Record};
@@ -31,6 +32,8 @@ pub struct Register {
     requests: Vec<Option<Request>>,
     closing: Option<Closed>,
     reviewed: Option<Reviewed>,
+    // The rightful day of each household's next annual, where it has one.
+    annuals: Vec<Option<Day>>,
 }
 
 /// A closing that no plan or unit came after: it looked for stale rents on all days before this one, and no rents came
@@ -50,7 +53,7 @@ impl Model for Register {
 
     ghost view = { λ register. record { known = known_in register; room = room_in register; record_room = register.tenancies.room } };
 
-    ghost invariant = { λ register. IsRegister (known_in register) register.reviewed };
+    ghost invariant = { λ register. IsRegister (known_in register) register.reviewed register.annuals.items };
 }
 
 impl Register {
@@ -67,6 +70,7 @@ impl Register {
     ghost use Rattle.office_register.specs.Accepted.{applicant_name};
     ghost use Rattle.office_step.specs.Known.{known_of, own_in};
     ghost use Rattle.office_step.specs.Against.{plan_day};
+    ghost use Rattle.office_step.specs.Refusals.{annual_right};
     ghost use Rattle.office_step.specs.After.{next_act, known_after};
     ghost use Rattle.office_register.specs.Registered.{HasDates, IsReviewed, EndsBefore, rent_due_from};
     ghost use Rattle.office_register.specs.Accepted.{IsAccepted, IsNext, with_household, with_further};
@@ -86,6 +90,7 @@ impl Register {
             requests: Vec::new(alloc),
             closing: None,
             reviewed: None,
+            annuals: Vec::new(alloc),
         })
     }
 
@@ -181,6 +186,19 @@ impl Register {
         ensures { result.now.households ≡ self.now.known.households }
     {
         &self.tenancies
+    }
+
+    /// The rightful day of the household's next annual, if there is one.
+    pub fn next_annual(&self, household: u32) -> Option<Day>
+        ensures { result ≡ annual_right (own_in self.now.known household) }
+    {
+        if household == 0 {
+            return None;
+        }
+        match self.annuals.get(household as usize - 1) {
+            Some(day) => *day,
+            None => None,
+        }
     }
 
     /// What each household said last of another unit.
@@ -314,6 +332,7 @@ impl Register {
         self.applications.reserve(1)?;
         self.names.reserve(1)?;
         self.requests.reserve(1)?;
+        self.annuals.reserve(1)?;
         Ok(())
     }
 
@@ -518,10 +537,13 @@ impl Register {
         requires dates { HasDates held }
         ensures { self.new.known ≡ with_household self.old.known name held }
     {
+        let household = held.household;
         self.count += 1;
         self.names.push_reserved(name);
         self.requests.push_reserved(None);
         self.tenancies.push(held);
+        let next = annual_right(self.tenancies.history(), household);
+        self.annuals.push_reserved(next);
     }
 
     fn note_further(&mut self, act: &HouseholdAct, made: Option<Record>)
@@ -549,8 +571,11 @@ impl Register {
         requires dates { HasDates held }
         ensures { self.new.known ≡ with_further self.old.known held }
     {
+        let household = held.household;
         self.count += 1;
         self.tenancies.push(held);
+        let next = annual_right(self.tenancies.history(), household);
+        self.annuals[household as usize - 1] = next;
     }
 }
 

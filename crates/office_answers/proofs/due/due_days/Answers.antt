@@ -6,9 +6,9 @@ loop-place-preserved c =
     elim c.match-due_of.branch [
       | in-Some+in_ok-push w ↦
           rw (w.dues-is, w.in_ok-push.ensures.items)
-          (one_is_due c.args.history.now.households c.args.day c.loop-place.place c.loop-place.dues.items w.in-Some.due c.loop-place.invariant
+          (one_is_due c.args.register.now.known.households c.args.day c.loop-place.place c.loop-place.dues.items w.in-Some.due c.loop-place.invariant
           w.in-Some.ensures.value w.in-Some.ensures.soon)
       | in_default w ↦
           rw w.dues-is
-          (none_is_due c.args.history.now.households c.args.day c.loop-place.place c.loop-place.dues.items c.loop-place.invariant w.in_default.ensures.value)
+          (none_is_due c.args.register.now.known.households c.args.day c.loop-place.place c.loop-place.dues.items c.loop-place.invariant w.in_default.ensures.value)
     ]

@@ -1,5 +1,6 @@
 use Rattle.office_register.proofs.Words.{known_in}
-use Rattle.office_register.proofs.{Lists.place_next, Sound.sound_household, Reviewed.reviewed_household}
+use Rattle.office_register.proofs.{Lists.place_next, Sound.sound_household, Reviewed.reviewed_household, Annuals.map_household}
+use Rattle.office_step.specs.Refusals.{annual_right}
 use Rattle.office_register.proofs.register.Register.add_household.Goals as goal
 
 pub invariant_of-self : goal.invariant_of-self
@@ -8,10 +9,14 @@ invariant_of-self c =
     rw (
       c.push_reserved.ensures.items,
       c.push_reserved-2.ensures.items,
+      c.push_reserved-3.ensures.items,
+      c.annual_right-next.ensures,
+      c.history.ensures,
       c.push.ensures.households,
       place_next c.self.inside.tenancies.households c.args.held.household asked.household,
     )
     (record {
       sound = sound_household (known_in c.self.inside) c.self.invariant.sound asked.few c.args.name c.args.held asked.next.act c.requires.dates;
       review = reviewed_household (known_in c.self.inside) c.self.inside.reviewed c.self.invariant.review c.args.name c.args.held asked.next.act;
+      yearly = map_household annual_right c.self.inside.tenancies.households c.args.held c.self.inside.annuals.items c.self.invariant.yearly asked.household;
     })

@@ -14,6 +14,7 @@ invariant_of-self c =
       sound = sound_application (known_in c.self.inside) c.self.invariant.sound (few (rw (← c.self.view_is) at c.requires.accepted))
           (application_by (c.self.inside.count + 1) c.args.apply) (applying (known_in c.self.inside) c.args.apply) refl refl;
       review = reviewed_alike (known_in c.self.inside) c.self.inside.reviewed c.self.invariant.review _ (omega arith) refl refl refl refl;
+      yearly = c.self.invariant.yearly;
     })
 
 pub returns : goal.returns

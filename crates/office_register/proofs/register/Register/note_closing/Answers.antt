@@ -14,6 +14,7 @@ invariant_of-self c =
       sound = sound_closing (known_in c.self.inside) c.self.invariant.sound (few accepted) (record { month = c.args.close.month; act = c.self.inside.count + 1 })
           (month_fits (known_in c.self.inside) c.args.close c.self.invariant.sound (passes accepted).wrong_month) refl;
       review = reviewed_now (known_in c.self.inside) c.args.close c.day_behind-next.result (passes accepted).rent_due first behind;
+      yearly = c.self.invariant.yearly;
     }
 
 pub returns : goal.returns

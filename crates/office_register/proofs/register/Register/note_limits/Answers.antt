@@ -8,6 +8,7 @@ invariant_of-self c =
     (record {
       sound = sound_limits (known_in c.self.inside) c.self.invariant.sound (few (rw (← c.self.view_is) at c.requires.accepted)) (limit_row (c.self.inside.count + 1) c.args.limits) refl;
       review = reviewed_alike (known_in c.self.inside) c.self.inside.reviewed c.self.invariant.review _ (omega arith) refl refl refl refl;
+      yearly = c.self.invariant.yearly;
     })
 
 pub returns : goal.returns

@@ -5,7 +5,7 @@ use Rattle.office_register.proofs.register.Register.note_plan.Goals as goal
 pub invariant_of-self : goal.invariant_of-self
 invariant_of-self c =
     let accepted = rw (← c.self.view_is) at c.requires in
-    record { sound = sound_plan (known_in c.self.inside) c.self.invariant.sound (few accepted) c.args.plan accepted.fit; review = tt }
+    record { sound = sound_plan (known_in c.self.inside) c.self.invariant.sound (few accepted) c.args.plan accepted.fit; review = tt; yearly = c.self.invariant.yearly }
 
 pub returns : goal.returns
 returns c =

@@ -10,6 +10,7 @@ invariant_of-self c =
       sound = sound_rents (known_in c.self.inside) c.self.invariant.sound (few accepted) (rent_row (c.self.inside.count + 1) c.args.rents) refl (rents_fit c.args.rents accepted.fit);
       review = reviewed_rents (known_in c.self.inside) c.reviewed_before-reviewed.result (rw (← c.self.view_is) at c.reviewed_before-reviewed.ensures.review)
           (rent_row (c.self.inside.count + 1) c.args.rents) (rw (← c.self.view_is) at c.reviewed_before-reviewed.ensures.before);
+      yearly = c.self.invariant.yearly;
     })
 
 pub returns : goal.returns

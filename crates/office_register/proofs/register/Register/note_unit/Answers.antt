@@ -14,6 +14,7 @@ invariant_of-self c =
       sound = sound_unit (known_in c.self.inside) c.self.invariant.sound (few accepted) (unit_row (length c.self.inside.table.units + 1) c.args.unit) refl
           (bedrooms_fit c.args.unit accepted.fit);
       review = tt;
+      yearly = c.self.invariant.yearly;
     })
 
 pub returns : goal.returns

@@ -8,4 +8,5 @@ invariant_of-self c =
     (record {
       sound = sound_without (known_in c.self.inside) c.args.number c.self.invariant.sound;
       review = reviewed_alike (known_in c.self.inside) c.self.inside.reviewed c.self.invariant.review _ (omega arith) refl refl refl refl;
+      yearly = c.self.invariant.yearly;
     })
