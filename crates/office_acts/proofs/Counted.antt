@@ -1,12 +1,15 @@
 -- The admissions of the households so far, and of one more.
-use Rattle.std.proofs.Common.{◌≡◌, ◌∙◌, ap, sym, ℕ, ◌+◌, ◌<◌, ◌≤◌, List, [], ◌++◌, length, take, get_or, append-nil, arith, length-append, refl}
+use Rattle.std.proofs.Common.{Bool, true, false, ◌≡◌, ◌∙◌, ap, sym, ℕ, ◌+◌, ◌<◌, ◌≤◌, List, [], ◌++◌, length, take, get_or, append-nil, arith, length-append, refl}
 use Rattle.std.specs.Prelude.{◌&&◌, filter, count_by, sum_by, if◌then◌else◌}
-use Rattle.std.proofs.lemmas.{List.take_more, List.Concat.flat_map-append, List.Elements.filter-append, Bool.Decides.nat_tests}
-use Rattle.std.proofs.lemmas.List.Sums.{sum_by-append, length-filter, count_by-le-length, sum_by_more, sum_by-take-le}
+use Rattle.std.proofs.lemmas.{List.take_more, List.Concat.flat_map-append, List.Elements.filter-append, List.Elements.filter_agree, Bool.Decides.nat_tests}
+use Rattle.std.proofs.lemmas.List.Sums.{get_or-le-sum_by, sum_by-append, length-filter, count_by-le-length, sum_by_more, sum_by-take-le}
 use Rattle.row_choice.proofs.LatestLemmas.{filter-filter}
-use Rattle.record_history.specs.{declared.records.Record.Record, Records.is_live, Records.live_records, Held.records_of}
+use Rattle.days_core.specs.Calendar.{month_of}
+use Rattle.record_history.specs.{declared.records.Record.Record, Records.is_live, Records.live_records, Held.records_of, Held.AreNumbered, Ordered.AreInOrder}
 use Rattle.rent_table.specs.declared.plan.Plan.{Plan}
-use Rattle.office_step.specs.Candidates.{is_admission, admissions}
+use Rattle.office_step.specs.Candidates.{fiscal_year, is_admission, admissions}
+use Rattle.office_acts.specs.Admissions.{is_admission_of}
+use Rattle.office_acts.proofs.AsMany.{as_many}
 
 -- the records of the household at that place
 pub records_at : (households : List (List Record)) (place : ℕ) → records_of households (place + 1) ≡ get_or households place []
@@ -27,6 +30,37 @@ pub extremely-among : (plan : Plan) (day : ℕ) (records : List Record) →
 extremely-among plan day records =
     ap length (sym (filter-filter (λ (r : Record). r.extremely) (is_admission plan day) (live_records records)))
     ∙ length-filter (λ (r : Record). r.extremely) (admissions_among plan day records)
+
+-- ---- the records of one household that count, in their order
+
+either_way : (one other : Bool) → (one && other) ≡ (other && one)
+either_way true true = refl
+either_way true false = refl
+either_way false true = refl
+either_way false false = refl
+
+-- are no more than all have records
+pub few-live : (households : List (List Record)) (place : ℕ) (live : List Record) → place < length households → sum_by length households ≤ 100000 →
+    length live ≤ length (records_of households (place + 1)) → length live ≤ 100000
+few-live households place live within few own =
+    omega (arith, own, ap length (records_at households place), get_or-le-sum_by length households place [] within, few)
+
+module _ (plan : Plan) (day year : ℕ) (of_day : year ≡ fiscal_year plan (month_of day)) (own live : List Record) (numbered : AreNumbered own)
+    (in_order : AreInOrder (live_records own) live) where
+  -- as many are admissions as among those as they came
+  pub all-counted : length (filter (is_admission_of plan year) live) ≡ length (admissions_among plan day own)
+  all-counted =
+      ap (λ (year : ℕ). length (filter (is_admission_of plan year) live)) of_day ∙ as_many own live numbered in_order (is_admission plan day)
+
+  pub extremely-counted : length (filter (λ r. r.extremely && is_admission_of plan year r) live)
+      ≡ length (filter (λ r. is_admission plan day r && r.extremely) (live_records own))
+  extremely-counted =
+      ap (λ (year : ℕ). length (filter (λ (r : Record). r.extremely && is_admission_of plan year r) live)) of_day
+      ∙ ap length (filter_agree (λ (r : Record). r.extremely && is_admission plan day r) (λ r. is_admission plan day r && r.extremely)
+      (λ r. either_way r.extremely (is_admission plan day r)) live)
+      ∙ as_many own live numbered in_order (λ r. is_admission plan day r && r.extremely)
+
+-- ---- household after household
 
 -- what is counted of so many households: no more than they have records
 pub record SoFar (plan : Plan) (day : ℕ) (households : List (List Record)) (place admitted extremely : ℕ) : Type 0 where

@@ -5,3 +5,4 @@ pub mod Bounds
 pub mod Accepts
 pub mod Ready
 pub mod Wanted
+pub mod AsMany

@@ -1,3 +1,4 @@
 pub mod Below
 pub mod Turns
 pub mod Judged
+pub mod Admissions

@@ -1,12 +1,13 @@
 //! How far an office is with its admissions of a fiscal year.
 
 ghost use Rattle.std.specs.Prelude.{◌≡◌, ◌≤◌, ◌&&◌, length, filter, sum_by};
-ghost use Rattle.record_history.specs.Records.{live_records};
-ghost use Rattle.office_step.specs.Candidates.{fiscal_year, is_admission, targets_of};
+ghost use Rattle.office_step.specs.Candidates.{fiscal_year, targets_of};
+ghost use Rattle.office_acts.specs.Admissions.{is_admission_of};
 
+use crate::live::live_in_order;
 use days_core::{Day, Month, month_of};
 use office_register::Register;
-use record_history::{Dates, History, Kind, Record, is_live};
+use record_history::{Dates, History, Kind, Record};
 use rent_table::Plan;
 use wait_list::Targets;
 
@@ -21,12 +22,13 @@ fn targets_by(history: &History, plan: &Plan, day: Day) -> Targets
     requires { sum_by length history.now.households ≤ 100000 }
     ensures { result ≡ targets_of plan.now day history.now.households }
 {
+    let year = fiscal_year(plan, month_of(day));
     let mut admitted = 0;
     let mut extremely = 0;
     for place in 0..history.households() {
-        let records = history.records(place + 1);
-        admitted += admitted_among(records, plan, day);
-        extremely += extremely_among(records, plan, day);
+        let live = live_in_order(history, place + 1);
+        admitted += admitted_among(live, plan, year);
+        extremely += extremely_among(live, plan, year);
     }
     Targets {
         method: plan.method,
@@ -36,34 +38,29 @@ fn targets_by(history: &History, plan: &Plan, day: Day) -> Targets
     }
 }
 
-fn admitted_among(records: &[Record], plan: &Plan, day: Day) -> u32
-    requires { length records.now ≤ 100000 }
-    ensures { result ≡ length (filter (is_admission plan.now day) (live_records records.now)) }
+fn admitted_among(live: &[Record], plan: &Plan, year: u32) -> u32
+    requires { length live.now ≤ 100000 }
+    ensures { result ≡ length (filter (is_admission_of plan.now year) live.now) }
 {
-    records
-        .iter()
-        .filter(|held| is_live(records, held))
-        .filter(|held| is_admission(plan, day, held))
+    live.iter()
+        .filter(|held| is_admission(plan, year, held))
         .count() as u32
 }
 
 /// How many of the admissions are of a family of extremely low income.
-fn extremely_among(records: &[Record], plan: &Plan, day: Day) -> u32
-    requires { length records.now ≤ 100000 }
-    ensures { result ≡ length (filter (λ r. is_admission plan.now day r && r.extremely) (live_records records.now)) }
+fn extremely_among(live: &[Record], plan: &Plan, year: u32) -> u32
+    requires { length live.now ≤ 100000 }
+    ensures { result ≡ length (filter (λ r. r.extremely && is_admission_of plan.now year r) live.now) }
 {
-    records
-        .iter()
-        .filter(|held| is_live(records, held))
-        .filter(|held| is_admission(plan, day, held) && held.extremely)
+    live.iter()
+        .filter(|held| held.extremely && is_admission(plan, year, held))
         .count() as u32
 }
 
-fn is_admission(plan: &Plan, day: Day, held: &Record) -> bool
-    ensures { result ≡ is_admission plan.now day held.now }
+fn is_admission(plan: &Plan, year: u32, held: &Record) -> bool
+    ensures { result ≡ is_admission_of plan.now year held.now }
 {
-    held.kind == Kind::MI
-        && fiscal_year(plan, month_of(held.from)) == fiscal_year(plan, month_of(day))
+    held.kind == Kind::MI && fiscal_year(plan, month_of(held.from)) == year
 }
 
 /// The number of the fiscal year in which a month lies.

@@ -15,6 +15,7 @@ mod admissions;
 mod closing;
 mod headings;
 mod judging;
+mod live;
 mod lookups;
 mod making;
 mod movers;

@@ -1,6 +1,8 @@
-use Rattle.std.proofs.Common.{◌+◌, [], length, refl, arith}
-use Rattle.std.proofs.lemmas.List.{take_all, Sums.get_or-le-sum_by}
-use Rattle.office_acts.proofs.Counted.{SoFar, records_at, few-more, so_far-more, few-extremely}
+use Rattle.std.proofs.Common.{◌∙◌, ap, ◌+◌, refl, arith}
+use Rattle.std.proofs.lemmas.List.{take_all}
+use Rattle.record_history.specs.Held.{records_of}
+use Rattle.office_step.specs.Candidates.{fiscal_year}
+use Rattle.office_acts.proofs.Counted.{SoFar, few-live, all-counted, extremely-counted, few-more, so_far-more, few-extremely}
 use Rattle.office_acts.proofs.admissions.targets_by.Goals as goal
 
 pub loop-place-init : goal.loop-place-init
@@ -8,12 +10,19 @@ loop-place-init c = record { all = refl; low = refl; few = omega arith }
 
 pub admitted_among-admitted-requires : goal.admitted_among-admitted-requires
 admitted_among-admitted-requires c =
-    rw (c.records-records.ensures.records, records_at c.args.history.now.households c.loop-place.place)
-    (omega (arith, get_or-le-sum_by length c.args.history.now.households c.loop-place.place [] (omega arith), c.requires))
+    few-live c.args.history.now.households c.loop-place.place c.live_in_order-live.result.now (omega arith) c.requires c.live_in_order-live.ensures.few
+
+pub extremely_among-extremely-requires : goal.extremely_among-extremely-requires
+extremely_among-extremely-requires c =
+    few-live c.args.history.now.households c.loop-place.place c.live_in_order-live.result.now (omega arith) c.requires c.live_in_order-live.ensures.few
 
 pub overflow_add-admitted : goal.overflow_add-admitted
 overflow_add-admitted c =
-    let all = rw c.records-records.ensures.records at c.admitted_among-admitted.ensures in
+    let own = records_of c.args.history.now.households (c.loop-place.place + 1) in
+    let live = c.live_in_order-live in
+    let of_day = c.fiscal_year-year.ensures ∙ ap (fiscal_year c.args.plan.now) c.month_of.ensures in
+    let all = c.admitted_among-admitted.ensures
+    ∙ all-counted c.args.plan.now c.args.day c.fiscal_year-year.result of_day own live.result.now live.ensures.numbered live.ensures.order in
     omega (
       arith,
       few-more c.args.plan.now c.args.day c.args.history.now.households c.loop-place.place c.loop-place.admitted c.admitted_among-admitted.result
@@ -26,8 +35,13 @@ so_far : (c : goal.After-extremely_among-extremely) →
     SoFar c.args.plan.now c.args.day c.args.history.now.households (c.loop-place.place + 1)
     (c.loop-place.admitted + c.admitted_among-admitted.result) (c.loop-place.extremely + c.extremely_among-extremely.result)
 so_far c =
-    let all = rw c.records-records.ensures.records at c.admitted_among-admitted.ensures in
-    let low = rw c.records-records.ensures.records at c.extremely_among-extremely.ensures in
+    let own = records_of c.args.history.now.households (c.loop-place.place + 1) in
+    let live = c.live_in_order-live in
+    let of_day = c.fiscal_year-year.ensures ∙ ap (fiscal_year c.args.plan.now) c.month_of.ensures in
+    let all = c.admitted_among-admitted.ensures
+    ∙ all-counted c.args.plan.now c.args.day c.fiscal_year-year.result of_day own live.result.now live.ensures.numbered live.ensures.order in
+    let low = c.extremely_among-extremely.ensures
+    ∙ extremely-counted c.args.plan.now c.args.day c.fiscal_year-year.result of_day own live.result.now live.ensures.numbered live.ensures.order in
     so_far-more c.args.plan.now c.args.day c.args.history.now.households c.loop-place.place c.loop-place.admitted c.loop-place.extremely
     c.admitted_among-admitted.result c.extremely_among-extremely.result (omega arith) c.loop-place.invariant (record { all = all; low = low })
 
