@@ -7,8 +7,9 @@ use Rattle.desk_history.specs.declared.views.{PassView.PassView, Start.Start}
 use Rattle.link_workers.specs.Links.{ServesLinks}
 use Rattle.office_links.specs.Links.{Links}
 use Rattle.program_answers.specs.Opening.{Door, door, largest}
-use Rattle.shared_desk.specs.{Desk.IsFinished, History.IsLegalHistory, History.capacity_of, History.tables_at, Passes.IsFresh}
-use Rattle.office_server.specs.{Links.IsServed, Links.LeavesDesk, Links.ServesInTurn, Server.EndsBy, Server.IsUnserved, Server.Writes, Server.book_line, declared.desk.How.How}
+use Rattle.shared_desk.specs.{Deciding.IsLeft, Deciding.Survives, Desk.IsFinished, History.IsLegalHistory, History.capacity_of, History.tables_at, Passes.IsFresh}
+use Rattle.keeper_core.specs.Keeping.{LeavesTold}
+use Rattle.office_server.specs.{Links.IsServed, Links.LeavesDesk, Links.OutlivesStops, Links.ServesInTurn, Server.EndsBy, Server.IsUnserved, Server.Writes, Server.book_line, declared.desk.How.How}
 
 module _ (start : Start) (pass : PassView) (tables : Book) (told holds : Book → Type 0) (sound tells : Type 0) (leaves : Book → Type 0) (same : pass.start ≡ start)
     (finished : IsFinished pass tables told holds sound tells leaves) where
@@ -22,6 +23,10 @@ module _ (start : Start) (pass : PassView) (tables : Book) (told holds : Book �
     kept = finished.kept;
     first = finished.first;
   }
+
+  pub survives : capacity_of start ≡ largest → Survives sound largest tables holds tells leaves
+  survives capacity is_sound tell now is after left =
+      subst (λ capacity. IsLeft capacity tables after) (subst (λ (s : Start). capacity_of s ≡ largest) (sym same) capacity) (finished.stopped is_sound tell now is after left)
 
   pub in_turn : (shows : ℕ → Type 0) (first : PassView) (left left_now : ℕ) (links links_now : Option Links) → IsFresh start 1 first
       → ServesLinks (λ old link new. IsServed shows old new link) first pass left left_now links links_now → ServesInTurn shows left left_now links links_now tables
@@ -48,6 +53,13 @@ told_otherwise told other holds tables means leaves = record {
   kept = leaves.kept;
   first = λ now is. means _ (leaves.first now is);
 }
+
+-- what the desk's tables outlive, the keeper's book does, which is the same
+pub outlives : (sound : Type 0) (tables : Book) (holds leaves : Book → Type 0) (tells : Type 0) (holds_now leaves_now : Book → Type 0) (tells_now : Type 0)
+    → ((tells → LeavesTold holds leaves) → sound) → ((now : Book) → holds_now now → now ≡ tables)
+    → Survives sound largest tables holds_now tells_now leaves_now → OutlivesStops holds leaves tells holds_now leaves_now tells_now
+outlives sound tables holds leaves tells holds_now leaves_now tells_now means kept survives is_sound tell now is after left =
+    subst (λ held. IsLeft largest held after) (sym (kept now is)) (survives (means is_sound) tell now is after left)
 
 -- ---- how it ended
 

@@ -4,7 +4,7 @@ ghost use Rattle.office_io.specs.Outside.{Faulted};
 ghost use Rattle.program_answers.specs.Opening.{largest};
 ghost use Rattle.desk_history.specs.declared.views.{PassView.PassView, Start.Start};
 ghost use Rattle.link_workers.specs.Links.{ServesLinks};
-ghost use Rattle.shared_desk.specs.{Desk.IsFinished, History.capacity_of};
+ghost use Rattle.shared_desk.specs.{Deciding.Survives, Desk.IsFinished, History.capacity_of};
 ghost use Rattle.office_server.specs.Links.{IsServed, LeavesDesk, ServesInTurn};
 ghost use Rattle.office_server.specs.declared.desk.How.TheVariants as how;
 
@@ -52,6 +52,8 @@ where
     requires made { desk.made ≡ 0 }
     requires capacity { capacity_of desk.start ≡ largest }
     ensures leaves { LeavesDesk B.told (K.holds result.finished.keeper) (rows_of result.finished.tables) }
+    ensures stopped { Survives B.sound largest (rows_of result.finished.tables) (K.holds result.finished.keeper)
+        (K.tells_crash result.finished.keeper) (K.leaves result.finished.keeper) }
     ensures whole { result.how ≡ how.Whole → (L.left result.listener ≡ 0) × (L.faults result.listener ≡ L.faults listener) }
     ensures failed { result.how ≡ how.AcceptFailed → (0 < L.left result.listener) × Faulted (L.faults listener) (L.faults result.listener) }
     ensures unserved { result.how ≡ how.Unserved → result.listener ≡ listener }

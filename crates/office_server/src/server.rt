@@ -2,9 +2,11 @@ ghost use Rattle.std.specs.Prelude.{◌≡◌, ◌<◌, ◌≤◌, [], None, IfO
 ghost use Rattle.std.specs.Io.KnownBytes.{Keeps as KeepsBytes};
 ghost use Rattle.book_rows.specs.Book.{Book, book_of as rows_of};
 ghost use Rattle.desk_history.specs.declared.views.View.TheVariants.{Blank};
+ghost use Rattle.keeper_core.specs.Keeping.{LeavesTold};
 ghost use Rattle.office_io.specs.Outside.{Faulted};
 ghost use Rattle.program_answers.specs.Opening.{door, largest};
 ghost use Rattle.shared_desk.specs.History.{capacity_of};
+ghost use Rattle.office_server.specs.Links.{OutlivesStops};
 ghost use Rattle.office_server.specs.declared.desk.How.TheVariants as ended;
 ghost use Rattle.office_server.specs.Server.{Comes, DeskServed, GivesAllBack, IsWritten, NamesFault, Writes, book_line};
 
@@ -61,6 +63,10 @@ where
         (door None (W.held sink.old) (L.faults listener) (W.faults sink.old) (K.faults keeper))
         (door None (W.held sink.new) (L.faults result.listener) (W.faults sink.new) (K.faults result.keeper)) result.status }
 
+    // What a stop of the machine leaves from then on: the acts that are kept, or these and one more.
+    ensures stopped { OutlivesStops (K.holds keeper) (K.leaves keeper) (K.tells_crash keeper)
+        (K.holds result.keeper) (K.leaves result.keeper) (K.tells_crash result.keeper) }
+
     // Status 0 in plain facts: no link is left, each that there was is given back if one worker served, and nothing failed
     // but sessions.
     ensures none_left { result.status ≡ 0 → L.left result.listener ≡ 0 }
@@ -115,11 +121,14 @@ where
     requires blank { history.book.me ≡ (Blank, []) }
     requires told { (book : Book) → K.holds keeper book → B.told book }
     requires told_by { (book : Book) → B.told book → K.holds keeper book }
-    requires sound { B.sound → K.tells_crash keeper → (book : Book) → K.holds keeper book → (after : Book) → K.leaves keeper after → after ≡ book }
-    ensures { Comes (C.may_show clock.now) workers listener result.listener L.left L.links
+    requires sound { B.sound → K.tells_crash keeper → LeavesTold (K.holds keeper) (K.leaves keeper) }
+    requires sound_by { (K.tells_crash keeper → LeavesTold (K.holds keeper) (K.leaves keeper)) → B.sound }
+    ensures comes { Comes (C.may_show clock.now) workers listener result.listener L.left L.links
         (K.holds keeper) (K.holds result.keeper) (K.bad result.keeper)
         (door None (W.held sink.old) (L.faults listener) (W.faults sink.old) (K.faults keeper))
         (door None (W.held sink.new) (L.faults result.listener) (W.faults sink.new) (K.faults result.keeper)) result.status }
+    ensures stopped { OutlivesStops (K.holds keeper) (K.leaves keeper) (K.tells_crash keeper)
+        (K.holds result.keeper) (K.leaves result.keeper) (K.tells_crash result.keeper) }
 {
     match Desk::<K, B>::open(alloc, history, keeper, LARGEST) {
         Ok(desk) => {

@@ -95,6 +95,7 @@ impl<K: Keeper + Drop, B: Naming> Desk<K, B> {
         ensures unopened { IfErr result (λ un. IsUnopened capacity (K.holds un.keeper) (K.bad un.keeper) un.fault) }
         ensures cause { IfErr result (λ un. BlamesKeeper (K.faults keeper) (K.faults un.keeper) un.fault) }
         ensures kept { IfErr result (λ un. Keeps (K.holds keeper) (K.holds un.keeper)) }
+        ensures stopped { IfErr result (λ un. K.tells_crash un.keeper → K.tells_crash keeper × Keeps (K.leaves keeper) (K.leaves un.keeper)) }
     {
         let Ok(waiting) = VecDeque::with_capacity(alloc, MOST_PASSES as usize) else {
             return Err(Unopened {

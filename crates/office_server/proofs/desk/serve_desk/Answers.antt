@@ -2,13 +2,18 @@ use Rattle.std.proofs.Common.{◌∙◌, sym, subst}
 use Rattle.book_rows.specs.Book.{book_of}
 use Rattle.shared_desk.specs.Passes.{AreFresh}
 use Rattle.office_server.specs.Links.{ServesInTurn}
-use Rattle.office_server.proofs.{Leaving.in_turn, Leaving.leaves_desk, Leaving.turned, SeatLemmas.fresh_starts, SeatLemmas.one_long}
+use Rattle.office_server.proofs.{Leaving.in_turn, Leaving.leaves_desk, Leaving.survives, Leaving.turned, SeatLemmas.fresh_starts, SeatLemmas.one_long}
 use Rattle.office_server.proofs.desk.serve_desk.Goals as goal
 
 pub returns-in-Ok-clause-leaves : goal.returns-in-Ok-clause-leaves
 returns-in-Ok-clause-leaves g c =
     let same = c.serve_by-worked.ensures.start c.args.desk.start (fresh_starts c.args.desk.start 1 c.in-Ok.passes.items c.in-Ok.ensures.fresh) in
     leaves_desk c.args.desk.start c.serve_by-worked.result.pass _ _ _ _ _ _ same c.left_by.ensures.finished c.requires.capacity
+
+pub returns-in-Ok-clause-stopped : goal.returns-in-Ok-clause-stopped
+returns-in-Ok-clause-stopped g c =
+    let same = c.serve_by-worked.ensures.start c.args.desk.start (fresh_starts c.args.desk.start 1 c.in-Ok.passes.items c.in-Ok.ensures.fresh) in
+    survives c.args.desk.start c.serve_by-worked.result.pass _ _ _ _ _ _ same c.left_by.ensures.finished c.requires.capacity
 
 pub returns-in-Ok-clause-in_turn : goal.returns-in-Ok-clause-in_turn
 returns-in-Ok-clause-in_turn g c = λ one.

@@ -1,10 +1,11 @@
-use Rattle.std.proofs.Common.{inl, ap}
+use Rattle.std.proofs.Common.{inl, inr, ap, refl}
+use Rattle.std.specs.Prelude.{None}
 use Rattle.book_rows.specs.Book.{book_of}
-use Rattle.office_server.proofs.Leaving.{ends_by, told_otherwise, turn_by}
+use Rattle.office_server.proofs.Leaving.{ends_by, outlives, told_otherwise, turn_by}
 use Rattle.office_server.proofs.server.serve_on.Goals as goal
 
-pub returns-in-Ok : goal.returns-in-Ok
-returns-in-Ok g c =
+pub returns-in-Ok-clause-comes : goal.returns-in-Ok-clause-comes
+returns-in-Ok-clause-comes g c =
     let served = c.serve_desk-finished.ensures in
     let told = c.status_of-status.ensures in
     inl (record {
@@ -14,3 +15,26 @@ returns-in-Ok g c =
           told.whole told.failed told.unserved;
       in_turn = λ one. turn_by (g.L.Listener.left c.serve_desk-finished.result.listener) (book_of c.serve_desk-finished.result.finished.tables) _ _ _ _ _ _ _ _ _ c.serve_desk-finished.result.how _ (λ is. ap g.L.Listener.faults (served.unserved is)) told.unserved (served.in_turn one);
     })
+
+pub returns-in-Ok-clause-stopped : goal.returns-in-Ok-clause-stopped
+returns-in-Ok-clause-stopped g c =
+    let served = c.serve_desk-finished.ensures in
+    outlives _ _ _ _ _ _ _ _ c.requires.sound_by served.leaves.kept served.stopped
+
+pub returns-in-Err-clause-comes : goal.returns-in-Err-clause-comes
+returns-in-Err-clause-comes g c = inr (
+  refl,
+  record {
+    why = c.in-Err.field-0.fault;
+    is_why = c.in-Err.ensures.unopened;
+    kept = c.in-Err.ensures.kept;
+    unread = refl;
+    unfaulted = refl;
+    told = c.tell_unopened.ensures None (g.L.Listener.faults c.args.listener) (g.K.Keeper.faults c.args.keeper) (g.K.Keeper.faults c.in-Err.field-0.keeper) c.in-Err.ensures.cause;
+  },
+)
+
+pub returns-in-Err-clause-stopped : goal.returns-in-Err-clause-stopped
+returns-in-Err-clause-stopped g c = λ sound tells now holds after leaves.
+    let left = c.in-Err.ensures.stopped tells in
+    inl (sound left.0 now (c.in-Err.ensures.kept now holds) after (left.1 after leaves))
