@@ -12,8 +12,9 @@ use book_asking::{AskFault, AskedRows, acts_of_rows, ask_tables, lines_of_rows, 
 use book_ranges::narrowed;
 use book_rows::Tables;
 use book_statements::make_tables;
+use book_texts::{WideAct, WideLine, WideRecord};
 use keeper_core::Loaded;
-use sqlite::{Alter, Connection, Error, ErrorCode};
+use sqlite::{Alter, Connection, Error, ErrorCode, Row};
 use std::alloc::Global;
 
 /// Whether memory ran out.
@@ -23,15 +24,39 @@ pub(crate) fn is_want_of_memory(error: &Error) -> bool
     matches!(error, Error::SqliteFailure(ErrorCode::OutOfMemory))
 }
 
-/// The rows that the file shows, in their ranges, or the first bad one.
-fn loaded_of(alloc: Global, rows: &AskedRows) -> Result<Loaded, Error>
-    ensures narrowed { IfOk result (λ loaded. (acts : _) → (records : _) → (lines : _) → rows.now.acts.items ≡ map act_values acts → rows.now.records.items ≡ map record_values records → rows.now.lines.items ≡ map line_values lines → Narrows acts records lines loaded) }
+/// The rows that the file shows, in their ranges, or the first bad one. Each table's rows are let go once they are read, since a
+/// row as the file shows it takes several times the room of what is read of it.
+fn loaded_of(alloc: Global, rows: AskedRows) -> Result<Loaded, Error>
+    ensures narrowed { IfOk result (λ loaded. (acts : _) → (records : _) → (lines : _) → rows.acts.items ≡ map act_values acts → rows.records.items ≡ map record_values records → rows.lines.items ≡ map line_values lines → Narrows acts records lines loaded) }
     ensures answer { IfOk result IsAnswer }
 {
-    let acts = acts_of_rows(alloc, &rows.acts)?;
-    let records = records_of_rows(alloc, &rows.records)?;
-    let lines = lines_of_rows(alloc, &rows.lines)?;
+    let AskedRows {
+        acts,
+        records,
+        lines,
+    } = rows;
+    let lines = lines_read(alloc, lines)?;
+    let records = records_read(alloc, records)?;
+    let acts = acts_read(alloc, acts)?;
     Ok(narrowed(alloc, &acts, &records, &lines))
+}
+
+fn acts_read(alloc: Global, rows: Vec<Row>) -> Result<Vec<WideAct>, Error>
+    ensures { IfOk result (λ read. (acts : _) → rows.items ≡ map act_values acts → read.items ≡ acts) }
+{
+    acts_of_rows(alloc, &rows)
+}
+
+fn records_read(alloc: Global, rows: Vec<Row>) -> Result<Vec<WideRecord>, Error>
+    ensures { IfOk result (λ read. (records : _) → rows.items ≡ map record_values records → read.items ≡ records) }
+{
+    records_of_rows(alloc, &rows)
+}
+
+fn lines_read(alloc: Global, rows: Vec<Row>) -> Result<Vec<WideLine>, Error>
+    ensures { IfOk result (λ read. (lines : _) → rows.items ≡ map line_values lines → read.items ≡ lines) }
+{
+    lines_of_rows(alloc, &rows)
 }
 
 /// Asks for the rows of the three tables.
@@ -41,7 +66,7 @@ fn load_rows<S: Alter>(conn: &mut Connection<S>, alloc: Global) -> Result<Loaded
     ensures tells { (is_beside : Bool) → TellsNoMore (state S.Store conn.old) is_beside (state S.Store conn.new) is_beside }
 {
     let rows = ask_tables(conn)?;
-    match loaded_of(alloc, &rows) {
+    match loaded_of(alloc, rows) {
         Ok(loaded) => Ok(loaded),
         Err(error) => Err(AskFault::Others(error)),
     }
