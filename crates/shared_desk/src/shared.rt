@@ -18,7 +18,11 @@ use office_core::{Call, Question};
 use office_io::Clock;
 use std::alloc::Global;
 use std::marker::PhantomData;
-use std::sync::{Mutex, Wait};
+use std::sync::{Mutex, MutexGuard, Wait};
+use std::thread::yield_now;
+
+/// How often a thread looks whether the lock is free before it sleeps: for some tenths of a millisecond at most.
+const LOOKS: u32 = 400;
 
 /// A desk as threads share it: the history, and behind a lock the office and its keeper.
 #[derive(Drop)]
@@ -48,7 +52,7 @@ impl<K: Keeper + Drop, B: Naming> SharedDesk<K, B> {
         ensures cause { ReplyCause pass.new.found pass.new.left result.reply }
     {
         let day = clock.today();
-        let mut locked = self.lock.lock(rt);
+        let mut locked = self.locked(rt);
         locked.call(alloc, &self.history.shared, pass, call, day)
     }
 
@@ -65,8 +69,20 @@ impl<K: Keeper + Drop, B: Naming> SharedDesk<K, B> {
         ensures point { result.point ≡ point_of pass.new }
         ensures answered { Answers (answer_to (tables_at pass.new.start pass.new.list) question.now) result.answer }
     {
-        let mut held = self.lock.lock(rt);
+        let mut held = self.locked(rt);
         held.ask(alloc, &self.history.shared, pass, question)
+    }
+
+    /// Takes the lock. Most acts take no longer than a thread takes to wake, so one that waits looks again for a while, and
+    /// lets others run, before it sleeps.
+    fn locked<R: Wait>(&self, rt: &R) -> MutexGuard<'_, Locked<K, B>> {
+        for _ in 0..LOOKS {
+            if let Some(locked) = self.lock.try_lock() {
+                return locked;
+            }
+            yield_now();
+        }
+        self.lock.lock(rt)
     }
 
     /// Writes down what the pass has seen. It doesn't wait.
