@@ -1,0 +1,132 @@
+"""Refused memory: tests/refuse.c stands before malloc, and refuses the k-th allocation of the program, alone or with every later one.
+The status is one of README's table and no signal, and the file holds the acts that were acknowledged, or these and the one in work."""
+import os, shutil, subprocess, sys
+
+from book_file import FACTS, LINES, TOP, copied, replied, rows
+from http_answers import Serving
+
+INTERIM = '{"clerk":2,"request":50,"act":{"kind":"interim","household":1,"seen":1,"event":"2024-01-20","notice":"2024-01-25","done":"2024-02-01","from":"2024-03-01","facts":%s}}' % FACTS
+WAYS = ("REFUSE_FROM", "REFUSE_ONLY")
+
+
+class Refusing:
+    """The program, with the allocation that it is refused."""
+
+    def __init__(self, tries, shim):
+        self.tries, self.shim = tries, shim
+
+    def with_refused(self, way, number, told=""):
+        return {**os.environ, "LD_PRELOAD": self.shim, way: str(number), "REFUSE_TOLD": told}
+
+    def taken(self, run):
+        """How many allocations a run takes."""
+        told = self.tries.path("told")
+        run(self.with_refused("REFUSE_ONLY", 0, told))
+        with open(told, "rb") as file:
+            return int.from_bytes(file.read(8), sys.byteorder)
+
+
+def shim_of(tries):
+    """None where the program can't be given one."""
+    compiler, shim = shutil.which("gcc") or shutil.which("cc"), tries.path("refuse.so")
+    is_linked = compiler and b"malloc" in subprocess.run(["nm", "-D", tries.program], capture_output=True).stdout
+    if not is_linked or subprocess.run([compiler, "-O2", "-shared", "-fPIC", "-o", shim, f"{TOP}/tests/refuse.c"]).returncode:
+        print("refused memory: not tried, as there is no C compiler here, or the program takes its memory otherwise", flush=True)
+        return None
+    return shim
+
+
+def numbers(total, most):
+    """All the numbers up to a total and one more, or about so many of them, with the first ones and the last."""
+    step = max(1, total // most) if most else 1
+    return sorted({*range(1, total, step), *range(1, 6), *range(total - 2, total + 2)})
+
+
+def refused_batches(refusing, most):
+    """Nine acts on a file that is not there yet."""
+    tries = refusing.tries
+    path, copy, seen = tries.path("refused.book"), tries.path("copy.book"), {}
+    gone = lambda: copied(tries.path("none"), path)
+
+    def run(env):
+        gone()
+        return tries.run(path, ["batch"], b"".join(LINES), env=env)
+
+    total = refusing.taken(run)
+    for way in WAYS:
+        for number in numbers(total, most):
+            status, out, err = run(refusing.with_refused(way, number))
+            told, name = out.count(b"\n"), f"a batch, {way}={number}"
+            seen[status] = seen.get(status, 0) + 1
+            tries.says(name, (status in (0, 7), out, err, status == 7 or told == 9), (True, replied(told), b"", True))
+            tries.says(f"{name}: it opens", tries.run(copied(path, copy), ["batch"]), (0, b"", b""))
+            held = [it[2:4] for it in rows(copy, "acts", "n")]
+            tries.says(f"{name}: the book", (held, len(held) in (told, told + 1)), ([(1, it) for it in range(1, len(held) + 1)], True))
+            tries.says(f"{name}: again", tries.run(path, ["batch"], b"".join(LINES)), (0, replied(9), b""))
+    return f"{total} allocations of a batch of nine acts: {seen}"
+
+
+def refused_openings(refusing, most):
+    """A book of a made office, which is opened, asked and left as it is."""
+    tries = refusing.tries
+    path, lines = tries.path("many.book"), subprocess.run([tries.program, "make", "12"], stdout=subprocess.PIPE).stdout
+    tries.says("a book of a made office", tries.run(path, ["batch"], lines)[0], 0)
+    ask, seen, held = b'{"ask":{"kind":"household","household":1}}\n', {}, rows(path, "acts", "n")
+    tries.run(path, ["batch"])
+    whole = tries.run(path, ["batch"], ask)
+    run = lambda env: tries.run(path, ["batch"], ask, env=env)
+    total = refusing.taken(run)
+    for way in WAYS:
+        for number in numbers(total, most):
+            status, out, err = run(refusing.with_refused(way, number))
+            seen[status] = seen.get(status, 0) + 1
+            wanted = whole if status == 0 else (7, b"", b"")
+            tries.says(f"an opening, {way}={number}", (status, out, err), wanted)
+    tries.says("the book after the openings", tries.run(path, ["batch"], ask), whole)
+    tries.says("its acts", rows(path, "acts", "n"), held)
+    return f"{total} allocations of opening a book of {len(held)} acts: {seen}"
+
+
+def two_links(serving):
+    """The answers over two links, each as far as it goes: an act and a question, and a second act."""
+    answers = []
+    for messages in ((INTERIM.encode(), b""), (LINES[4][:1] + LINES[4][LINES[4].index(b'"clerk"'):-1],)):
+        try:
+            with serving.link() as link:
+                for body in messages:
+                    answers.append(link.asked(body) if body else link.sent(b"GET /households/1 HTTP/1.1\r\n\r\n"))
+        except (EOFError, ConnectionError):
+            answers.append(None)
+    return answers
+
+
+def refused_servers(refusing, most):
+    """Two links of a server on the book of four acts: an interim with a question, and a closing."""
+    tries = refusing.tries
+    first, path, copy, seen = tries.path("four.book"), tries.path("served.book"), tries.path("copy.book"), {}
+    tries.run(first, ["batch"], b"".join(LINES[:4]))
+
+    def run(env):
+        serving = Serving(tries, copied(first, path), 1, 2, env=env)
+        return two_links(serving), serving.end()
+
+    total = refusing.taken(run)
+    for way in WAYS:
+        for number in numbers(total, most):
+            answers, (status, out, err) = run(refusing.with_refused(way, number))
+            told, name = [it for it in answers if it and it.status == 201], f"a server, {way}={number}"
+            seen[status] = seen.get(status, 0) + 1
+            tries.says(name, (status in (0, 3, 7), err, {it.status for it in answers if it} - {200, 201, 409, 507}), (True, b"", set()))
+            tries.says(f"{name}: it opens", tries.run(copied(path, copy), ["batch"]), (0, b"", b""))
+            held = [it[2:4] for it in rows(copy, "acts", "n")]
+            tries.says(f"{name}: the book", (held[:4], set(held[4:]) <= {(2, 50), (1, 5)}, len(held) - 4 >= len(told)), ([(1, it) for it in range(1, 5)], True, True))
+            tries.says(f"{name}: the line", out, b"book %d\n" % len(held) if status == 0 else b"")
+    return f"{total} allocations of a server of two links: {seen}"
+
+
+def try_memory(tries, most):
+    shim = shim_of(tries)
+    if shim:
+        refusing = Refusing(tries, shim)
+        for group in (refused_batches, refused_openings, refused_servers):
+            print(group(refusing, most), flush=True)
