@@ -52,6 +52,7 @@ class Tries:
 
     def __init__(self, program):
         self.program, self.folder, self.count, self.failed = os.path.abspath(program), tempfile.mkdtemp(prefix="office-file-"), 0, 0
+        self.servers = []
         os.chmod(self.folder, 0o777)
 
     def says(self, name, came, wanted):

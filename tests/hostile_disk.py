@@ -1,8 +1,8 @@
 """The order of writes, syncs and replies, by strace; and disks that fill up, leave that is taken away, and logs that aren't the file's."""
-import contextlib, os, re, shutil, subprocess, threading
+import contextlib, os, re, shutil, signal, sqlite3, subprocess, threading
 
 from book_file import LINES, copied, replied, rows, unit_line
-from http_answers import Serving
+from http_answers import Serving, free_port
 
 CALLS = "trace=pwrite64,pwritev,write,writev,sendto,sendmsg,fdatasync,fsync,ftruncate"
 BEGUN = re.compile(r'(\d+) +(\w+)\((\d+)<([^>]*)>(?:, "([^"]*)")?')
@@ -126,7 +126,8 @@ class Room:
 
     def __exit__(self, *_):
         if self.is_there:
-            subprocess.run(["umount", self.path], check=True)
+            # Where a check broke off, a program may still have the file.
+            subprocess.run(["umount", "--lazy", self.path], check=True)
 
 
 def sends_the_rest(tries, name, path, words, told, header, lines):
@@ -162,11 +163,10 @@ def full_disks(tries, chance):
 
 def full_server(tries):
     """503 while there is no room, with questions answered all the while; and acts again once there is."""
-    with Room(tries, "700k") as path:
-        if not path:
-            return
+    room = Room(tries, "700k")
+    with room as path:
         tries.run(path, ["batch"], LINES[0])
-        serving, room, told = Serving(tries, path, 2, 1), os.path.dirname(path), []
+        serving, told = Serving(tries, path, 2, 1), []
         post = lambda link, request: link.asked(b'{"clerk":2,"request":%d,"act":{"kind":"unit","name":"S%d","group":1,"bedrooms":1,"accessible":false}}' % (request, request))
         with serving.link() as link:
             while not told or told[-1].status == 201 and len(told) < 2000:
@@ -174,19 +174,15 @@ def full_server(tries):
             tries.says("the full disk's answer", (told[-1].status, told[-1].body), (503, b'{"refused":{"kind":"Store"}}'))
             tries.says("its point", told[-1].book, len(told))
             tries.says("a question at a full disk", link.sent(b"GET /due/2024-01-01 HTTP/1.1\r\n\r\n")[:2], (200, len(told)))
-            subprocess.run(["mount", "-o", "remount,size=16m", room], check=True)
+            room.grow("16m")
             again = [post(link, len(told)) for _ in range(2)]
-        status, out, err = serving.end()
-        tries.says("the end of a server at a full disk", (status, err), (0, b""))
-        copy = copied(path, tries.path("full.book"))
-        tries.says("its book opens", tries.run(copy, ["batch"]), (0, b"", b""))
-        held = [it[2:4] for it in rows(copy, "acts", "n")][1:]
-        kept = [(2, request) for request in range(1, len(told) + (1 if again[0].status == 201 else 0))]
-        print("after room was made the server answered", [it.status for it in again], len(held) - len(told) + 1, flush=True)
-        tries.says("its acts", held, kept)
+        tries.says("the act once there is room, and again", ([it.status for it in again], again[0].body == again[1].body), ([201, 201], True))
+        tries.says("the end of a server at a full disk", serving.end(), (0, b"book %d\n" % (len(told) + 1), b""))
+        tries.says("its acts", [it[2:4] for it in rows(path, "acts", "n")][1:], [(2, request) for request in range(1, len(told) + 1)])
+        tries.says("its book opens", tries.run(path, ["batch"]), (0, b"", b""))
 
 
-def in_mid_run(tries, path, change, count=9):
+def in_mid_run(tries, path, change):
     """The answers of a batch of nine acts, to which something happens once the third is answered."""
     nobody = ["setpriv", "--reuid=65534", "--regid=65534", "--clear-groups"] if os.geteuid() == 0 else []
     process = subprocess.Popen([*nobody, tries.program, "--book", path, "batch"], stdin=subprocess.PIPE, stdout=subprocess.PIPE, stderr=subprocess.PIPE)
@@ -249,6 +245,45 @@ def nobody_reads(tries):
     tries.says("the acts again", tries.run(path, ["batch"], b"".join(LINES)), (0, replied(9), b""))
 
 
+def limited_files(tries):
+    """A limit on the length of files ends the program by a signal, as a kill does."""
+    if not shutil.which("prlimit"):
+        print("a limit on the length of files: not tried, as there is no prlimit here", flush=True)
+        return
+    for limit in (1_000, 50_000, 300_000):
+        path = tries.path(f"limit-{limit}.book")
+        status, replies, said = tries.run(path, ["batch"], b"".join(LINES), before=["prlimit", f"--fsize={limit}"])
+        told = replies.count(b"\n")
+        tries.says(f"files of {limit} bytes", (status, replies, said), (-signal.SIGXFSZ, replied(told), b""))
+        sends_the_rest(tries, f"files of {limit} bytes", path, ["batch"], told, b"", LINES)
+
+
+def read_by_sqlite(path):
+    """The acts that another program of SQLite finds, or why it finds none."""
+    reader = sqlite3.connect(path, timeout=0.1)
+    try:
+        return reader.execute("SELECT n FROM acts").fetchall()
+    except sqlite3.OperationalError as fault:
+        return str(fault)
+    finally:
+        reader.close()
+
+
+def second_program(tries):
+    """While a server has the file no other program gets it, and the server goes on."""
+    path = tries.book("shared.book")
+    serving = Serving(tries, path, 1, 2)
+    with serving.link() as link:
+        ask = b"GET /households/1 HTTP/1.1\r\n\r\n"
+        tries.says("the first program", link.sent(ask)[:2], (200, 9))
+        for words in (["batch"], ["export"], ["serve", str(free_port()), "1", "1"]):
+            tries.says(f"a second program, {words[0]}", tries.run(path, words, LINES[0]), (5, b"", b""))
+        tries.says("a reader of SQLite", read_by_sqlite(path), "database is locked")
+        tries.says("the first program again", link.sent(ask)[:2], (200, 9))
+    serving.link().reset()
+    tries.says("its end", serving.end(), (0, b"book 9\n", b""))
+
+
 # ---- logs
 
 def killed_after(tries, path, lines):
@@ -307,4 +342,6 @@ def try_disks(tries, chance, count):
     taken_leave(tries)
     frozen_log(tries)
     nobody_reads(tries)
+    limited_files(tries)
+    second_program(tries)
     other_logs(tries, chance, count)

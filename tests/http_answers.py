@@ -79,6 +79,7 @@ class Serving:
         self.port = free_port()
         words = [*before, tries.program, *(["--book", book] if book else []), "serve", str(self.port), str(workers), str(links)]
         self.process = subprocess.Popen(words, stdin=subprocess.DEVNULL, stdout=subprocess.PIPE, stderr=subprocess.PIPE, **how)
+        tries.servers.append(self.process)
 
     def link(self, seconds=20):
         """A link, once the server listens; EOFError where it has ended."""
