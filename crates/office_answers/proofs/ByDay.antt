@@ -1,5 +1,5 @@
 -- A list that was sorted by its days, and that keeps the order of the items of one day, is that list day after day.
-use Rattle.std.proofs.Common.{◌≡◌, ◌∙◌, ◌⊎◌, inl, inr, sym, ap, ap₂, refl, ℕ, zero, suc, ◌+◌, ◌<◌, ◌≤◌, arith, Bool, true, false, List, [], ◌∷◌, ◌++◌, filter, All, get_or, ltb}
+use Rattle.std.proofs.Common.{◌≡◌, ◌∙◌, ◌⊎◌, inl, inr, sym, ap, ap₂, refl, ℕ, zero, suc, ◌+◌, ◌<◌, ◌≤◌, arith, true, false, List, [], ◌∷◌, ◌++◌, filter, All, get_or, ltb}
 use Rattle.std.specs.Prelude.{◌==◌}
 use Rattle.std.specs.{List.range_with_len, List.flat_map, Ordering.nat_cmp, Ordering.is_lt}
 use Rattle.std.specs.List.Sorted.{IsSortedByKey, IsStableByKey, IsNonDecreasingBy, ties}

@@ -1,5 +1,5 @@
 -- Who is listed as due, and in which order; and what a voucher comes to.
-use Rattle.std.proofs.Common.{◌≡◌, ◌≢◌, ◌∙◌, sym, ap, refl, inl, inr, ℕ, ◌+◌, ◌<◌, ◌≤◌, ◌+ℤ◌, pos, arith, Bool, true, false, List, [], ◌∷◌, Option, Some, None, length, filter, not, if◌then◌else◌, option_to_list, All, AllPairs}
+use Rattle.std.proofs.Common.{◌≡◌, ◌≢◌, sym, ap, refl, inl, inr, ℕ, ◌+◌, ◌<◌, ◌≤◌, ◌+ℤ◌, arith, Bool, true, false, List, [], ◌∷◌, Option, Some, None, length, filter, not, if◌then◌else◌, option_to_list, All, AllPairs}
 use Rattle.std.specs.Prelude.{◌↔◌, ◌==◌, nat_le, option_and_then, Contains, IsSomeAnd}
 use Rattle.std.specs.{List.range_with_len, List.flat_map, Option.option_map_or}
 use Rattle.std.proofs.lemmas.{Bool.le-leb, Bool.leb-true, Bool.eq-eqb, Bool.eqb-true, Option.cond_some, Int.ints, List.Kept.AllPairs-filter}

@@ -2,6 +2,7 @@ pub mod Below
 pub mod Answered
 pub mod Households
 pub mod Vouchers
+pub mod InTurn
 pub mod DueList
 pub mod FiscalYear
 pub mod Answering

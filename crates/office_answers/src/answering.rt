@@ -7,17 +7,16 @@ use crate::fiscal_year::targets_answer;
 use crate::households::{household_answer, record_answer};
 use crate::next::next_answer;
 use crate::vouchers::{paid_answer, voucher_answer};
-use crate::{Answer, Asked, Question};
+use crate::{Answer, Asked, BookLines, Question};
 use office_acts::office_register::Register;
 use office_acts::office_step::Refusal;
 use std::alloc::Global;
-use voucher_core::Line;
 
 /// The answer to a question, by what an office knows and by the lines of all closings, at most 4,000,000.
 pub fn answer_to(
     alloc: Global,
     register: &Register,
-    lines: &[Line],
+    lines: &BookLines,
     question: &Question,
 ) -> Result<Answer, Asked>
     requires { length lines.now ≤ 4000000 }

@@ -3,9 +3,11 @@
 
 mod answer;
 mod answering;
+mod book_lines;
 mod due;
 mod fiscal_year;
 mod households;
+mod in_turn;
 mod laws;
 mod next;
 mod question;
@@ -14,6 +16,8 @@ mod vouchers;
 
 pub use answer::{Admissions, Answer, Asked, DueDay, HouseholdSummary, Voucher};
 pub use answering::answer_to;
+pub use book_lines::BookLines;
+pub use in_turn::{are_in_turn, stay_in_turn};
 pub use laws::{due_list_is_whole, vouchers_total};
 pub use office_acts;
 pub use office_acts::{office_refusals, office_register, office_step};

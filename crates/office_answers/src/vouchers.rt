@@ -5,7 +5,8 @@ ghost use Rattle.voucher_core.specs.Lines.{is_for};
 ghost use Rattle.office_answers.specs.Answered.{Answers};
 ghost use Rattle.office_answers.specs.Vouchers.{is_closed, lines_of_closing, own_lines, adjusting_lines, voucher_of, voucher_answer, paid_answer};
 
-use crate::{Answer, Asked, Voucher};
+use crate::in_turn::{closing_in_turn, is_for, paying_in_turn};
+use crate::{Answer, Asked, BookLines, Voucher};
 use days_core::Month;
 use office_acts::office_refusals::no_household;
 use office_acts::office_register::Register;
@@ -18,7 +19,7 @@ use voucher_core::{Line, total};
 pub fn voucher_answer(
     alloc: Global,
     register: &Register,
-    lines: &[Line],
+    lines: &BookLines,
     month: Month,
 ) -> Result<Answer, Asked>
     requires { length lines.now ≤ 4000000 }
@@ -40,7 +41,7 @@ fn is_closed(plan: Option<&Plan>, closing: Option<Closed>, month: Month) -> bool
     }
 }
 
-fn voucher_of(alloc: Global, lines: &[Line], month: Month) -> Result<Voucher, NoMemory>
+fn voucher_of(alloc: Global, lines: &BookLines, month: Month) -> Result<Voucher, NoMemory>
     requires { length lines.now ≤ 4000000 }
     ensures { IfOk result (λ voucher. voucher ≡ voucher_of month lines.now) }
 {
@@ -58,7 +59,20 @@ fn voucher_of(alloc: Global, lines: &[Line], month: Month) -> Result<Voucher, No
 }
 
 /// The lines of the closing of the month.
-fn lines_of_closing(alloc: Global, lines: &[Line], month: Month) -> Result<Vec<Line>, NoMemory>
+#[tactic(auto, using(list_laws::proofs::Filters::filter_few))]
+fn lines_of_closing(alloc: Global, lines: &BookLines, month: Month) -> Result<Vec<Line>, NoMemory>
+    ensures lines { IfOk result (λ closing. closing.items ≡ lines_of_closing month lines.now) }
+    ensures few { IfOk result (λ closing. length closing.items ≤ length lines.now) }
+{
+    if lines.in_turn {
+        let closing = closing_in_turn(lines.lines, month).to_vec(alloc)?;
+        Ok(closing)
+    } else {
+        closing_among(alloc, lines.lines, month)
+    }
+}
+
+fn closing_among(alloc: Global, lines: &[Line], month: Month) -> Result<Vec<Line>, NoMemory>
     ensures lines { IfOk result (λ closing. closing.items ≡ lines_of_closing month lines.now) }
     ensures few { IfOk result (λ closing. length closing.items ≤ length lines.now) }
 {
@@ -99,7 +113,7 @@ fn adjusting_lines(alloc: Global, lines: &[Line], month: Month) -> Result<Vec<Li
 pub fn paid_answer(
     alloc: Global,
     register: &Register,
-    lines: &[Line],
+    lines: &BookLines,
     household: u32,
     month: Month,
 ) -> Result<Answer, Asked>
@@ -114,7 +128,24 @@ pub fn paid_answer(
 }
 
 /// The lines that pay the household for the month.
+#[tactic(auto, using(list_laws::proofs::Filters::filter_few))]
 fn paying_lines(
+    alloc: Global,
+    lines: &BookLines,
+    household: u32,
+    month: Month,
+) -> Result<Vec<Line>, NoMemory>
+    ensures lines { IfOk result (λ paying. paying.items ≡ filter (is_for household month) lines.now) }
+    ensures few { IfOk result (λ paying. length paying.items ≤ length lines.now) }
+{
+    if lines.in_turn {
+        paying_in_turn(alloc, lines.lines, household, month)
+    } else {
+        paying_among(alloc, lines.lines, household, month)
+    }
+}
+
+fn paying_among(
     alloc: Global,
     lines: &[Line],
     household: u32,
@@ -125,7 +156,7 @@ fn paying_lines(
 {
     let paying = lines
         .iter()
-        .filter(|line| line.household == household && line.for_month == month)
+        .filter(|line| is_for(line, household, month))
         .copied()
         .collect(alloc)?;
     Ok(paying)

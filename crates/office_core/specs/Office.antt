@@ -1,10 +1,11 @@
 -- An office of one clerk: its book, how much that may hold, and for how much more there is room.
-use Rattle.std.specs.Prelude.{ℕ, ◌≡◌, ◌≤◌, List, All, IfSome}
+use Rattle.std.specs.Prelude.{ℕ, ◌≡◌, ◌≤◌, true, List, All, IfSome}
 use Rattle.record_history.specs.Held.{IsWithin, room_of as record_room_of}
 use Rattle.book_rows.specs.Book.{Book, Room as TableRoom, HasRoom, book_of}
 use Rattle.row_index.specs.Index.{index_of}
 use Rattle.book_replay.specs.Below.book_search.Requests.{act_key}
 use Rattle.office_answers.specs.Below.office_step.{declared.call.Capacity.Capacity, Known.known_of, Step.IsReached}
+use Rattle.office_answers.specs.InTurn.{StandInTurn}
 use Rattle.office_core.specs.{declared.office.Office.TheInside.Inside, Planned.Planned}
 
 -- for how many more rows there is room: in the tables, and beside them of acts, of records of each household, of requests
@@ -34,3 +35,4 @@ pub record IsOffice (office : Inside) : Type 0 where
   pub known : office.register.known ≡ known_of (book_of office.tables)
   pub requests : office.requests.entries ≡ index_of act_key office.tables.acts.items
   pub records : All IsWithin office.tables.records.items
+  pub in_turn : office.in_turn ≡ true → StandInTurn office.tables.lines.items

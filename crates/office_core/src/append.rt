@@ -6,17 +6,19 @@ use book_replay::office_laws::{
 };
 use book_rows::{ActRow, Command};
 use office_answers::office_step::{Application, Done, Made};
+use office_answers::stay_in_turn;
 use plain_data::NoMemory;
 use record_history::{Dates, Record};
 use row_index::index_grows;
 use voucher_core::Line;
 
 impl Office {
-    ghost use Rattle.std.specs.Prelude.{◌≡◌, ◌≤◌, ◌+◌, length, OnOk, IfSome};
+    ghost use Rattle.std.specs.Prelude.{◌≡◌, ◌≤◌, ◌+◌, ◌++◌, true, length, OnOk, IfSome};
     ghost use Rattle.book_rows.specs.Book.{appended};
     ghost use Rattle.office_answers.specs.Below.office_step.Known.{known_of};
     ghost use Rattle.office_answers.specs.Below.office_step.Reply.{done_of};
     ghost use Rattle.book_replay.specs.Below.office_laws.AtHand.{made_now};
+    ghost use Rattle.office_answers.specs.InTurn.{StandInTurn};
     ghost use Rattle.office_core.specs.Planned.{IsPlannedFor};
     ghost use Rattle.office_core.specs.Office.{HasRoomFor};
 
@@ -83,10 +85,19 @@ impl Office {
         let Step { batch, asked, name } = step;
         let made = batch.made;
         let place = self.acts();
+        let in_turn = self.stays_in_turn(batch.lines.as_slice());
         self.requests
             .insert(act_key(batch.act.clerk, batch.act.request), place);
+        self.in_turn = in_turn;
         self.tables.append(batch);
         self.register.note(asked, name, made);
+    }
+
+    /// Whether the lines are known to stand in turn with these behind them.
+    fn stays_in_turn(&self, more: &[Line]) -> bool
+        ensures { result ≡ true → StandInTurn (self.now.book.lines ++ more.now) }
+    {
+        self.in_turn && stay_in_turn(&self.tables.lines, more)
     }
 
     /// How many acts the book holds.

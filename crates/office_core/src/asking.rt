@@ -1,9 +1,10 @@
 use crate::{Answer, Asked, Office, Question};
 use book_replay::office_laws::within_room;
-use office_answers::answer_to;
+use office_answers::{BookLines, answer_to};
 use std::alloc::Global;
 
 impl Office {
+    ghost use Rattle.std.specs.Prelude.{◌≡◌};
     ghost use Rattle.office_answers.specs.Answered.{Answers};
     ghost use Rattle.office_answers.specs.Answering.{answer_to};
 
@@ -12,6 +13,15 @@ impl Office {
         ensures { Answers (answer_to self.now.book question.now) result }
     {
         within_room();
-        answer_to(alloc, &self.register, &self.tables.lines, question)
+        answer_to(alloc, &self.register, &self.book_lines(), question)
+    }
+
+    fn book_lines(&self) -> BookLines<'_>
+        ensures { result ≡ self.now.book.lines }
+    {
+        BookLines {
+            lines: &self.tables.lines,
+            in_turn: self.in_turn,
+        }
     }
 }

@@ -19,6 +19,8 @@ pub struct Office {
     pub(crate) tables: Tables,
     pub(crate) register: Register,
     pub(crate) requests: RowIndex,
+    /// Whether the lines are known to stand in turn, so that those of a month are found without a look at all.
+    pub(crate) in_turn: bool,
 }
 
 impl Model for Office {
@@ -61,6 +63,7 @@ impl Office {
             tables: Tables::new(alloc),
             register: Register::new(alloc)?,
             requests: RowIndex::new(alloc),
+            in_turn: true,
         })
     }
 

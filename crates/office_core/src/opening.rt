@@ -9,6 +9,7 @@ use crate::replaying::Replay;
 use book_replay::office_laws::books_are_upheld;
 use book_replay::{Given, replay_is_kept};
 use book_rows::Tables;
+use office_answers::are_in_turn;
 use office_answers::office_step::{Capacity, Fault};
 use record_history::{Dates, Record};
 use std::alloc::Global;
@@ -43,6 +44,7 @@ impl Office {
         match done_again(alloc, &tables, capacity) {
             Ok(replay) => Ok(Office {
                 capacity,
+                in_turn: are_in_turn(&tables.lines),
                 tables,
                 register: replay.register,
                 requests: replay.requests,

@@ -1,6 +1,6 @@
 use crate::telling::{Known, told};
 use office_core::office_answers::{
-    Admissions, Answer, Asked, DueDay, HouseholdSummary, Question, Voucher, answer_to,
+    Admissions, Answer, Asked, BookLines, DueDay, HouseholdSummary, Question, Voucher, answer_to,
 };
 use office_core::office_step::{Named, Refusal};
 use plain_data::Listed;
@@ -27,7 +27,11 @@ fn ask(
     question: Question,
 ) -> Result<Answer, Asked> {
     assert!(rt; office.lines.len() <= 4_000_000);
-    answer_to(alloc, &office.register, &office.lines, &question)
+    let lines = BookLines {
+        lines: &office.lines,
+        in_turn: false,
+    };
+    answer_to(alloc, &office.register, &lines, &question)
 }
 
 /// Asks, and compares the answer.
