@@ -117,6 +117,54 @@ fn writes_the_beginning_of_its_replies(rt: HostRuntime) {
     }
 }
 
+/// How many lines have their end among the first so many of these bytes.
+fn ended(bytes: &[u8], count: u64) -> usize {
+    let read = bytes.iter().take(count as usize);
+    read.filter(|byte| **byte == b'\n').count()
+}
+
+// By one byte a read: however late one fails, what is kept is the acts of the lines whose end was read, and each was answered.
+#[test]
+fn keeps_the_lines_that_it_read(rt: HostRuntime) {
+    let alloc = rt.alloc();
+    let input = lines(&rt, alloc, "2024-01-01", 1, &[PLAN, UNIT, RENTS, START]);
+    for call in 0..=input.len() as u64 {
+        let mut keeper = MemoryKeeper::new(alloc);
+        let trial = Trial {
+            unread: Some(call),
+            at_once: 1,
+            ..BATCH
+        };
+        let told = ran(&rt, alloc, &mut keeper, &trial, &input);
+        let whole = ended(&input, call);
+        assert!(rt; told.has_lines(3, whole), "read {call}");
+        assert!(rt; keeper.tables().acts.len() == whole, "read {call}");
+    }
+}
+
+// By one byte a write: however late one fails, what is kept is the acts whose replies are whole, and the one in work.
+#[test]
+fn keeps_the_act_that_it_tells(rt: HostRuntime) {
+    let alloc = rt.alloc();
+    let input = month(&rt, alloc);
+    for call in 0..REPLIES.len() as u64 {
+        let mut keeper = MemoryKeeper::new(alloc);
+        let trial = Trial {
+            unwritten: Some(call),
+            at_once: 1,
+            ..BATCH
+        };
+        let told = ran(&rt, alloc, &mut keeper, &trial, &input);
+        assert!(rt; told.begins(4, REPLIES), "write {call}");
+        assert!(rt; told.text.len() as u64 == call, "write {call}");
+        let whole = ended(told.text.as_bytes(), call);
+        assert!(rt;
+            keeper.tables().acts.len() == whole.saturating_add(1),
+            "write {call}"
+        );
+    }
+}
+
 /// The tables of a month, but with a line for 549 in place of 548.
 fn changed_tables(rt: &impl Abort, alloc: Global) -> Tables {
     let mut keeper = MemoryKeeper::new(alloc);
