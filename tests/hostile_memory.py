@@ -124,9 +124,40 @@ def refused_servers(refusing, most):
     return f"{total} allocations of a server of two links: {seen}"
 
 
+def commands(tries):
+    """The other commands, each with its input, on a book and without one."""
+    applicants = b"request,name,size,persons,accessible,preferences,annual\n" + b"".join(b"%d,Name %d,1,1,no,1;2,9600\n" % (it, it) for it in range(20, 26))
+    with open(f"{TOP}/examples/one-household.json", "rb") as file:
+        household = file.read()
+    book = ["--book", tries.book("reported.book")]
+    for words in (["assess"], ["make", "2"], ["trial", "1"], ["voucher", "2024-03"], ["nonsense"], ["serve", "99999", "1", "1"]):
+        yield words, household
+    for words in (["export"], ["voucher", "2024-03"], ["due", "2024-09-03"], ["targets", "2024-01-01"], ["import", "2"]):
+        yield book + words, applicants
+
+
+def refused_commands(refusing, most):
+    """Each of them ends as ever, or with status 7 after a front of what it writes."""
+    tries, seen = refusing.tries, {}
+    for words, given in commands(tries):
+        def run(env):
+            ran = subprocess.run([tries.program, *words], input=given, stdout=subprocess.PIPE, stderr=subprocess.PIPE, timeout=60, env=env)
+            return ran.returncode, ran.stdout, ran.stderr
+
+        total = refusing.taken(run)
+        whole = run(os.environ)
+        for way in WAYS:
+            for number in numbers(total, most and max(1, most // 12)):
+                status, out, err = run(refusing.with_refused(way, number))
+                seen[status] = seen.get(status, 0) + 1
+                is_front = status == 7 and whole[1].startswith(out)
+                tries.says(f"{words}, {way}={number}", (is_front or (status, out) == whole[:2], err), (True, b""))
+    return f"the other commands: {seen}"
+
+
 def try_memory(tries, most):
     shim = shim_of(tries)
     if shim:
         refusing = Refusing(tries, shim)
-        for group in (refused_batches, refused_openings, refused_servers):
+        for group in (refused_batches, refused_openings, refused_servers, refused_commands):
             print(group(refusing, most), flush=True)
