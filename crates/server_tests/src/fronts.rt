@@ -290,3 +290,103 @@ fn a_cut_message_is_no_act(rt: HostRuntime) {
         .expect(&rt, "a last byte");
     assert!(rt; served(&rt, alloc, cut, &[], 4_096).is(SessionEnd::Cut, "", 0));
 }
+
+/// What a response is that is the last.
+fn last_response(rt: &impl Abort, alloc: Global, status: &str, point: u64, body: &str) -> String {
+    let text = response(rt, alloc, status, point, body);
+    let last = "connection: close\r\ncontent-length";
+    text.replace(alloc, "content-length", last)
+        .expect(rt, "memory")
+}
+
+/// Whether the message, behind the opening ones, has this last response, nothing is kept of it, and what follows isn't read.
+fn ends_with<R: Abort + Wait>(
+    rt: &R,
+    alloc: Global,
+    message: &str,
+    end: SessionEnd,
+    wanted: &str,
+) -> bool {
+    let mut text = opening(rt, alloc);
+    text.push_str(message).expect(rt, "memory");
+    text.push_str("GET /households/1 HTTP/1.1\r\n\r\n")
+        .expect(rt, "memory");
+    let mut responses = opened(rt, alloc);
+    responses.push_str(wanted).expect(rt, "memory");
+    served(rt, alloc, &text, &[], 1).is(end, &responses, 4)
+}
+
+/// What is no message, and how it is refused.
+const NO_MESSAGES: [(&str, u16, &str, &str); 5] = [
+    (
+        "GET /due/2024-01-01 HTTP/1.1\r\nA: b\0c\r\n\r\n",
+        400,
+        "400 Bad Request",
+        "{'refused':{'kind':'BadHead'}}",
+    ),
+    (
+        "POST /acts HTTP/1.1\r\nContent-Length: 2\r\nContent-Length: 2\r\n\r\n{}",
+        400,
+        "400 Bad Request",
+        "{'refused':{'kind':'BadLength'}}",
+    ),
+    (
+        "POST /acts HTTP/1.1\r\nContent-Length: +5\r\n\r\n",
+        400,
+        "400 Bad Request",
+        "{'refused':{'kind':'BadLength'}}",
+    ),
+    (
+        "POST /acts HTTP/1.1\r\nContent-Length: \r\n\r\n",
+        400,
+        "400 Bad Request",
+        "{'refused':{'kind':'BadLength'}}",
+    ),
+    (
+        "POST /acts HTTP/1.1\r\nContent-Length: 99999999999999999999\r\n\r\n",
+        413,
+        "413 Payload Too Large",
+        "{'refused':{'kind':'BodyTooLong'}}",
+    ),
+];
+
+#[test]
+fn no_messages_end_a_session(rt: HostRuntime) {
+    let alloc = rt.alloc();
+    for (message, status, phrase, body) in NO_MESSAGES {
+        let wanted = last_response(&rt, alloc, phrase, 4, body);
+        let end = SessionEnd::Refused { status };
+        assert!(rt; ends_with(&rt, alloc, message, end, &wanted), "{message}");
+    }
+    let message = "GET /due/2024-01-01?x=1 HTTP/1.0\r\n\r\n";
+    let wanted = last_response(&rt, alloc, "200 OK", 4, "{'due':[]}");
+    assert!(rt; ends_with(&rt, alloc, message, SessionEnd::Ended, &wanted));
+}
+
+/// A body of 128 brackets and as many that close them.
+fn nested(rt: &impl Abort, alloc: Global) -> String {
+    let opening = "[".repeat(alloc, 128).expect(rt, "memory");
+    let closing = "]".repeat(alloc, 128).expect(rt, "memory");
+    let message = format!(in alloc;
+        "POST /acts HTTP/1.1\r\nContent-Length: 256\r\n\r\n{opening}{closing}"
+    );
+    message.expect(rt, "memory")
+}
+
+// What isn't of its form is told by its path, and the session goes on.
+#[test]
+fn bad_forms_are_told(rt: HostRuntime) {
+    let alloc = rt.alloc();
+    let nested = nested(&rt, alloc);
+    for (message, path) in [
+        ("POST /acts HTTP/1.1\r\nContent-Length: 000\r\n\r\n", ""),
+        (nested.as_str(), ""),
+        ("GET /due/2024-02-30 HTTP/1.1\r\n\r\n", "{day}"),
+        ("GET /households/4294967296 HTTP/1.1\r\n\r\n", "{h}"),
+    ] {
+        let body = format!(in alloc; "{{'refused':{{'kind':'Form','path':'{path}'}}}}");
+        let body = body.expect(&rt, "memory");
+        let wanted = response(&rt, alloc, "422 Unprocessable Entity", 4, &body);
+        assert!(rt; has(&rt, alloc, message, &wanted), "{message}");
+    }
+}

@@ -1,0 +1,214 @@
+ghost use Rattle.std.specs.Prelude.{◌≡◌, []};
+ghost use Rattle.book_rows.specs.Book.{Book};
+ghost use Rattle.desk_history.specs.declared.views.View.TheVariants.{Blank};
+
+use crate::fronts::history;
+use crate::serving::{RAISED, raise, small_office};
+use desk_history::NewHistory;
+use http_front::clerk_desk::office_core::Capacity;
+use http_front::shared_desk::{Desk, Naming, Pass, SharedDesk};
+use http_front::{SessionEnd, session};
+use keeper_core::MemoryKeeper;
+use office_io::{FixedClock, MemorySink, MemorySource};
+use sample_office::{day, written};
+use std::alloc::Global;
+use std::marker::Brand;
+use std::process::Abort;
+use std::sync::Wait;
+
+/// A session's bytes, and the calls of its source and its sink that fail, of which each gives or takes one byte.
+#[derive(Clone, Copy)]
+struct Given<'a> {
+    bytes: &'a [u8],
+    unread: Option<u64>,
+    unwritten: Option<u64>,
+}
+
+/// How a session ended, and what it wrote.
+#[derive(Drop)]
+struct Told {
+    end: SessionEnd,
+    bytes: Vec<u8>,
+}
+
+impl Told {
+    fn is(&self, end: SessionEnd, bytes: &[u8]) -> bool {
+        self.end == end && self.bytes.as_slice() == bytes
+    }
+}
+
+fn calls(rt: &impl Abort, alloc: Global, failing: Option<u64>) -> Vec<u64> {
+    let mut calls = Vec::new(alloc);
+    if let Some(call) = failing {
+        calls.push(call).expect(rt, "memory");
+    }
+    calls
+}
+
+/// Serves the bytes by the pass on 1 February 2024.
+fn served<R: Abort + Wait, B: Naming>(
+    rt: &R,
+    alloc: Global,
+    desk: &SharedDesk<MemoryKeeper, B>,
+    pass: &mut Pass<B>,
+    given: &Given<'_>,
+) -> Told {
+    let bytes = given.bytes.to_vec(alloc).expect(rt, "memory");
+    let mut source = MemorySource::new(bytes, calls(rt, alloc, given.unread), 1);
+    let unwritten = calls(rt, alloc, given.unwritten);
+    let mut sink = MemorySink::new(alloc, 4_096, unwritten, 1).expect(rt, "memory");
+    let clock = FixedClock::new(day("2024-02-01"));
+    let end = session(rt, alloc, desk, pass, &mut source, &mut sink, &clock);
+    Told {
+        end,
+        bytes: sink.into_bytes(),
+    }
+}
+
+/// The first so many bytes, or all.
+fn first(bytes: &[u8], count: usize) -> &[u8] {
+    bytes.get(..count).unwrap_or(bytes)
+}
+
+/// What the office of four acts says to its fifth, and then to a question.
+fn responses(rt: &impl Abort, alloc: Global) -> (Vec<u8>, Vec<u8>) {
+    let made = format!(in alloc;
+        "HTTP/1.1 201 Created\r\nbook: 5\r\ncontent-length: 125\r\ncontent-type: application/json\r\n\r\n{RAISED}"
+    );
+    let seen =
+        "HTTP/1.1 200 OK\r\nbook: 5\r\ncontent-length: 57\r\ncontent-type: application/json\r\n\r\n\
+        {'household':1,'live':[1,2],'name':'Ada Reed','newest':2}";
+    let first = written(alloc, &made.expect(rt, "memory")).expect(rt, "memory");
+    let second = written(alloc, seen).expect(rt, "memory");
+    (first.into_bytes(), second.into_bytes())
+}
+
+// Of an act whose bytes end before it is whole nothing is said, and nothing is done.
+fn cut_acts<R: Abort + Wait, B: Naming>(
+    rt: &R,
+    alloc: Global,
+    desk: &SharedDesk<MemoryKeeper, B>,
+    pass: &mut Pass<B>,
+    act: &[u8],
+) {
+    for count in 0..act.len() {
+        let given = Given {
+            bytes: first(act, count),
+            unread: None,
+            unwritten: None,
+        };
+        let end = match count {
+            0 => SessionEnd::Ended,
+            _ => SessionEnd::Cut,
+        };
+        let told = served(rt, alloc, desk, pass, &given);
+        assert!(rt; told.is(end, b""), "cut after {count}");
+        assert!(rt; pass.seen() == 4, "cut after {count}");
+    }
+}
+
+// What is written before a write fails is the beginning of the responses. The act is done the first time, and once.
+fn failed_writes<R: Abort + Wait, B: Naming>(
+    rt: &R,
+    alloc: Global,
+    desk: &SharedDesk<MemoryKeeper, B>,
+    pass: &mut Pass<B>,
+    bytes: &[u8],
+    wanted: &[u8],
+) {
+    for count in 0..wanted.len() {
+        let given = Given {
+            bytes,
+            unread: None,
+            unwritten: Some(count as u64),
+        };
+        let told = served(rt, alloc, desk, pass, &given);
+        assert!(rt;
+            told.is(SessionEnd::WriteFault, first(wanted, count)),
+            "write {count}"
+        );
+        assert!(rt; pass.seen() == 5, "write {count}");
+    }
+}
+
+// What is written before a read fails is the responses to the messages that were whole by then.
+fn failed_reads<R: Abort + Wait, B: Naming>(
+    rt: &R,
+    alloc: Global,
+    desk: &SharedDesk<MemoryKeeper, B>,
+    pass: &mut Pass<B>,
+    messages: (&[u8], &[u8]),
+    replies: (&[u8], &[u8]),
+) {
+    let bytes = [messages.0, messages.1].concat(alloc).expect(rt, "memory");
+    let wanted = [replies.0, replies.1].concat(alloc).expect(rt, "memory");
+    for count in 0..=bytes.len() {
+        let given = Given {
+            bytes: &bytes,
+            unread: Some(count as u64),
+            unwritten: None,
+        };
+        let whole = if count < messages.0.len() {
+            0
+        } else if count < bytes.len() {
+            replies.0.len()
+        } else {
+            wanted.len()
+        };
+        let told = served(rt, alloc, desk, pass, &given);
+        assert!(rt;
+            told.is(SessionEnd::ReadFault, first(&wanted, whole)),
+            "read {count}"
+        );
+    }
+}
+
+// At one desk, byte by byte.
+fn at_each_byte<R: Abort + Wait, B: Naming>(
+    rt: &R,
+    alloc: Global,
+    history: NewHistory,
+    keeper: MemoryKeeper,
+)
+    requires table { (history.table.shared.table_id ≡ B.table) × (history.book.table_id ≡ B.table) × (B.table.words ≡ 1) }
+    requires blank { history.book.me ≡ (Blank, []) }
+    requires told { (book : Book) → B.told book }
+    requires sound { B.sound → ⊥ }
+{
+    let capacity = Capacity {
+        acts: 100,
+        lines: 1_000,
+    };
+    let mut desk = match Desk::<MemoryKeeper, B>::open(alloc, history, keeper, capacity) {
+        Ok(desk) => desk,
+        Err(_) => panic!(rt; "no desk"),
+    };
+    let mut pass = match desk.pass() {
+        Ok(pass) => pass,
+        Err(_) => panic!(rt; "no pass"),
+    };
+    faults_of(rt, alloc, desk.shared(), &mut pass);
+    assert!(rt; desk.finish(pass).keeper.tables().acts.len() == 5);
+}
+
+fn faults_of<R: Abort + Wait, B: Naming>(
+    rt: &R,
+    alloc: Global,
+    desk: &SharedDesk<MemoryKeeper, B>,
+    pass: &mut Pass<B>,
+) {
+    let act = raise(rt, alloc);
+    let ask = "GET /households/1 HTTP/1.1\r\n\r\n";
+    let (made, seen) = responses(rt, alloc);
+    cut_acts(rt, alloc, desk, pass, act.as_bytes());
+    failed_writes(rt, alloc, desk, pass, act.as_bytes(), &made);
+    let messages = (act.as_bytes(), ask.as_bytes());
+    failed_reads(rt, alloc, desk, pass, messages, (&made, &seen));
+}
+
+#[test]
+fn sessions_are_cut_at_each_byte(rt: HostRuntime) {
+    let alloc = rt.alloc();
+    let keeper = small_office(&rt, alloc);
+    at_each_byte::<HostRuntime, Brand>(&rt, alloc, history(&rt, alloc), keeper);
+}
