@@ -3,3 +3,5 @@
 
 #[cfg(test)]
 mod kept;
+#[cfg(test)]
+mod stops;
