@@ -1,8 +1,8 @@
 """Refused memory: tests/refuse.c stands before malloc, and refuses the k-th allocation of the program, alone or with every later one.
 The status is one of README's table and no signal, and the file holds the acts that were acknowledged, or these and the one in work."""
-import os, shutil, subprocess, sys
+import os, shutil, subprocess, sys, tempfile
 
-from book_file import FACTS, LINES, TOP, copied, replied, rows
+from book_file import FACTS, LINES, TOP, copied, replied, rows, unit_line
 from http_answers import Serving
 
 INTERIM = '{"clerk":2,"request":50,"act":{"kind":"interim","household":1,"seen":1,"event":"2024-01-20","notice":"2024-01-25","done":"2024-02-01","from":"2024-03-01","facts":%s}}' % FACTS
@@ -87,6 +87,26 @@ def refused_openings(refusing, most):
     return f"{total} allocations of opening a book of {len(held)} acts: {seen}"
 
 
+def refused_full(refusing, most):
+    """A book of as many acts as there may be: each of the first 200 allocations of its opening. In the full run alone."""
+    if most:
+        return "opening a full book: in the full run alone"
+    tries, seen = refusing.tries, {}
+    with tempfile.TemporaryDirectory(dir="/dev/shm" if os.path.isdir("/dev/shm") else None) as folder:
+        path = os.path.join(folder, "full.book")
+        status, out, err = tries.run(path, ["batch"], LINES[0] + b"".join(map(unit_line, range(2, 100_001))))
+        tries.says("a full book", (status, out.count(b'"act":'), err), (0, 100_000, b""))
+        whole = tries.run(path, ["batch"], unit_line(100_001))
+        tries.says("one act more", whole, (0, b'{"refused":{"acts":100000,"kind":"BookFull","number":4}}\n', b""))
+        for way in WAYS:
+            for number in range(1, 201):
+                came = tries.run(path, ["batch"], unit_line(100_001), env=refusing.with_refused(way, number))
+                seen[came[0]] = seen.get(came[0], 0) + 1
+                tries.says(f"opening a full book, {way}={number}", came, whole if came[0] == 0 else (7, b"", b""))
+        tries.says("the full book afterwards", tries.run(path, ["batch"], unit_line(100_001)), whole)
+    return f"opening a book of 100,000 acts, each of its first 200 allocations: {seen}"
+
+
 def two_links(serving):
     """The answers over two links, each as far as it goes: an act and a question, and a second act."""
     answers = []
@@ -159,5 +179,5 @@ def try_memory(tries, most):
     shim = shim_of(tries)
     if shim:
         refusing = Refusing(tries, shim)
-        for group in (refused_batches, refused_openings, refused_servers, refused_commands):
+        for group in (refused_batches, refused_openings, refused_full, refused_servers, refused_commands):
             print(group(refusing, most), flush=True)
