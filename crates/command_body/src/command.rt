@@ -4,9 +4,9 @@ ghost use Rattle.command_forms.specs.Kinds.{word_of};
 ghost use Rattle.command_forms.specs.Commands.{field_members, command_data};
 
 use crate::applicants::{admit_members, apply_members, remove_members, start_members};
-use crate::changes::{ask_transfer_members, change_word, household_members};
 use crate::property::{limits_members, plan_members, rents_members, unit_members};
 use book_rows::Command;
+use change_text::{ask_transfer_members, change_word, household_members};
 use json_form::{Exact, Members};
 use plain_data::NoMemory;
 use std::alloc::Global;

@@ -3,7 +3,6 @@
 
 mod applicants;
 mod body;
-mod changes;
 mod command;
 mod property;
 

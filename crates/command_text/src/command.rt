@@ -6,9 +6,9 @@ ghost use Rattle.book_rows.specs.Fit.{is_fit};
 ghost use Rattle.command_forms.specs.Commands.{fields_at, command_at, command_members};
 
 use crate::applicants::{admit_of, apply_of, remove_of, start_of};
-use crate::changes::{ask_transfer_of, household_names, household_of};
 use crate::property::{limits_of, plan_of, rents_of, unit_of};
 use book_rows::{CloseAct, Command};
+use change_text::{ask_transfer_of, household_names, household_of};
 use command_forms::Kind;
 use json_form::{FormFault, closed, field, object};
 use serde_json::Value;
