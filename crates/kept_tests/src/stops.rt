@@ -1,30 +1,14 @@
+use fused_disks::{Disks, crash, new_disks};
 use keeper_core::{Keeper, Loaded};
 use keeper_sqlite::SqliteKeeper;
 use run_harness::{act, five_months};
 use sqlite::{Alter, Connection, Options};
-use sqlite_disk::{Crash, Files, Fuse, Memory};
 use std::alloc::Global;
 use std::process::Abort;
-
-type Disks = Files<Fuse<Memory>>;
 
 const MOVE_OUT: &str = "{'kind':'move_out','household':1,'seen':1,'last':'2024-04-10'}";
 
 const CLOSE_JUNE: &str = "{'kind':'close','month':'2024-06'}";
-
-/// An empty file and an empty log, which are frozen after so many calls each.
-fn new_disks(alloc: Global, db: u64, log: u64) -> Disks {
-    Files {
-        log: Fuse::new(Memory::new(alloc), log),
-        db: Fuse::new(Memory::new(alloc), db),
-    }
-}
-
-/// The machine stops, and comes back with what was synced.
-fn crash(disks: &mut Disks) {
-    disks.log.crash();
-    disks.db.crash();
-}
 
 /// How many acts were acknowledged, and whether all were.
 #[derive(Clone, Copy)]
