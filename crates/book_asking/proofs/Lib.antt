@@ -1,3 +1,4 @@
 mod Results
+mod Texts
 mod Asked
 mod Read

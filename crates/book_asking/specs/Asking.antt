@@ -1,30 +1,25 @@
 -- What the queries on a book's file show.
-use Rattle.std.specs.Prelude.{◌≡◌, List, map, IsPermutation, IsTrue}
-use Rattle.sqlite.specs.Order.{Row}
+use Rattle.std.specs.Prelude.{◌≡◌, List, map, IsPermutation}
 use Rattle.sqlite.specs.Tree.{Trees}
 use Rattle.sqlite.specs.{Effect.Database, State.State}
 use Rattle.book_texts.specs.declared.wide.{WideAct.WideAct, WideRecord.WideRecord, WideLine.WideLine}
-use Rattle.book_texts.specs.Rows.{act_values, stored_act, record_values, stored_record, line_values}
+use Rattle.book_texts.specs.Rows.{stored_act, stored_record, line_values}
 use Rattle.book_texts.specs.Schema.{no_schema, book_schema}
 use Rattle.book_texts.specs.Trees.{act_rows, record_rows, line_rows, act_cmp, record_cmp, line_cmp, Rises}
 use Rattle.book_asking.specs.declared.asking.AskedRows.{AskedRows}
 
--- Whatever acts the table holds, listed by their numbers: these rows show them.
-abbrev pub AreActs : Trees → List Row → Type 0
-AreActs trees rows = (acts : List WideAct) → IsPermutation (map stored_act acts) (act_rows trees) → Rises act_cmp acts → rows ≡ map act_values acts
+-- Whatever acts the table holds, listed by their numbers: these are they.
+abbrev pub AreActs : Trees → List WideAct → Type 0
+AreActs trees rows = (acts : List WideAct) → IsPermutation (map stored_act acts) (act_rows trees) → Rises act_cmp acts → rows ≡ acts
 
-abbrev pub AreRecords : Trees → List Row → Type 0
-AreRecords trees rows = (records : List WideRecord) → IsPermutation (map stored_record records) (record_rows trees) → Rises record_cmp records → rows ≡ map record_values records
+abbrev pub AreRecords : Trees → List WideRecord → Type 0
+AreRecords trees rows = (records : List WideRecord) → IsPermutation (map stored_record records) (record_rows trees) → Rises record_cmp records → rows ≡ records
 
-abbrev pub AreLines : Trees → List Row → Type 0
-AreLines trees rows = (lines : List WideLine) → IsPermutation (map line_values lines) (line_rows trees) → Rises line_cmp lines → rows ≡ map line_values lines
-
--- the transaction goes on
-abbrev pub Stays : State → State → Type 0
-Stays old new = IsTrue old.in_transaction → IsTrue new.in_transaction
+abbrev pub AreLines : Trees → List WideLine → Type 0
+AreLines trees rows = (lines : List WideLine) → IsPermutation (map line_values lines) (line_rows trees) → Rises line_cmp lines → rows ≡ lines
 
 -- of a book's file the rows are shown, and nothing changes
-abbrev pub Asks : (Trees → List Row → Type 0) → List Row → State → State → Type 0
+abbrev pub Asks : {X : Type 0} → (Trees → List X → Type 0) → List X → State → State → Type 0
 Asks Are rows old new = old.now.schema ≡ book_schema → Are old.now.trees rows × (new.now ≡ old.now)
 
 -- the file isn't empty, and where it is a book's these are its rows

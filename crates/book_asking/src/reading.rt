@@ -1,4 +1,4 @@
-ghost use Rattle.std.specs.Prelude.{◌≡◌, ◌<◌, ℕ, ℤ, map, slice_index_or, IfOk};
+ghost use Rattle.std.specs.Prelude.{◌≡◌, ◌<◌, ℕ, ℤ, slice_index_or, IfOk};
 ghost use Rattle.sqlite.specs.declared.types.Value.TheVariants.{Int, Text as Words};
 ghost use Rattle.sqlite.specs.{Order.column, Values.or_null};
 ghost use Rattle.book_texts.specs.Rows.{act_values, record_values, line_values};
@@ -39,7 +39,8 @@ fn text_of(alloc: Global, row: &Row, at: usize) -> Result<Text, Error>
     }
 }
 
-fn act_of_row(alloc: Global, row: &Row) -> Result<WideAct, Error>
+/// The act that a row shows.
+pub(crate) fn act_of_row(alloc: Global, row: &Row) -> Result<WideAct, Error>
     ensures { IfOk result (λ read. (act : _) → row.now ≡ act_values act → read ≡ act) }
 {
     let [n, session, clerk, request, day] = numbers_of::<5>(row)?;
@@ -54,7 +55,8 @@ fn act_of_row(alloc: Global, row: &Row) -> Result<WideAct, Error>
     })
 }
 
-fn record_of_row(row: &Row) -> Result<WideRecord, Error>
+/// The record that a row shows.
+pub(crate) fn record_of_row(row: &Row) -> Result<WideRecord, Error>
     ensures { IfOk result (λ read. (known : _) → row.now ≡ record_values known → read ≡ known) }
 {
     let numbers = numbers_of::<16>(row)?;
@@ -84,7 +86,8 @@ fn record_of_row(row: &Row) -> Result<WideRecord, Error>
     })
 }
 
-fn line_of_row(row: &Row) -> Result<WideLine, Error>
+/// The line that a row shows.
+pub(crate) fn line_of_row(row: &Row) -> Result<WideLine, Error>
     ensures { IfOk result (λ read. (line : _) → row.now ≡ line_values line → read ≡ line) }
 {
     let numbers = numbers_of::<10>(row)?;
@@ -100,49 +103,4 @@ fn line_of_row(row: &Row) -> Result<WideLine, Error>
         new: numbers[8],
         amount: numbers[9],
     })
-}
-
-/// The acts that rows show.
-///
-/// # Errors
-///
-/// `OutOfMemory` where memory ran out, else that a value isn't of its column's type.
-pub fn acts_of_rows(alloc: Global, rows: &[Row]) -> Result<Vec<WideAct>, Error>
-    ensures { IfOk result (λ read. (acts : _) → rows.now ≡ map act_values acts → read.items ≡ acts) }
-{
-    let mut acts = Vec::new(alloc);
-    for row in rows {
-        acts.push(act_of_row(alloc, row)?)?;
-    }
-    Ok(acts)
-}
-
-/// The records that rows show.
-///
-/// # Errors
-///
-/// `OutOfMemory` where memory ran out, else that a value isn't of its column's type.
-pub fn records_of_rows(alloc: Global, rows: &[Row]) -> Result<Vec<WideRecord>, Error>
-    ensures { IfOk result (λ read. (records : _) → rows.now ≡ map record_values records → read.items ≡ records) }
-{
-    let mut records = Vec::new(alloc);
-    for row in rows {
-        records.push(record_of_row(row)?)?;
-    }
-    Ok(records)
-}
-
-/// The lines that rows show.
-///
-/// # Errors
-///
-/// `OutOfMemory` where memory ran out, else that a value isn't of its column's type.
-pub fn lines_of_rows(alloc: Global, rows: &[Row]) -> Result<Vec<WideLine>, Error>
-    ensures { IfOk result (λ read. (lines : _) → rows.now ≡ map line_values lines → read.items ≡ lines) }
-{
-    let mut lines = Vec::new(alloc);
-    for row in rows {
-        lines.push(line_of_row(row)?)?;
-    }
-    Ok(lines)
 }

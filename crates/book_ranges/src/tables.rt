@@ -55,17 +55,39 @@ fn lines_of(alloc: Global, wide: &[WideLine]) -> Result<Result<Vec<Line>, u32>, 
     Ok(Ok(lines))
 }
 
+/// The acts that rows stand for. The rows are let go once they are read.
+fn acts_narrowed(alloc: Global, wide: Vec<WideAct>) -> Result<Result<Vec<ActRow>, u32>, NoMemory>
+    ensures { IfOk result (λ read. MatchResult read (λ acts. (bad_act wide.items ≡ None) × (map wide_act acts.items ≡ wide.items)) (λ act. bad_act wide.items ≡ Some act)) }
+{
+    acts_of(alloc, &wide)
+}
+
+fn records_narrowed(
+    alloc: Global,
+    wide: Vec<WideRecord>,
+) -> Result<Result<Vec<Record>, u32>, NoMemory>
+    ensures { IfOk result (λ read. MatchResult read (λ records. (bad_record wide.items ≡ None) × (map wide_record records.items ≡ wide.items)) (λ act. bad_record wide.items ≡ Some act)) }
+{
+    records_of(alloc, &wide)
+}
+
+fn lines_narrowed(alloc: Global, wide: Vec<WideLine>) -> Result<Result<Vec<Line>, u32>, NoMemory>
+    ensures { IfOk result (λ read. MatchResult read (λ lines. (bad_line wide.items ≡ None) × (map wide_line lines.items ≡ wide.items)) (λ act. bad_line wide.items ≡ Some act)) }
+{
+    lines_of(alloc, &wide)
+}
+
 /// The rows that these stand for, if each number is in its range; else the first row with one out of it, in the order of
 /// acts, records, lines.
 pub fn narrowed(
     alloc: Global,
-    acts: &[WideAct],
-    records: &[WideRecord],
-    lines: &[WideLine],
+    acts: Vec<WideAct>,
+    records: Vec<WideRecord>,
+    lines: Vec<WideLine>,
 ) -> Loaded
-    ensures { Narrows acts.now records.now lines.now result }
+    ensures { Narrows acts.items records.items lines.items result }
 {
-    let acts = match acts_of(alloc, acts) {
+    let acts = match acts_narrowed(alloc, acts) {
         Ok(Ok(acts)) => acts,
         Ok(Err(act)) => return Loaded::BadRow {
             table: Table::Acts,
@@ -73,7 +95,7 @@ pub fn narrowed(
         },
         Err(NoMemory) => return Loaded::NoMemory,
     };
-    let records = match records_of(alloc, records) {
+    let records = match records_narrowed(alloc, records) {
         Ok(Ok(records)) => records,
         Ok(Err(act)) => return Loaded::BadRow {
             table: Table::Records,
@@ -81,7 +103,7 @@ pub fn narrowed(
         },
         Err(NoMemory) => return Loaded::NoMemory,
     };
-    match lines_of(alloc, lines) {
+    match lines_narrowed(alloc, lines) {
         Ok(Ok(lines)) => Loaded::Rows(Tables {
             acts,
             records,

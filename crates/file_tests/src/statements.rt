@@ -1,4 +1,4 @@
-use book_asking::{AskFault, AskedRows, acts_of_rows, ask_tables, lines_of_rows, records_of_rows};
+use book_asking::{AskFault, AskedRows, ask_tables};
 use book_rows::{ActRow, Batch};
 use book_statements::{make_tables, write_batch};
 use days_core::{Day, Month, Rents, day_of_text, month_of_text};
@@ -96,17 +96,16 @@ pub(crate) fn batch(rt: &impl Abort, alloc: Global, n: u32) -> Batch {
     }
 }
 
-fn asked(rt: &impl Abort, conn: &mut Connection<MemStore>) -> AskedRows {
-    match ask_tables(conn) {
+fn asked(rt: &impl Abort, alloc: Global, conn: &mut Connection<MemStore>) -> AskedRows {
+    match ask_tables(conn, alloc) {
         Ok(rows) => rows,
         Err(_) => panic!(rt; "no rows"),
     }
 }
 
 /// Whether the acts have the numbers that the file's forms give them.
-fn has_both_acts(rt: &impl Abort, alloc: Global, rows: &AskedRows) -> bool {
-    let acts = acts_of_rows(alloc, &rows.acts).expect(rt, "acts");
-    let [first, second] = acts.as_slice() else {
+fn has_both_acts(rows: &AskedRows) -> bool {
+    let [first, second] = rows.acts.as_slice() else {
         return false;
     };
     first.n == 1
@@ -119,9 +118,8 @@ fn has_both_acts(rt: &impl Abort, alloc: Global, rows: &AskedRows) -> bool {
 }
 
 /// Whether there is the one record, with its days.
-fn has_the_record(rt: &impl Abort, alloc: Global, rows: &AskedRows) -> bool {
-    let records = records_of_rows(alloc, &rows.records).expect(rt, "records");
-    let [made] = records.as_slice() else {
+fn has_the_record(rows: &AskedRows) -> bool {
+    let [made] = rows.records.as_slice() else {
         return false;
     };
     made.act == 1
@@ -135,9 +133,8 @@ fn has_the_record(rt: &impl Abort, alloc: Global, rows: &AskedRows) -> bool {
 }
 
 /// Whether there are both lines, in order.
-fn has_both_lines(rt: &impl Abort, alloc: Global, rows: &AskedRows) -> bool {
-    let lines = lines_of_rows(alloc, &rows.lines).expect(rt, "lines");
-    let [first, second] = lines.as_slice() else {
+fn has_both_lines(rows: &AskedRows) -> bool {
+    let [first, second] = rows.lines.as_slice() else {
         return false;
     };
     first.place == 1
@@ -155,10 +152,10 @@ fn rows_are_given_as_they_were_written(rt: HostRuntime) {
     let mut conn = file(&rt, alloc);
     assert!(rt; write_batch(&mut conn, &batch(&rt, alloc, 1)).is_ok());
     assert!(rt; write_batch(&mut conn, &batch(&rt, alloc, 2)).is_ok());
-    let rows = asked(&rt, &mut conn);
-    assert!(rt; has_both_acts(&rt, alloc, &rows));
-    assert!(rt; has_the_record(&rt, alloc, &rows));
-    assert!(rt; has_both_lines(&rt, alloc, &rows));
+    let rows = asked(&rt, alloc, &mut conn);
+    assert!(rt; has_both_acts(&rows));
+    assert!(rt; has_the_record(&rows));
+    assert!(rt; has_both_lines(&rows));
 }
 
 /// An act that is there already is refused, and so is all of its batch.
@@ -168,7 +165,7 @@ fn act_of_the_same_number_is_refused_whole(rt: HostRuntime) {
     let mut conn = file(&rt, alloc);
     assert!(rt; write_batch(&mut conn, &batch(&rt, alloc, 1)).is_ok());
     assert!(rt; write_batch(&mut conn, &batch(&rt, alloc, 1)).is_err());
-    let rows = asked(&rt, &mut conn);
+    let rows = asked(&rt, alloc, &mut conn);
     assert!(rt; rows.acts.len() == 1 && rows.records.len() == 1 && rows.lines.len() == 2);
 }
 
@@ -181,7 +178,7 @@ fn file_with_one_of_the_tables_is_refused(rt: HostRuntime) {
         conn.execute("CREATE TABLE lines (n INTEGER) STRICT", &[])
             .is_ok()
     );
-    match ask_tables(&mut conn) {
+    match ask_tables(&mut conn, alloc) {
         Err(AskFault::Acts(_)) => {}
         _ => panic!(rt; "rows of a file without acts"),
     }

@@ -1,0 +1,13 @@
+use Rattle.std.proofs.Common.{◌≡◌, false}
+use Rattle.sqlite.specs.State.{HasCleanDisk, Survives}
+use Rattle.sqlite.specs.Held.{state}
+use Rattle.book_texts.specs.Rows.{act_values}
+use Rattle.book_texts.specs.Texts.{select_acts}
+use Rattle.book_asking.proofs.Asked.{HasReadAs}
+use Rattle.book_asking.proofs.asking.read_acts.Given as goal
+
+abbrev pub invariant-rows : goal.invariant-rows
+invariant-rows g l =
+    let old = state g.S.Store l.fn.conn in
+    let now = state g.S.Store l.rows.conn.now in
+    (l.rows.conn.ghost_name ≡ l.initial.rows.conn.ghost_name) × (l.rows.conn.now.in_transaction ≡ false) × Survives old now (λ _. ⊥) × (HasCleanDisk now → HasReadAs g.S.Store act_values select_acts l.fn.conn l.rows.conn.now l.acts.items)
