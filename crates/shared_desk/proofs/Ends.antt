@@ -68,9 +68,9 @@ module _ (b : BookView) (p : PassView) (k : HoldingView) (held : IsHeld k) (on :
 pub called_as : PassesGoOn → RowsAreOfTheSession → HistoriesAreReached → (b : BookView) (p now : PassView) (h k : HoldingView) (new : PassView) →
     h ≡ holding b p → now ≡ p → new ≡ returned k → IsHeld k → HoldsOn h k →
     (capacity : Capacity) (book : Book) (number clock : ℕ) (call : Call) (reply : Reply) →
-    book ≡ tables_at b.start b.list → capacity ≡ capacity_of b.start → number ≡ p.number → IsLegalHistory b.start b.list →
-    Decides (step book capacity number clock call) book h k reply → IsCalled clock call now new reply
-called_as law rows_of reached b p now h k new is here there held on capacity book number clock call reply tables room same legal decides =
+    Decides (step book capacity number clock call) book h k reply → number ≡ p.number →
+    book ≡ tables_at b.start b.list → capacity ≡ capacity_of b.start → IsLegalHistory b.start b.list → IsCalled clock call now new reply
+called_as law rows_of reached b p now h k new is here there held on capacity book number clock call reply decides same tables room legal =
     subst₂ (λ (old last : PassView). IsCalled clock call old last reply) (sym here) (sym there)
     (called b p k held (subst (λ (x : HoldingView). HoldsOn x k) is on) law rows_of reached capacity book number clock call reply tables room same legal
     (subst (λ (x : HoldingView). Decides (step book capacity number clock call) book x k reply) is decides))
