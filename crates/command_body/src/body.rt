@@ -21,5 +21,8 @@ pub fn body_of_command(alloc: Global, asked: &Command) -> Result<Text, NoMemory>
 fn text_of_command(alloc: Global, asked: &Command) -> Result<Text, NoMemory>
     ensures { IfOk result (λ body. body ≡ body_of asked.now) }
 {
-    exact_of(alloc, asked)?.text(alloc)
+    let mut bytes = exact_of(alloc, asked)?.text(alloc)?.into_bytes();
+    // A book holds its texts for good, and a writer leaves up to as much room again.
+    bytes.shrink_to_fit();
+    Ok(Text::new(bytes))
 }
