@@ -2,15 +2,17 @@ ghost use Rattle.std.specs.Prelude.{◌≡◌, ◌≤◌, []};
 ghost use Rattle.book_rows.specs.Book.{Book};
 ghost use Rattle.desk_history.specs.declared.views.View.TheVariants.{Blank};
 
-use crate::desks::{call_of, history, next_pass, told};
+use crate::desks::{call_of, history, next_pass};
 use book_rows::Tables;
+use days_core::Day;
 use desk_history::NewHistory;
 use fused_disks::Disks;
 use keeper_core::{Keeper, MemoryKeeper};
 use keeper_sqlite::SqliteKeeper;
 use office_core::Capacity;
 use office_core::office_answers::Reply;
-use sample_office::{CLOSE_JANUARY, PLAN, RENTS, START, UNIT};
+use office_io::FixedClock;
+use sample_office::{CLOSE_JANUARY, PLAN, RENTS, START, UNIT, office_day};
 use shared_desk::{Desk, DeskFault, Finished, Naming, Pass, SharedDesk, Unopened};
 use sqlite::{Alter, Connection, Options};
 use std::alloc::Global;
@@ -28,9 +30,13 @@ const ACTS: [&str; 6] = [
     "{'kind':'close','month':'2024-02'}",
 ];
 
-pub const FIRST_DAY: &str = "2024-01-01";
+pub fn first_day() -> Day {
+    office_day("2024-01-01")
+}
 
-pub const NEXT_DAY: &str = "2024-01-02";
+pub fn next_day() -> Day {
+    office_day("2024-01-02")
+}
 
 /// What a pass was told of the first of the six acts, each reply with its point, and the tables that the desk left.
 #[derive(Drop)]
@@ -59,15 +65,16 @@ fn replies_to<K: Keeper + Drop, B: Naming, R: Abort + Wait>(
     alloc: Global,
     desk: &SharedDesk<K, B>,
     pass: &mut Pass<B>,
-    today: &str,
+    today: Day,
     acts: u32,
 ) -> Vec<(u32, Reply)>
     requires { acts ≤ 6 }
 {
+    let clock = FixedClock::new(today);
     let mut replies = Vec::new(alloc);
     for before in 0..acts {
         let call = call_of(rt, alloc, 1, before + 1, ACTS[before as usize]);
-        let outcome = told(rt, alloc, desk, pass, today, call);
+        let outcome = desk.call(rt, alloc, pass, call, &clock);
         replies
             .push((outcome.point, outcome.reply))
             .expect(rt, "memory");
@@ -82,7 +89,7 @@ fn worked<K: Keeper + Drop, B: Naming, R: Abort + Wait>(
     alloc: Global,
     history: NewHistory,
     keeper: K,
-    today: &str,
+    today: Day,
     acts: u32,
 ) -> (Option<Told>, K)
     requires acts { acts ≤ 6 }
@@ -115,7 +122,7 @@ fn worked_on<S: Alter + Drop, R: Abort + Wait>(
     rt: &R,
     alloc: Global,
     conn: Connection<S>,
-    today: &str,
+    today: Day,
     acts: u32,
 ) -> (Option<Told>, S)
     requires { acts ≤ 6 }
@@ -134,7 +141,7 @@ pub fn worked_over<R: Abort + Wait>(
     rt: &R,
     alloc: Global,
     disks: Disks,
-    today: &str,
+    today: Day,
     acts: u32,
 ) -> (Option<Told>, Disks)
     requires { acts ≤ 6 }
@@ -165,9 +172,16 @@ fn wanted_after<R: Abort + Wait>(rt: &R, alloc: Global, acts: u32) -> Wanted
 {
     let keeper = MemoryKeeper::new(alloc);
     let new = history(rt, alloc);
-    let (first, keeper) = worked::<MemoryKeeper, Brand, R>(rt, alloc, new, keeper, FIRST_DAY, acts);
+    let (first, keeper) = worked::<MemoryKeeper, Brand, R>(
+        rt,
+        alloc,
+        new,
+        keeper,
+        first_day(),
+        acts,
+    );
     let new = history(rt, alloc);
-    let (again, _) = worked::<MemoryKeeper, Brand, R>(rt, alloc, new, keeper, NEXT_DAY, 6);
+    let (again, _) = worked::<MemoryKeeper, Brand, R>(rt, alloc, new, keeper, next_day(), 6);
     Wanted {
         first: first.expect(rt, "a desk"),
         again: again.expect(rt, "a desk"),

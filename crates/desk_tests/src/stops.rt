@@ -1,5 +1,5 @@
 use crate::desks::act_of;
-use crate::six_acts::{FIRST_DAY, NEXT_DAY, Told, Wanted, all_wanted, worked_over};
+use crate::six_acts::{Told, Wanted, all_wanted, first_day, next_day, worked_over};
 use fused_disks::{are_frozen, crash, new_disks};
 use office_core::office_answers::Reply;
 use std::alloc::Global;
@@ -35,7 +35,7 @@ fn acknowledged(rt: &impl Abort, wanted: &[Wanted], told: &Told) -> usize {
 
 /// Stops the acts after so many calls of each disk, looks what is left, and has them done again. Whether they were stopped.
 fn stops_at<R: Abort + Wait>(rt: &R, alloc: Global, wanted: &[Wanted], db: u64, log: u64) -> bool {
-    let (told, mut disks) = worked_over(rt, alloc, new_disks(alloc, db, log), FIRST_DAY, 6);
+    let (told, mut disks) = worked_over(rt, alloc, new_disks(alloc, db, log), first_day(), 6);
     let were_frozen = are_frozen(&mut disks);
     let (least, most) = match &told {
         Some(told) => {
@@ -45,7 +45,7 @@ fn stops_at<R: Abort + Wait>(rt: &R, alloc: Global, wanted: &[Wanted], db: u64, 
         None => (0, 0),
     };
     crash(&mut disks);
-    let (left, mut disks) = worked_over(rt, alloc, disks, NEXT_DAY, 0);
+    let (left, mut disks) = worked_over(rt, alloc, disks, next_day(), 0);
     let left = left.expect(rt, "a desk");
     let acts = left.tables.acts.len();
     assert!(rt;
@@ -58,7 +58,7 @@ fn stops_at<R: Abort + Wait>(rt: &R, alloc: Global, wanted: &[Wanted], db: u64, 
         "other rows, stopped at {db} and {log}"
     );
     crash(&mut disks);
-    let (again, _) = worked_over(rt, alloc, disks, NEXT_DAY, 6);
+    let (again, _) = worked_over(rt, alloc, disks, next_day(), 6);
     assert!(rt;
         again.is_some_and(|again| again.is(&wanted.again)),
         "again, stopped at {db} and {log}"
