@@ -1,5 +1,5 @@
 """The order of writes, syncs and replies, by strace; and disks that fill up, leave that is taken away, and logs that aren't the file's."""
-import contextlib, os, re, shutil, signal, sqlite3, subprocess, threading
+import contextlib, os, re, shutil, signal, sqlite3, subprocess, tempfile, threading
 
 from book_file import LINES, copied, replied, rows, unit_line
 from http_answers import Serving, free_port
@@ -114,8 +114,7 @@ class Room:
     """A small file system in memory, where one may be mounted."""
 
     def __init__(self, tries, size):
-        self.path = tries.path(f"room-{size}")
-        os.mkdir(self.path)
+        self.path = tempfile.mkdtemp(prefix="room-", dir=tries.folder)
         self.is_there = not subprocess.run(["mount", "-t", "tmpfs", "-o", f"size={size},mode=777", "tmpfs", self.path], capture_output=True).returncode
 
     def __enter__(self):
@@ -146,7 +145,8 @@ def full_disks(tries, chance):
     applicants = [f"{request},Applicant {request},1,1,no,,9600\n".encode() for request in range(2, 2000)]
     header = b"request,name,size,persons,accessible,preferences,annual\n"
     for number in range(6):
-        room = Room(tries, f"{chance.randrange(500, 1200)}k")
+        size = f"{chance.randrange(500, 1200)}k"
+        room = Room(tries, size)
         with room as path:
             if not path:
                 print("full disks: not tried, as no file system can be mounted here", flush=True)
@@ -154,7 +154,7 @@ def full_disks(tries, chance):
             tries.says("the plan", tries.run(path, ["batch"], LINES[0])[0], 0)
             words, header_, lines = (["batch"], b"", units) if number % 2 else (["import", "1"], header, applicants)
             status, replies, said = tries.run(path, words, header_ + b"".join(lines))
-            told, name = replies.count(b"\n"), f"{words[0]} in {room.path[-5:]}"
+            told, name = replies.count(b"\n"), f"{words[0]} in {size}"
             tries.says(f"{name}: it is full", (status, said, replies[-1:], 0 < told < len(lines)), (5, b"", b"\n", True))
             room.grow("16m")
             sends_the_rest(tries, name, path, words, told + 1, header_, lines)
