@@ -11,7 +11,8 @@ use voucher_core::Line;
 /// Records among which those of the act are: these alone where the records stand in order, and else all.
 pub fn records_near(records: &[Record], in_order: bool, n: u32) -> &[Record]
     requires { in_order ≡ true → RecordsNeverFall records.now }
-    ensures { records_by n result.now ≡ records_by n records.now }
+    ensures among { records_by n result.now ≡ records_by n records.now }
+    ensures alone { in_order ≡ true → result.now ≡ records_by n records.now }
 {
     if in_order {
         records_of_act(records, n)
@@ -23,7 +24,8 @@ pub fn records_near(records: &[Record], in_order: bool, n: u32) -> &[Record]
 /// Lines among which those of the act are: these alone where the lines stand in order, and else all.
 pub fn lines_near(lines: &[Line], in_order: bool, n: u32) -> &[Line]
     requires { in_order ≡ true → LinesNeverFall lines.now }
-    ensures { lines_by n result.now ≡ lines_by n lines.now }
+    ensures among { lines_by n result.now ≡ lines_by n lines.now }
+    ensures alone { in_order ≡ true → result.now ≡ lines_by n lines.now }
 {
     if in_order {
         lines_of_act(lines, n)

@@ -1,8 +1,8 @@
 -- Lines in the order of their closings, and which of them are passed over.
-use Rattle.std.proofs.Common.{◌≡◌, ◌∙◌, sym, ap, refl, inl, inr, ℕ, zero, suc, ◌+◌, ◌-◌, ◌<◌, ◌≤◌, ◌⊎◌, arith, Bool, true, false, List, [], ◌∷◌, ◌++◌, length, get_or, take, drop, append-nil, subst, length-take-le}
+use Rattle.std.proofs.Common.{◌≡◌, ◌∙◌, sym, ap, refl, inl, inr, ℕ, zero, suc, ◌+◌, ◌-◌, ◌<◌, ◌≤◌, ◌⊎◌, arith, Bool, true, false, List, [], ◌∷◌, ◌++◌, length, get_or, take, drop, append-nil, subst, subst₂, length-append, length-take-le, get_or-append-add}
 use Rattle.std.specs.Prelude.{◌==◌, ◌&&◌, ◌||◌, nat_lt, nat_le, filter}
 use Rattle.std.specs.List.Sorted.{IsPartitionPoint, IsPartitionedBy}
-use Rattle.std.proofs.lemmas.{Bool.cases_lt, Bool.and_parts, Bool.eqb-true, Bool.ltb-true, Bool.leb-true, Bool.Decides.nat_tests, List.Elements.filter_more, List.take_more, List.get_or-take, List.get_or_default, List.length-take, List.Quantifiers.all_pairs_push}
+use Rattle.std.proofs.lemmas.{Bool.cases_lt, Bool.and_parts, Bool.eqb-true, Bool.ltb-true, Bool.leb-true, Bool.Decides.nat_tests, List.Elements.filter_more, List.take_more, List.get_or-take, List.get_or_default, List.get_or_append_left, List.length-take, List.Quantifiers.all_pairs_push}
 use Rattle.list_laws.proofs.Elements.{AllPairs-append}
 use Rattle.book_search.proofs.Stretch.{filter_stretch}
 use Rattle.voucher_core.specs.{declared.line.Line.Line, Lines.is_for}
@@ -201,3 +201,40 @@ joined lines more last first is_last is_first passes before after =
     (λ k l d here there.
     linked (get_or lines k d) last first (get_or more l d) (up_to_last lines last k d here is_last before) (no_later last first passes)
     (from_first more first l d there is_first after))
+
+-- ---- lines that don't stand in turn
+
+no_later_again : (a b : Line) → ComesNoLater a b → is_no_later a b ≡ true
+no_later_again a b (inl less) = grind (arith, nat_tests)
+no_later_again a b (inr (same, order)) = grind (arith, nat_tests)
+
+not_both : (a b : Line) → is_no_later a b ≡ false → ComesNoLater a b → ⊥
+not_both a b fails follows = cc (sym fails ∙ no_later_again a b follows)
+
+-- a line that comes earlier than the one before it
+pub out_of_turn : (lines : List Line) (at : ℕ) (before line : Line) → 1 ≤ at → at < length lines → get_or lines (at - 1) before ≡ before → get_or lines at line ≡ line →
+    is_no_later before line ≡ false → StandInTurn lines → ⊥
+out_of_turn lines at before line low within is_first is_line fails in_turn =
+    let first : get_or lines (at - 1) line ≡ before = get_or_default lines (at - 1) line before (omega (arith, within)) ∙ is_first in
+    not_both before line fails (subst₂ ComesNoLater first is_line (in_turn (at - 1) at line (omega (arith, low)) within))
+
+-- those behind others stand in turn where all do
+pub tail_in_turn : (lines more : List Line) → StandInTurn (lines ++ more) → StandInTurn more
+tail_in_turn lines more in_turn i j d before within =
+    subst₂ ComesNoLater (get_or-append-add lines more i d) (get_or-append-add lines more j d)
+    (in_turn (length lines + i) (length lines + j) d (omega (arith, before)) (omega (arith, within, length-append lines more)))
+
+-- and so do those before others
+pub head_in_turn : (lines more : List Line) → StandInTurn (lines ++ more) → StandInTurn lines
+head_in_turn lines more in_turn i j d before within =
+    subst₂ ComesNoLater (get_or_append_left lines more d i (omega (arith, before, within))) (get_or_append_left lines more d j within)
+    (in_turn i j d before (omega (arith, within, length-append lines more)))
+
+-- the first of more comes earlier than the last
+pub not_joined : (lines more : List Line) (last first : Line) → 0 < length lines → 0 < length more → get_or lines (length lines - 1) last ≡ last → get_or more 0 first ≡ first →
+    is_no_later last first ≡ false → StandInTurn (lines ++ more) → ⊥
+not_joined lines more last first some others is_last is_first fails in_turn =
+    let low : get_or (lines ++ more) (length lines - 1) first ≡ last =
+    get_or_append_left lines more first (length lines - 1) (omega (arith, some)) ∙ get_or_default lines (length lines - 1) first last (omega (arith, some)) ∙ is_last in
+    let high : get_or (lines ++ more) (length lines + 0) first ≡ first = get_or-append-add lines more 0 first ∙ is_first in
+    not_both last first fails (subst₂ ComesNoLater low high (in_turn (length lines - 1) (length lines + 0) first (omega (arith, some)) (omega (arith, others, length-append lines more))))

@@ -71,7 +71,8 @@ fn next_place(lines: &[Line], at: usize, household: u32, month: Month) -> usize
 
 /// Whether lines stand in turn.
 pub fn are_in_turn(lines: &[Line]) -> bool
-    ensures { result ≡ true → StandInTurn lines.now }
+    ensures in_turn { result ≡ true → StandInTurn lines.now }
+    ensures out_of_turn { result ≡ false → StandInTurn lines.now → ⊥ }
 {
     for at in 1..lines.len() {
         if !is_no_later(&lines[at - 1], &lines[at]) {
@@ -83,7 +84,8 @@ pub fn are_in_turn(lines: &[Line]) -> bool
 
 /// Whether lines that stand in turn still do with more behind them.
 pub fn stay_in_turn(lines: &[Line], more: &[Line]) -> bool
-    ensures { result ≡ true → StandInTurn lines.now → StandInTurn (lines.now ++ more.now) }
+    ensures in_turn { result ≡ true → StandInTurn lines.now → StandInTurn (lines.now ++ more.now) }
+    ensures out_of_turn { result ≡ false → StandInTurn (lines.now ++ more.now) → ⊥ }
 {
     if lines.len() == 0 || more.len() == 0 {
         return are_in_turn(more);

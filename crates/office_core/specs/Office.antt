@@ -1,5 +1,5 @@
 -- An office of one clerk: its book, how much that may hold, and for how much more there is room.
-use Rattle.std.specs.Prelude.{ℕ, ◌≡◌, ◌≤◌, true, List, All, IfSome}
+use Rattle.std.specs.Prelude.{ℕ, ◌≡◌, ◌≤◌, true, false, List, All, IfSome}
 use Rattle.record_history.specs.Held.{IsWithin, room_of as record_room_of}
 use Rattle.book_rows.specs.Book.{Book, Room as TableRoom, HasRoom, book_of}
 use Rattle.row_index.specs.Index.{index_of}
@@ -36,3 +36,4 @@ pub record IsOffice (office : Inside) : Type 0 where
   pub requests : office.requests.entries ≡ index_of act_key office.tables.acts.items
   pub records : All IsWithin office.tables.records.items
   pub in_turn : office.in_turn ≡ true → StandInTurn office.tables.lines.items
+  pub out_of_turn : office.in_turn ≡ false → StandInTurn office.tables.lines.items → ⊥

@@ -13,7 +13,7 @@ use row_index::index_grows;
 use voucher_core::Line;
 
 impl Office {
-    ghost use Rattle.std.specs.Prelude.{◌≡◌, ◌≤◌, ◌+◌, ◌++◌, true, length, OnOk, IfSome};
+    ghost use Rattle.std.specs.Prelude.{◌≡◌, ◌≤◌, ◌+◌, ◌++◌, true, false, length, OnOk, IfSome};
     ghost use Rattle.book_rows.specs.Book.{appended};
     ghost use Rattle.office_answers.specs.Below.office_step.Known.{known_of};
     ghost use Rattle.office_answers.specs.Below.office_step.Reply.{done_of};
@@ -93,9 +93,10 @@ impl Office {
         self.register.note(asked, name, made);
     }
 
-    /// Whether the lines are known to stand in turn with these behind them.
+    /// Whether the lines stand in turn with these behind them.
     fn stays_in_turn(&self, more: &[Line]) -> bool
-        ensures { result ≡ true → StandInTurn (self.now.book.lines ++ more.now) }
+        ensures in_turn { result ≡ true → StandInTurn (self.now.book.lines ++ more.now) }
+        ensures out_of_turn { result ≡ false → StandInTurn (self.now.book.lines ++ more.now) → ⊥ }
     {
         self.in_turn && stay_in_turn(&self.tables.lines, more)
     }

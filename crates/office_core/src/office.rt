@@ -19,7 +19,7 @@ pub struct Office {
     pub(crate) tables: Tables,
     pub(crate) register: Register,
     pub(crate) requests: RowIndex,
-    /// Whether the lines are known to stand in turn, so that those of a month are found without a look at all.
+    /// Whether the lines stand in turn, so that those of a month are found without a look at all.
     pub(crate) in_turn: bool,
 }
 

@@ -11,5 +11,5 @@ loop-at-preserved c =
     in_turn_more c.args.lines.now c.loop-at.at c.index-lines-at.result c.index-lines-at-in-loop-at.result c.loop-at.auto.at c.loop-at-test.true
     (sym c.index-lines-at.is) (sym c.index-lines-at-in-loop-at.is) (sym c.is_no_later.ensures ∙ c.if-not-is_no_later.false) c.loop-at.invariant
 
-pub returns : goal.returns
-returns c = λ _. (let all = take_all c.loop-at.at c.args.lines.now (omega arith) in rw all at c.loop-at.invariant)
+pub returns-clause-in_turn : goal.returns-clause-in_turn
+returns-clause-in_turn c = λ _. (let all = take_all c.loop-at.at c.args.lines.now (omega arith) in rw all at c.loop-at.invariant)

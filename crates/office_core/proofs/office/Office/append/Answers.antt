@@ -30,7 +30,10 @@ invariant_of-self c =
           c.act_key.result c.acts-place.result c.self.invariant.requests c.index_grows.ensures c.append.ensures.book c.act_key.ensures (rw (← c.self.view_is) at c.acts-place.ensures) c.insert.ensures.entries;
       in_turn = λ passes.
           subst (λ (b : Book). StandInTurn b.lines) (sym c.append.ensures.book)
-          (rw (← c.self.view_is, c.as_slice.ensures) at (c.stays_in_turn-in_turn.ensures passes));
+          (rw (← c.self.view_is, c.as_slice.ensures) at (c.stays_in_turn-in_turn.ensures.in_turn passes));
+      out_of_turn = λ fails.
+          subst (λ (b : Book). StandInTurn b.lines → ⊥) (sym c.append.ensures.book)
+          (rw (← c.self.view_is, c.as_slice.ensures) at (c.stays_in_turn-in_turn.ensures.out_of_turn fails));
       records = subst (λ (b : Book). All IsWithin b.records) (sym c.append.ensures.book)
           (records_next c.self.inside.tables.records.items c.step.inside.batch.made c.self.invariant.records c.step.invariant.within);
     }

@@ -17,5 +17,6 @@ invariant_of-result c = record {
   known = c.in_ok-new.ensures ∙ ap known_of (sym c.new.ensures);
   records = subst (λ (b : Book). All IsWithin b.records) (sym c.new.ensures) (All-nil IsWithin);
   in_turn = λ _. subst (λ (b : Book). StandInTurn b.lines) (sym c.new.ensures) (λ i j d before within. absurd (omega (arith, before, within)));
+  out_of_turn = λ fails _. cc fails;
   requests = c.new-3.ensures ∙ sym (ap (λ (b : Book). index_of act_key b.acts) c.new.ensures);
 }
