@@ -55,11 +55,16 @@ fn run(rt: &HostRuntime) -> Option<()> {
 /// Copies the rows of one file into a new one, and gives how many acts there were.
 fn copy(rt: &HostRuntime, from: &str, to: &str) -> Option<usize> {
     let rows = rows_in(rt, from)?;
-    let Ok(mut to) = Connection::open(rt, to) else {
-        return None;
+    keep(rt, to, &rows).then_some(rows.acts.len())
+}
+
+/// Whether a new file holds the rows then.
+fn keep(rt: &HostRuntime, path: &str, rows: &Rows) -> bool {
+    let Ok(mut to) = Connection::open(rt, path) else {
+        return false;
     };
-    let is_filled = fill(rt.alloc(), &mut to, &rows).is_ok();
-    (to.close().is_ok() && is_filled).then_some(rows.acts.len())
+    let is_filled = fill(rt.alloc(), &mut to, rows).is_ok();
+    to.close().is_ok() && is_filled
 }
 
 fn rows_in(rt: &HostRuntime, path: &str) -> Option<Rows> {

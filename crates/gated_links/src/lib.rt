@@ -2,9 +2,11 @@
 #![tactic(auto)]
 
 mod gate;
+mod link;
 mod sink;
 mod source;
 
 pub use gate::Gate;
+pub use link::gated_link;
 pub use sink::GatedSink;
 pub use source::GatedSource;

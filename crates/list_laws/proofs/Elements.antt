@@ -1,8 +1,8 @@
 -- What holds of the elements of a list, and where they stand.
-use Rattle.std.proofs.Common.{◌≡◌, ◌∙◌, sym, ap, refl, subst, subst₂, ℕ, zero, suc, ◌<◌, ◌≤◌, ◌-◌, ◌⊎◌, inl, inr, arith, List, [], ◌∷◌, ◌++◌, Some, length, length-append, append_assoc, map, slice_get, All, AllPairs, Contains, get_or, get_or-append-add, ◌+◌}
+use Rattle.std.proofs.Common.{◌≡◌, ◌∙◌, sym, ap, refl, subst, subst₂, ℕ, zero, suc, ◌<◌, ◌≤◌, ◌-◌, ◌⊎◌, inl, inr, arith, List, [], ◌∷◌, ◌++◌, Some, length, length-append, append_assoc, map, slice_get, All, AllPairs, Contains, get_or, get_or-append-add, ◌+◌, insert}
 use Rattle.std.specs.List.{flat_map}
 use Rattle.std.proofs.{lemmas.Bool.cases_lt, Math.ListN.get_or-map, Math.ListN.length-map}
-use Rattle.std.proofs.lemmas.List.{Elements.All-map, Kept.AllPairs-cons, get_or_append_left, get_or-append_right, get_or_past, get_or_push}
+use Rattle.std.proofs.lemmas.List.{Elements.All-map, Kept.AllPairs-cons, get_or_append_left, get_or-append_right, get_or_past, get_or_push, Edits.length-insert, Edits.get_or-insert_below, Edits.get_or-insert_at, Edits.get_or-insert_above}
 
 -- the element at a place is among all, or the one given for none
 pub All-place : {X : Type 0} (P : X → Type 0) (xs : List X) (place : ℕ) (d : X) → All P xs → P d → P (get_or xs place d)
@@ -89,3 +89,30 @@ AllPairs-map R f (x ∷ xs) pairs =
     AllPairs-cons R (f x) (map f xs)
     (All-map (R (f x)) f xs (λ k d within. pairs zero (suc k) d (omega arith) (omega arith)))
     (AllPairs-map R f xs (λ i j d before within. pairs (suc i) (suc j) d (omega arith) (omega arith)))
+
+-- one that goes between those before it and those behind it leaves all pairs in order
+pub AllPairs-insert : {X : Type 0} (R : X → X → Type 0) (xs : List X) (i : ℕ) (y : X) → i ≤ length xs → AllPairs R xs →
+    ((k : ℕ) (d : X) → k < i → R (get_or xs k d) y) → ((k : ℕ) (d : X) → i ≤ k → k < length xs → R y (get_or xs k d)) → AllPairs R (insert xs i y)
+AllPairs-insert R xs i y le pairs low high a b d before within = by_first (cases_lt a i) (cases_lt i a) (cases_lt b i) (cases_lt i b)
+  where
+    long : length (insert xs i y) ≡ length xs + 1
+    long = length-insert xs i y le
+
+    below : (k : ℕ) → k < i → get_or (insert xs i y) k d ≡ get_or xs k d
+    below k lower = get_or-insert_below xs i y d k lower le
+
+    at : (k : ℕ) → k ≡ i → get_or (insert xs i y) k d ≡ y
+    at k is = rw is (get_or-insert_at xs i y d le)
+
+    above : (k : ℕ) → i < k → get_or (insert xs i y) k d ≡ get_or xs (k - 1) d
+    above k higher =
+        subst (λ q. get_or (insert xs i y) q d ≡ get_or xs (k - 1) d) {x = k - 1 + 1} (omega (arith, higher)) (get_or-insert_above xs i y d (k - 1) (omega (arith, higher)) le)
+
+    by_first : (a < i) ⊎ (i ≤ a) → (i < a) ⊎ (a ≤ i) → (b < i) ⊎ (i ≤ b) → (i < b) ⊎ (b ≤ i) → R (get_or (insert xs i y) a d) (get_or (insert xs i y) b d)
+    by_first (inl a_low) _ (inl b_low) _ = rw (below a a_low, below b b_low) (pairs a b d before (omega arith))
+    by_first (inl a_low) _ (inr _) (inl b_high) = rw (below a a_low, above b b_high) (pairs a (b - 1) d (omega arith) (omega (arith, within, long, b_high)))
+    by_first (inl a_low) _ (inr b_from) (inr b_to) = rw (below a a_low, at b (omega arith)) (low a d a_low)
+    by_first (inr a_from) (inr a_to) _ (inl b_high) = rw (at a (omega arith), above b b_high) (high (b - 1) d (omega arith) (omega (arith, within, long, b_high)))
+    by_first (inr _) (inl a_high) _ (inl b_high) =
+        rw (above a a_high, above b b_high) (pairs (a - 1) (b - 1) d (omega arith) (omega (arith, within, long, b_high)))
+    by_first (inr a_from) _ _ (inr b_to) = absurd (omega arith)

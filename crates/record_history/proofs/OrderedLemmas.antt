@@ -1,16 +1,15 @@
 -- Records that stand in order.
-use Rattle.record_history.proofs.Words.{◌≡◌, ◌≢◌, ◌∙◌, sym, ap, refl, subst, ℕ, zero, suc, ◌+◌, ◌-◌, ◌<◌, ◌≤◌, ◌⊎◌, inl, inr, Bool, true, false, List, [], ◌∷◌, ◌++◌, length, get_or, arith, None, All, filter, nat_le, ◌==◌, nat_tests, cases_lt, All-cons, All-push, Record, comes_before, latest, StandInOrder, AreInOrder, with_live, latest-is, pairs_order}
+use Rattle.record_history.proofs.Words.{◌≡◌, ◌≢◌, ◌∙◌, sym, ap, refl, subst, ℕ, zero, suc, ◌-◌, ◌<◌, ◌≤◌, ◌⊎◌, inl, inr, Bool, true, false, List, [], ◌∷◌, ◌++◌, length, get_or, arith, None, All, filter, nat_le, ◌==◌, nat_tests, cases_lt, All-cons, All-push, Record, comes_before, latest, StandInOrder, AreInOrder, with_live, latest-is, pairs_order}
 use Rattle.std.specs.Prelude.{AllPairs, Contains, Option, Some, insert, remove, position, find, slice_get, not}
 use Rattle.std.specs.List.{position_or_len}
 use Rattle.std.specs.List.Sorted.{IsPermutation, IsPartitionPoint, IsPartitionedBy}
 use Rattle.std.proofs.lemmas.Bool.{ne_eqb, false≢true}
 use Rattle.std.proofs.lemmas.Option.{slice_get_within, slice_get-get_or}
 use Rattle.std.proofs.Common.{eq-eqb, lt-ltb, append-nil}
-use Rattle.std.proofs.lemmas.List.Edits.{length-insert, get_or-insert_below, get_or-insert_at, get_or-insert_above}
 use Rattle.std.proofs.lemmas.List.Elements.{All-contains_itself, Contains-get_or, Contains-append_left, Contains-append_right, Contains-push}
 use Rattle.std.proofs.lemmas.List.Folds.{find_at}
 use Rattle.std.proofs.lemmas.List.Sorted.{All-permutation, Contains-permutation}
-use Rattle.list_laws.proofs.{Filters.filter_all, Finds.find_none}
+use Rattle.list_laws.proofs.{Elements.AllPairs-insert, Filters.filter_all, Finds.find_none}
 use Rattle.row_choice.specs.Latest.{IsLatest}
 use Rattle.record_history.specs.Records.{is_withdrawal}
 
@@ -79,33 +78,6 @@ module _ (live : List Record) (day k : ℕ) (in_order : StandInOrder live) (le :
           by_place r law.among.1 j low at behind (cases_lt j k) (cases_lt j (k - 1))
 
 -- ---- one more
-
--- one that goes between those before it and those behind it leaves all pairs in order
-AllPairs-insert : {X : Type 0} (R : X → X → Type 0) (xs : List X) (i : ℕ) (y : X) → i ≤ length xs → AllPairs R xs →
-    ((k : ℕ) (d : X) → k < i → R (get_or xs k d) y) → ((k : ℕ) (d : X) → i ≤ k → k < length xs → R y (get_or xs k d)) → AllPairs R (insert xs i y)
-AllPairs-insert R xs i y le pairs low high a b d before within = by_first (cases_lt a i) (cases_lt i a) (cases_lt b i) (cases_lt i b)
-  where
-    long : length (insert xs i y) ≡ length xs + 1
-    long = length-insert xs i y le
-
-    below : (k : ℕ) → k < i → get_or (insert xs i y) k d ≡ get_or xs k d
-    below k lower = get_or-insert_below xs i y d k lower le
-
-    at : (k : ℕ) → k ≡ i → get_or (insert xs i y) k d ≡ y
-    at k is = rw is (get_or-insert_at xs i y d le)
-
-    above : (k : ℕ) → i < k → get_or (insert xs i y) k d ≡ get_or xs (k - 1) d
-    above k higher =
-        subst (λ q. get_or (insert xs i y) q d ≡ get_or xs (k - 1) d) {x = k - 1 + 1} (omega (arith, higher)) (get_or-insert_above xs i y d (k - 1) (omega (arith, higher)) le)
-
-    by_first : (a < i) ⊎ (i ≤ a) → (i < a) ⊎ (a ≤ i) → (b < i) ⊎ (i ≤ b) → (i < b) ⊎ (b ≤ i) → R (get_or (insert xs i y) a d) (get_or (insert xs i y) b d)
-    by_first (inl a_low) _ (inl b_low) _ = rw (below a a_low, below b b_low) (pairs a b d before (omega arith))
-    by_first (inl a_low) _ (inr _) (inl b_high) = rw (below a a_low, above b b_high) (pairs a (b - 1) d (omega arith) (omega (arith, within, long, b_high)))
-    by_first (inl a_low) _ (inr b_from) (inr b_to) = rw (below a a_low, at b (omega arith)) (low a d a_low)
-    by_first (inr a_from) (inr a_to) _ (inl b_high) = rw (at a (omega arith), above b b_high) (high (b - 1) d (omega arith) (omega (arith, within, long, b_high)))
-    by_first (inr _) (inl a_high) _ (inl b_high) =
-        rw (above a a_high, above b b_high) (pairs (a - 1) (b - 1) d (omega arith) (omega (arith, within, long, b_high)))
-    by_first (inr a_from) _ _ (inr b_to) = absurd (omega arith)
 
 -- a newer record stands behind those before its place, and before the others
 pub in_order-insert : (live : List Record) (i : ℕ) (held : Record) → i ≤ length live → StandInOrder live →

@@ -1,42 +1,12 @@
-ghost use Rattle.std.specs.Prelude.{◌≡◌, Some};
-ghost use Rattle.office_links.specs.Links.{standing_by};
-ghost use Rattle.office_links.specs.Memory.{IsUnused};
-
 use crate::serving::{RAISED, raise, small_office};
-use gated_links::{Gate, GatedSink, GatedSource};
-use office_io::{FixedClock, MemorySink, MemorySource};
+use gated_links::{Gate, GatedSink, GatedSource, gated_link};
+use office_io::{FixedClock, MemorySink};
 use office_links::{Link, MemoryListener};
 use office_server::run_serve;
 use sample_office::{day, written};
 use std::alloc::Global;
 use std::process::Abort;
 use std::time::Clock;
-
-/// A source in memory of this text.
-fn source(rt: &impl Abort, alloc: Global, text: &str) -> MemorySource
-    ensures { result.plan.faults ≡ 0 }
-{
-    let bytes = Vec::from_slice(alloc, text.as_bytes()).expect(rt, "memory");
-    MemorySource::new(bytes, Vec::new(alloc), usize::MAX)
-}
-
-/// A link that gives one text, and after the gate `waits` the other; its first write opens the gate `opens`.
-fn link<'a, R: Abort + Clock>(
-    rt: &'a R,
-    alloc: Global,
-    texts: (&str, &str),
-    waits: &'a Gate,
-    opens: &'a Gate,
-) -> Link<GatedSource<'a, R>, GatedSink<'a>>
-    ensures { IsUnused (standing_by (λ s. Some s.left) (λ s. s.faults) (λ s. Some s.held) (λ s. s.plan.faults) result.source result.sink) }
-{
-    let (first, rest) = texts;
-    let sink = MemorySink::new(alloc, 4_096, Vec::new(alloc), usize::MAX).expect(rt, "memory");
-    Link {
-        source: GatedSource::new(source(rt, alloc, first), source(rt, alloc, rest), waits, rt),
-        sink: GatedSink::new(sink, opens),
-    }
-}
 
 /// Whether some link that was given back holds bytes that end so, with ' for ".
 fn is_written(
@@ -63,10 +33,10 @@ fn two_links_are_served_at_once(rt: HostRuntime) {
     let ask = "GET /households/1 HTTP/1.1\r\n\r\n";
     let mut links = Vec::new(alloc);
     links
-        .push(link(&rt, alloc, (first, rest), &answered, &last))
+        .push(gated_link(&rt, alloc, (first, rest), 4_096, &answered, &last).expect(&rt, "memory"))
         .expect(&rt, "memory");
     links
-        .push(link(&rt, alloc, (ask, ""), &open, &answered))
+        .push(gated_link(&rt, alloc, (ask, ""), 4_096, &open, &answered).expect(&rt, "memory"))
         .expect(&rt, "memory");
     let listener = MemoryListener::new(alloc, links, Vec::new(alloc)).expect(&rt, "memory");
     let mut sink = MemorySink::new(alloc, 40, Vec::new(alloc), 40).expect(&rt, "memory");

@@ -1,8 +1,7 @@
 -- Applicants in the order in which they stand.
 use Rattle.wait_list.proofs.Words.{◌≡◌, ◌≢◌, ◌∙◌, sym, ap, refl, ℕ, suc, zero, ◌<◌, Bool, true, false, List, [], ◌∷◌, ◌++◌, length, get_or, arith, Option, Some, None, All, All-head, All-tail, All-filter, AllPairs-filter, Contains, IsSomeAnd, filter, nat_tests, false≢true, if◌then◌else◌, Applicant, Asked, stands_behind, first_of, is_candidate, candidates, is_extremely_low, next_of, ◌&&◌, is_listed, without, HaveOwnNumbers, IsSoundList, IsSize}
-use Rattle.std.specs.Prelude.{AllPairs, find, fold, insert, remove, position, ◌≤◌, ◌-◌, ◌+◌, not, ◌==◌}
+use Rattle.std.specs.Prelude.{find, fold, insert, remove, position, ◌≤◌, ◌-◌, ◌+◌, not, ◌==◌}
 use Rattle.std.specs.List.Sorted.{IsPermutation, IsPartitionPoint, IsPartitionedBy}
-use Rattle.std.proofs.lemmas.List.Edits.{length-insert, get_or-insert_below, get_or-insert_at, get_or-insert_above}
 use Rattle.std.proofs.Common.{◌⊎◌, inl, inr, subst, eq-eqb}
 use Rattle.std.proofs.lemmas.Bool.{cases_lt, ne_eqb, true_from_ne_false, false_from_ne_true}
 use Rattle.std.proofs.lemmas.{List.get_or_default, Option.slice_get_within}
@@ -12,7 +11,7 @@ use Rattle.std.proofs.lemmas.List.Elements.{All-contains, All-weaker, All-contai
 use Rattle.std.proofs.lemmas.List.Folds.{find_at, list_any_none, list_any_at}
 use Rattle.std.proofs.lemmas.List.Quantifiers.{all_pairs_push}
 use Rattle.std.proofs.lemmas.List.Sorted.{All-permutation, Contains-permutation}
-use Rattle.list_laws.proofs.{Filters.filter_all, Filters.Contains-filter, Filters.filter-contains as filter_contains, Finds.find_none}
+use Rattle.list_laws.proofs.{Elements.AllPairs-insert, Filters.filter_all, Filters.Contains-filter, Filters.filter-contains as filter_contains, Finds.find_none}
 use Rattle.row_choice.{specs.Latest.later, specs.Latest.IsLatest, proofs.LatestLemmas.latest-is, proofs.LatestLemmas.filter-filter, proofs.LatestLemmas.pairs_order-turned}
 use Rattle.wait_list.specs.Ranked.{StandInOrder, IsRanking, IsSoundRanking}
 use Rattle.wait_list.specs.Waiting.{ActsRise}
@@ -104,33 +103,6 @@ parted ranked applicant in_order i j d le within passed = by_place (cases_lt i j
     by_place : (i < j) ⊎ (j ≤ i) → stands_behind applicant (get_or ranked i d) ≡ true
     by_place (inl before) = (let behind = in_order i j d before within in grind (arith, nat_tests))
     by_place (inr from) = (let same : i ≡ j = omega arith in rw same passed)
-
--- one that goes between those before it and those behind it leaves all pairs in order
-AllPairs-insert : {X : Type 0} (R : X → X → Type 0) (xs : List X) (i : ℕ) (y : X) → i ≤ length xs → AllPairs R xs →
-    ((k : ℕ) (d : X) → k < i → R (get_or xs k d) y) → ((k : ℕ) (d : X) → i ≤ k → k < length xs → R y (get_or xs k d)) → AllPairs R (insert xs i y)
-AllPairs-insert R xs i y le pairs low high a b d before within = by_first (cases_lt a i) (cases_lt i a) (cases_lt b i) (cases_lt i b)
-  where
-    long : length (insert xs i y) ≡ length xs + 1
-    long = length-insert xs i y le
-
-    below : (k : ℕ) → k < i → get_or (insert xs i y) k d ≡ get_or xs k d
-    below k lower = get_or-insert_below xs i y d k lower le
-
-    at : (k : ℕ) → k ≡ i → get_or (insert xs i y) k d ≡ y
-    at k is = rw is (get_or-insert_at xs i y d le)
-
-    above : (k : ℕ) → i < k → get_or (insert xs i y) k d ≡ get_or xs (k - 1) d
-    above k higher =
-        subst (λ q. get_or (insert xs i y) q d ≡ get_or xs (k - 1) d) {x = k - 1 + 1} (omega (arith, higher)) (get_or-insert_above xs i y d (k - 1) (omega (arith, higher)) le)
-
-    by_first : (a < i) ⊎ (i ≤ a) → (i < a) ⊎ (a ≤ i) → (b < i) ⊎ (i ≤ b) → (i < b) ⊎ (b ≤ i) → R (get_or (insert xs i y) a d) (get_or (insert xs i y) b d)
-    by_first (inl a_low) _ (inl b_low) _ = rw (below a a_low, below b b_low) (pairs a b d before (omega arith))
-    by_first (inl a_low) _ (inr _) (inl b_high) = rw (below a a_low, above b b_high) (pairs a (b - 1) d (omega arith) (omega (arith, within, long, b_high)))
-    by_first (inl a_low) _ (inr b_from) (inr b_to) = rw (below a a_low, at b (omega arith)) (low a d a_low)
-    by_first (inr a_from) (inr a_to) _ (inl b_high) = rw (at a (omega arith), above b b_high) (high (b - 1) d (omega arith) (omega (arith, within, long, b_high)))
-    by_first (inr _) (inl a_high) _ (inl b_high) =
-        rw (above a a_high, above b b_high) (pairs (a - 1) (b - 1) d (omega arith) (omega (arith, within, long, b_high)))
-    by_first (inr a_from) _ _ (inr b_to) = absurd (omega arith)
 
 -- an applicant who applied last stands behind those before its place, and before the others
 pub in_order-insert : (ranked : List Applicant) (i : ℕ) (applicant : Applicant) → i ≤ length ranked → StandInOrder ranked →
