@@ -1,6 +1,9 @@
 //! The office program over the real streams and clock, and a book in a file or in memory.
 #![tactic(auto)]
 
+mod book;
+
+use crate::book::open_book;
 use command_words::{Serve, book_and_words, serve_words};
 use keeper_core::{Keeper, MemoryKeeper};
 use keeper_sqlite::SqliteKeeper;
@@ -94,7 +97,7 @@ fn run_on_file<T: Threads + Wait + Sync>(
     path: &str,
     words: &[String],
 ) -> u8 {
-    match Connection::open(rt, path) {
+    match open_book(rt, path) {
         Ok(connection) => closed(run_on(rt, threads, words, connection)),
         Err(Error::SqliteFailure(ErrorCode::OutOfMemory)) => NO_MEMORY,
         Err(_) => NOT_OPENED,
