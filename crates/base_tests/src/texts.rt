@@ -1,4 +1,4 @@
-use plain_data::{Listed, Text};
+use plain_data::{Listed, SharedText, Text};
 use std::alloc::Global;
 use std::process::Abort;
 
@@ -27,4 +27,14 @@ fn gives_back_its_rows(rt: &impl Abort, alloc: Global) {
     assert!(rt; rows != listed(rt, alloc, &[1, 3, 2]));
     assert!(rt; rows.as_slice() == [3u32, 1, 2].as_slice());
     assert!(rt; rows.into_rows().as_slice() == [3u32, 1, 2].as_slice());
+}
+
+#[test]
+fn copies_share_a_text(rt: HostRuntime) {
+    let ada = b"Ada Reed".to_vec(rt.alloc()).expect(&rt, "memory");
+    let ada = SharedText::new(ada).expect(&rt, "memory");
+    let copy = ada.try_clone().expect(&rt, "few owners");
+    assert!(rt; copy == ada);
+    drop(ada);
+    assert!(rt; copy.as_bytes() == b"Ada Reed".as_slice());
 }

@@ -1,5 +1,5 @@
 -- What a query leaves outside a transaction, and what was read of its rows so far.
-use Rattle.std.proofs.Common.{◌≡◌, ◌⊎◌, ℕ, List, [], ◌∷◌, ◌++◌, map, false, Option, Some, None, Ok, Err, Result, IsTrue, IsPermutation, Ordering, sym, refl, ap, ap₂, subst, ◌∙◌, inl, inr}
+use Rattle.std.proofs.Common.{◌≡◌, ◌⊎◌, ℕ, List, [], ◌∷◌, ◌++◌, map, false, Option, Some, None, Ok, Err, Result, IsTrue, sym, refl, ap, ap₂, subst, ◌∙◌, inl, inr}
 use Rattle.sqlite.specs.Order.{Row}
 use Rattle.sqlite.specs.Tree.{Trees}
 use Rattle.sqlite_trees.specs.declared.store.Store.{Ghosts}
@@ -14,10 +14,8 @@ use Rattle.sqlite.specs.State.{State, IsUnchanged, IsRolledBack, IsNotRun, Fails
 use Rattle.sqlite.proofs.StateLemmas.{survives_weaker}
 use Rattle.sqlite.proofs.Callers.{unchanged_then}
 use Rattle.book_texts.specs.Schema.{book_schema}
-use Rattle.book_texts.specs.Trees.{Rises}
 use Rattle.book_statements.specs.Effects.{Undoes}
-use Rattle.book_asking.specs.Asking.{Asks}
-use Rattle.book_asking.proofs.Texts.{OnlyReads}
+use Rattle.book_asking.specs.Asking.{Asks, AreShown, OnlyReads}
 
 -- ---- a query that is refused
 
@@ -115,15 +113,18 @@ module _ {S : Type 0} (g : Ghosts S) {X : Type 0} (values : X → Row) (sql : Li
     reads = λ known are. let parts = split h.given row known are in ap₂ (λ l x. l ++ x ∷ []) (h.reads parts.0 parts.3) (one parts.1 parts.4) ∙ sym parts.2;
   }
 
-  module _ (stored : X → Row) (rows_of : Trees → List Row) (cmp : X → X → Ordering)
-      (shows : (mid new : State) (rows : List Row) → mid.now.schema ≡ book_schema → Shown sql [] mid new rows → (known : List X) → IsPermutation (map stored known) (rows_of mid.now.trees) → Rises cmp known → rows ≡ map values known) where
-    -- the rows that were given are all
-    pub reads_all : (old mid now : Held S) (read : List X) → HasReadAs old mid read → Advances g mid now None → IsUnchanged (state g mid) (state g now)
-        → Asks (λ trees xs. (known : List X) → IsPermutation (map stored known) (rows_of trees) → Rises cmp known → xs ≡ known) read (state g old) (state g now)
-    reads_all old mid now read h on same has =
-        let as_was = h.same.0.now_is in
-        let mine = ap (λ (d : Database). d.schema) as_was ∙ has in
-        let shown = on sql [] h.given h.gave in (
-          (λ known are rise. h.reads known (shows (state g mid) (state g now) h.given mine shown known (subst (λ (d : Database). IsPermutation (map stored known) (rows_of d.trees)) (sym as_was) are) rise)),
-          same.0.now_is ∙ as_was,
-        )
+  -- the rows that were given are all
+  pub reads_all : (old mid now : Held S) (read : List X) → HasReadAs old mid read → Advances g mid now None → IsUnchanged (state g mid) (state g now) → AreShown g values sql read old now
+  reads_all old mid now read h on same =
+      record { shown = h.given; last = mid; all = on sql [] h.given h.gave; before = h.same; after = same; reads = h.reads }
+
+  -- and of a book's file, they are the table's
+  pub asks : (are : Trees → List X → Type 0) (old new : Held S) (read : List X) → AreShown g values sql read old new
+      → ((last now : State) (rows : List Row) → last.now.schema ≡ book_schema → Shown sql [] last now rows → ((known : List X) → rows ≡ map values known → read ≡ known) → are last.now.trees read)
+      → Asks are read (state g old) (state g new)
+  asks are old new read h shows has =
+      let as_was = h.before.0.now_is in
+      let mine = ap (λ (d : Database). d.schema) as_was ∙ has in (
+        subst (λ (d : Database). are d.trees read) as_was (shows (state g h.last) (state g new) h.shown mine h.all h.reads),
+        h.after.0.now_is ∙ as_was,
+      )

@@ -14,11 +14,8 @@ use Rattle.sqlite_tied.specs.Compute.{everything}
 use Rattle.sqlite.specs.{Outline.Outline, Steps.Outlines}
 use Rattle.book_texts.specs.Schema.{no_schema}
 use Rattle.book_texts.proofs.Meanings.{select_acts_lacks}
+use Rattle.book_asking.specs.Asking.{OnlyReads}
 use Rattle.book_texts.specs.Texts.{select_acts, select_records, select_lines}
-
--- what a text shows is no write's, under any schema
-abbrev pub OnlyReads : List ℕ → Type 0
-OnlyReads sql = (schema : Schema) (c : Compiled) → understood schema sql ≡ Ok c → c.returning ≡ None
 
 -- whatever it says of tables, it has no RETURNING
 abbrev ReturnsNothing : Checked Parsed → Type 0

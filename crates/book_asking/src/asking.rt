@@ -1,21 +1,24 @@
-ghost use Rattle.std.specs.Prelude.{◌≡◌, false, OnOk, IfOk};
+ghost use Rattle.std.specs.Prelude.{◌≡◌, ◌++◌, ◌∷◌, [], false, OnOk, IfOk};
 ghost use Rattle.sqlite.specs.{State.HasCleanDisk, State.Survives, Held.state};
 ghost use Rattle.book_texts.specs.Schema.{no_schema};
 ghost use Rattle.book_texts.specs.Texts.{select_acts, select_records, select_lines};
-ghost use Rattle.book_asking.specs.Asking.{AreActs, AreRecords, AreLines, AreAsked, Asks};
+ghost use Rattle.book_asking.specs.Asking.{AreActs, AreRecords, AreLines, AreAsked, AreShown, Asks, OnlyReads};
 ghost use Rattle.book_statements.specs.Effects.{Undoes};
 
-use crate::reading::{act_of_row, line_of_row, record_of_row};
+use crate::reading::NO_MEMORY;
+use crate::shown::ShownRow;
+use book_ranges::{Narrow, ReadRows};
 use book_texts::{WideAct, WideLine, WideRecord};
+use plain_data::NoMemory;
 use sqlite::{Alter, Connection, Error, ErrorCode};
 use std::alloc::Global;
 
-/// The rows of the three tables.
+/// The rows of the three tables, each narrowed as it was read.
 #[derive(Drop)]
 pub struct AskedRows {
-    pub acts: Vec<WideAct>,
-    pub records: Vec<WideRecord>,
-    pub lines: Vec<WideLine>,
+    pub acts: ReadRows<WideAct>,
+    pub records: ReadRows<WideRecord>,
+    pub lines: ReadRows<WideLine>,
 }
 
 /// Why the rows weren't given.
@@ -27,89 +30,51 @@ pub enum AskFault {
     Others(Error),
 }
 
-/// The acts that the table holds, each read before the next is asked for, so that no more than a few rows are there at once.
-fn read_acts<S: Alter>(
-    conn: &mut Connection<S>,
-    alloc: Global,
-    sql: &str,
-) -> Result<Vec<WideAct>, Error>
-    requires text { sql.now ≡ select_acts }
-    requires alone { conn.old.in_transaction ≡ false }
-    ensures shown { HasCleanDisk (state S.Store conn.new) → IfOk result (λ acts. Asks AreActs acts.items (state S.Store conn.old) (state S.Store conn.new)) }
-    ensures undone { HasCleanDisk (state S.Store conn.new) → Undoes (state S.Store conn.old) (state S.Store conn.new) }
-    ensures alone { conn.new.in_transaction ≡ false }
-    ensures survives { Survives (state S.Store conn.old) (state S.Store conn.new) (λ _. ⊥) }
+/// Holds one row more.
+fn hold<T: Narrow>(read: &mut ReadRows<T>, row: T) -> Result<(), Error>
+    ensures { OnOk result (read.new ≡ read.old ++ row ∷ []) }
 {
-    // Asked for its contract: outside a transaction what is seen is what is committed.
-    let _is_alone = conn.is_autocommit();
-    let mut acts = Vec::new(alloc);
-    let mut rows = conn.query(sql, &[])?;
-    'rows: for _ in 0..u64::MAX {
-        let Some(row) = rows.next()? else {
-            return Ok(acts);
-        };
-        acts.push(act_of_row(alloc, row)?)?;
+    match read.push(row) {
+        Ok(()) => Ok(()),
+        Err(NoMemory) => Err(NO_MEMORY),
     }
-    Err(Error::SqliteFailure(ErrorCode::TooBig))
 }
 
-/// The records that the table holds, each read before the next is asked for, so that no more than a few rows are there at once.
-fn read_records<S: Alter>(
+/// The rows that the table holds, each read and narrowed before the next is asked for.
+fn read_rows<S: Alter, T: ShownRow>(
     conn: &mut Connection<S>,
     alloc: Global,
     sql: &str,
-) -> Result<Vec<WideRecord>, Error>
-    requires text { sql.now ≡ select_records }
+) -> Result<ReadRows<T>, Error>
+    requires text { sql.now ≡ T.text }
+    requires reads { OnlyReads T.text }
     requires alone { conn.old.in_transaction ≡ false }
-    ensures shown { HasCleanDisk (state S.Store conn.new) → IfOk result (λ records. Asks AreRecords records.items (state S.Store conn.old) (state S.Store conn.new)) }
+    ensures shown { HasCleanDisk (state S.Store conn.new) → IfOk result (λ rows. AreShown S.Store T.values T.text rows conn.old conn.new) }
     ensures undone { HasCleanDisk (state S.Store conn.new) → Undoes (state S.Store conn.old) (state S.Store conn.new) }
     ensures alone { conn.new.in_transaction ≡ false }
     ensures survives { Survives (state S.Store conn.old) (state S.Store conn.new) (λ _. ⊥) }
 {
     // Asked for its contract: outside a transaction what is seen is what is committed.
     let _is_alone = conn.is_autocommit();
-    let mut records = Vec::new(alloc);
+    let mut read = ReadRows::new(alloc);
     let mut rows = conn.query(sql, &[])?;
     'rows: for _ in 0..u64::MAX {
         let Some(row) = rows.next()? else {
-            return Ok(records);
+            return Ok(read);
         };
-        records.push(record_of_row(row)?)?;
-    }
-    Err(Error::SqliteFailure(ErrorCode::TooBig))
-}
-
-/// The lines that the table holds, each read before the next is asked for, so that no more than a few rows are there at once.
-fn read_lines<S: Alter>(
-    conn: &mut Connection<S>,
-    alloc: Global,
-    sql: &str,
-) -> Result<Vec<WideLine>, Error>
-    requires text { sql.now ≡ select_lines }
-    requires alone { conn.old.in_transaction ≡ false }
-    ensures shown { HasCleanDisk (state S.Store conn.new) → IfOk result (λ lines. Asks AreLines lines.items (state S.Store conn.old) (state S.Store conn.new)) }
-    ensures undone { HasCleanDisk (state S.Store conn.new) → Undoes (state S.Store conn.old) (state S.Store conn.new) }
-    ensures alone { conn.new.in_transaction ≡ false }
-    ensures survives { Survives (state S.Store conn.old) (state S.Store conn.new) (λ _. ⊥) }
-{
-    // Asked for its contract: outside a transaction what is seen is what is committed.
-    let _is_alone = conn.is_autocommit();
-    let mut lines = Vec::new(alloc);
-    let mut rows = conn.query(sql, &[])?;
-    'rows: for _ in 0..u64::MAX {
-        let Some(row) = rows.next()? else {
-            return Ok(lines);
-        };
-        lines.push(line_of_row(row)?)?;
+        hold(&mut read, T::of_row(alloc, row)?)?;
     }
     Err(Error::SqliteFailure(ErrorCode::TooBig))
 }
 
 /// The acts, of a file in which the query on them is understood.
-fn ask_acts<S: Alter>(conn: &mut Connection<S>, alloc: Global) -> Result<Vec<WideAct>, AskFault>
+fn ask_acts<S: Alter>(
+    conn: &mut Connection<S>,
+    alloc: Global,
+) -> Result<ReadRows<WideAct>, AskFault>
     requires alone { conn.old.in_transaction ≡ false }
     ensures known { HasCleanDisk (state S.Store conn.new) → OnOk result ((state S.Store conn.old).now.schema ≡ no_schema → ⊥) }
-    ensures shown { HasCleanDisk (state S.Store conn.new) → IfOk result (λ acts. Asks AreActs acts.items (state S.Store conn.old) (state S.Store conn.new)) }
+    ensures shown { HasCleanDisk (state S.Store conn.new) → IfOk result (λ acts. Asks AreActs acts (state S.Store conn.old) (state S.Store conn.new)) }
     ensures undone { HasCleanDisk (state S.Store conn.new) → Undoes (state S.Store conn.old) (state S.Store conn.new) }
     ensures alone { conn.new.in_transaction ≡ false }
     ensures survives { Survives (state S.Store conn.old) (state S.Store conn.new) (λ _. ⊥) }
@@ -119,7 +84,7 @@ fn ask_acts<S: Alter>(conn: &mut Connection<S>, alloc: Global) -> Result<Vec<Wid
     if let Err(error) = conn.prepare(sql) {
         return Err(AskFault::Acts(error));
     }
-    match read_acts(conn, alloc, sql) {
+    match read_rows::<S, WideAct>(conn, alloc, sql) {
         Ok(acts) => Ok(acts),
         Err(error) => Err(AskFault::Others(error)),
     }
@@ -128,30 +93,33 @@ fn ask_acts<S: Alter>(conn: &mut Connection<S>, alloc: Global) -> Result<Vec<Wid
 fn ask_records<S: Alter>(
     conn: &mut Connection<S>,
     alloc: Global,
-) -> Result<Vec<WideRecord>, AskFault>
+) -> Result<ReadRows<WideRecord>, AskFault>
     requires alone { conn.old.in_transaction ≡ false }
-    ensures shown { HasCleanDisk (state S.Store conn.new) → IfOk result (λ records. Asks AreRecords records.items (state S.Store conn.old) (state S.Store conn.new)) }
+    ensures shown { HasCleanDisk (state S.Store conn.new) → IfOk result (λ records. Asks AreRecords records (state S.Store conn.old) (state S.Store conn.new)) }
     ensures undone { HasCleanDisk (state S.Store conn.new) → Undoes (state S.Store conn.old) (state S.Store conn.new) }
     ensures alone { conn.new.in_transaction ≡ false }
     ensures survives { Survives (state S.Store conn.old) (state S.Store conn.new) (λ _. ⊥) }
 {
     let sql =
         "SELECT act, household, number, kind, first, corrects, unit, persons, size, extremely, annual, adjusted, ttp, contract_rent, utility, assistance, event, notice, done FROM records ORDER BY act";
-    match read_records(conn, alloc, sql) {
+    match read_rows::<S, WideRecord>(conn, alloc, sql) {
         Ok(records) => Ok(records),
         Err(error) => Err(AskFault::Others(error)),
     }
 }
 
-fn ask_lines<S: Alter>(conn: &mut Connection<S>, alloc: Global) -> Result<Vec<WideLine>, AskFault>
+fn ask_lines<S: Alter>(
+    conn: &mut Connection<S>,
+    alloc: Global,
+) -> Result<ReadRows<WideLine>, AskFault>
     requires alone { conn.old.in_transaction ≡ false }
-    ensures shown { HasCleanDisk (state S.Store conn.new) → IfOk result (λ lines. Asks AreLines lines.items (state S.Store conn.old) (state S.Store conn.new)) }
+    ensures shown { HasCleanDisk (state S.Store conn.new) → IfOk result (λ lines. Asks AreLines lines (state S.Store conn.old) (state S.Store conn.new)) }
     ensures undone { HasCleanDisk (state S.Store conn.new) → Undoes (state S.Store conn.old) (state S.Store conn.new) }
     ensures survives { Survives (state S.Store conn.old) (state S.Store conn.new) (λ _. ⊥) }
 {
     let sql =
         "SELECT act, place, month, household, for_month, first, last, old, new, amount FROM lines ORDER BY act, place";
-    match read_lines(conn, alloc, sql) {
+    match read_rows::<S, WideLine>(conn, alloc, sql) {
         Ok(lines) => Ok(lines),
         Err(error) => Err(AskFault::Others(error)),
     }

@@ -3,5 +3,6 @@
 
 mod asking;
 mod reading;
+mod shown;
 
 pub use asking::{AskFault, AskedRows, ask_tables};

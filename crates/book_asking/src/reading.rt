@@ -4,10 +4,12 @@ ghost use Rattle.sqlite.specs.{Order.column, Values.or_null};
 ghost use Rattle.book_texts.specs.Rows.{act_values, record_values, line_values};
 
 use book_texts::{WideAct, WideLine, WideRecord};
-use plain_data::Text;
+use plain_data::SharedText;
 use sqlite::types::{Type, ValueRef};
-use sqlite::{Error, Row};
+use sqlite::{Error, ErrorCode, Row};
 use std::alloc::Global;
+
+pub(crate) const NO_MEMORY: Error = Error::SqliteFailure(ErrorCode::OutOfMemory);
 
 /// The numbers in the first columns of a row.
 fn numbers_of<const N: usize>(row: &Row) -> Result<[i64; N], Error>
@@ -30,11 +32,14 @@ fn number_or_none(row: &Row, at: usize) -> Result<Option<i64>, Error>
     }
 }
 
-fn text_of(alloc: Global, row: &Row, at: usize) -> Result<Text, Error>
+fn text_of(alloc: Global, row: &Row, at: usize) -> Result<SharedText, Error>
     ensures { IfOk result (λ text. column row.now at ≡ Words text) }
 {
     match row.get_ref(at)? {
-        ValueRef::Text(bytes) => Ok(Text::new(Vec::from_slice(alloc, bytes)?)),
+        ValueRef::Text(bytes) => {
+            let bytes = Vec::from_slice(alloc, bytes)?;
+            SharedText::new(bytes).map_err(|_| NO_MEMORY)
+        }
         value => Err(Error::InvalidColumnType(at, Type::of(value))),
     }
 }

@@ -1,5 +1,5 @@
 -- Which numbers each column of a book's file may hold, and the first row with one that it may not.
-use Rattle.std.specs.Prelude.{◌≡◌, ℕ, ℤ, pos, ◌-ℤ◌, ◌&&◌, not, int_le, unsigned_abs, if◌then◌else◌, Bool, true, false, List, map, Option, None, Some, option_map, option_to_list, find, ⊤}
+use Rattle.std.specs.Prelude.{◌≡◌, ℕ, ℤ, pos, ◌-ℤ◌, ◌&&◌, not, int_le, unsigned_abs, if◌then◌else◌, Bool, true, false, List, map, Option, None, Some, option_map, option_to_list, find}
 use Rattle.std.specs.List.{AllByRecursion}
 use Rattle.std.specs.Option.{option_or}
 use Rattle.book_rows.specs.declared.rows.{Table.Table, Batch.Batch}
@@ -80,7 +80,7 @@ Narrows acts records lines (Loaded.Rows tables) =
     × ((map wide_act tables.acts.items ≡ acts) × ((map wide_record tables.records.items ≡ records) × (map wide_line tables.lines.items ≡ lines)))
 Narrows acts records lines (Loaded.BadRow table act) = first_bad acts records lines ≡ Some (row_of table act)
 Narrows acts records lines Loaded.Failed = ⊥
-Narrows acts records lines Loaded.NoMemory = ⊤
+Narrows acts records lines Loaded.NoMemory = ⊥
 
 -- each number of an act's rows is in its range
 pub record IsInRange (batch : Batch) : Type 0 where

@@ -3,8 +3,10 @@
 
 mod cells;
 mod ranges;
+mod read;
 mod rows;
 mod tables;
 
 pub use ranges::batch_fits;
+pub use read::{Narrow, ReadRows};
 pub use tables::narrowed;

@@ -6,9 +6,8 @@ use crate::cells::{amount, dates, day, flag, kind, month, number};
 use book_rows::ActRow;
 use book_texts::{WideAct, WideLine, WideRecord};
 use days_core::{Day, Rents};
-use plain_data::{NoMemory, Text};
+use plain_data::NoMemory;
 use record_history::Record;
-use std::alloc::Global;
 use voucher_core::Line;
 
 /// The numbers of an act.
@@ -38,21 +37,21 @@ fn act_numbers(wide: &WideAct) -> Option<ActNumbers>
     })
 }
 
-/// The act that a row stands for.
-pub(crate) fn act_of(alloc: Global, wide: &WideAct) -> Result<Option<ActRow>, NoMemory>
+/// The act that a row stands for, which shares its text.
+pub(crate) fn act_of(wide: &WideAct) -> Result<Option<ActRow>, NoMemory>
     ensures { IfOk result (λ read. MatchOption read (fits_act wide.now ≡ false) (λ act. (fits_act wide.now ≡ true) × (wide_act act ≡ wide.now))) }
 {
     let Some(numbers) = act_numbers(wide) else {
         return Ok(None);
     };
-    let body = wide.body.as_bytes().to_vec(alloc)?;
+    let body = wide.body.try_clone()?;
     Ok(Some(ActRow {
         n: numbers.n,
         session: numbers.session,
         clerk: numbers.clerk,
         request: numbers.request,
         day: numbers.day,
-        body: Text::new(body),
+        body,
     }))
 }
 

@@ -16,7 +16,7 @@ pub fn call_of(alloc: Global, row: &ActRow) -> Result<Option<Call>, NoMemory>
     ensures fit { IfOk result (λ call. IfSome call (λ call. is_fit_call call ≡ true)) }
     ensures text { IfOk result (λ call. IfSome call (λ call. IsTextOf call.command row.now.body)) }
 {
-    match command_of_body(alloc, &row.body) {
+    match command_of_body(alloc, row.body.as_bytes()) {
         Ok(command) => Ok(fit_call(row.clerk, row.request, command)),
         Err(BodyFault::BadBody) => Ok(None),
         Err(BodyFault::NoMemory) => Err(NoMemory),

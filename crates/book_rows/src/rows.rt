@@ -1,5 +1,5 @@
 use days_core::Day;
-use plain_data::{Listed, NoMemory, Text};
+use plain_data::{Listed, NoMemory, SharedText};
 use record_history::{Dates, Record};
 use std::alloc::Global;
 use voucher_core::Line;
@@ -16,24 +16,24 @@ pub struct ActRow {
     pub request: u32,
     pub day: Day,
     /// The text of its command.
-    pub body: Text,
+    pub body: SharedText,
 }
 
 impl ActRow {
     ghost use Rattle.std.specs.Prelude.{◌≡◌, IfOk};
 
-    /// Another row that is the same.
-    pub fn try_clone(&self, alloc: Global) -> Result<ActRow, NoMemory>
+    /// Another row that is the same. The two share the text, so that it takes no memory.
+    pub fn try_clone(&self) -> Result<ActRow, NoMemory>
         ensures { IfOk result (λ act. act ≡ self.now) }
     {
-        let body = self.body.as_bytes().to_vec(alloc)?;
+        let body = self.body.try_clone()?;
         Ok(ActRow {
             n: self.n,
             session: self.session,
             clerk: self.clerk,
             request: self.request,
             day: self.day,
-            body: Text::new(body),
+            body,
         })
     }
 }
@@ -55,7 +55,7 @@ impl Batch {
     pub fn try_clone(&self, alloc: Global) -> Result<Batch, NoMemory>
         ensures { IfOk result (λ batch. batch ≡ self.now) }
     {
-        let act = self.act.try_clone(alloc)?;
+        let act = self.act.try_clone()?;
         let lines = self.lines.as_slice().to_vec(alloc)?;
         Ok(Batch {
             act,

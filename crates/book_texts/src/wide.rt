@@ -1,4 +1,4 @@
-use plain_data::Text;
+use plain_data::SharedText;
 
 /// A row of `acts` as a file has it: in each column any number that 64 bits hold.
 #[derive(Drop)]
@@ -9,7 +9,7 @@ pub struct WideAct {
     pub request: i64,
     /// Counted from 1970-01-01.
     pub day: i64,
-    pub body: Text,
+    pub body: SharedText,
 }
 
 /// A row of `records` as a file has it.

@@ -3,7 +3,7 @@ use command_text::{BodyFault, body_of_command, command_of_body, command_of_value
 use json_form::{FormFault, value_of_bytes};
 use plain_data::{NoMemory, Text};
 use sample_office::{FACTS, PLAN, RENTS, START, UNIT, written};
-use std::alloc::{AllocError, Global};
+use std::alloc::Global;
 
 const LIMITS: &str =
     "{'extremely_low':[0,0,0,0,0,0,0,0,0,0,0,7],'from':'2024-01-01','kind':'limits',\
@@ -33,7 +33,7 @@ fn text_again(alloc: Global, text: &str) -> Option<Text> {
 }
 
 /// The text of the command that was read of its text in a book.
-fn body_again(alloc: Global, body: &Text) -> Option<Text> {
+fn body_again(alloc: Global, body: &[u8]) -> Option<Text> {
     match command_of_body(alloc, body) {
         Ok(asked) => text_of(alloc, asked),
         Err(_) => None,
@@ -44,7 +44,7 @@ fn body_again(alloc: Global, body: &Text) -> Option<Text> {
 fn is_kept(alloc: Global, text: &str) -> Option<bool> {
     let text = written(alloc, text).ok()?;
     let body = text_again(alloc, &text)?;
-    let again = body_again(alloc, &body)?;
+    let again = body_again(alloc, body.as_bytes())?;
     Some(body.as_bytes() == text.as_bytes() && again == body)
 }
 
@@ -212,14 +212,13 @@ fn ends_of_ranges_are_within_them(rt: HostRuntime) {
     }
 }
 
-fn is_no_body(alloc: Global, bytes: &[u8]) -> Result<bool, AllocError> {
-    let body = Text::new(bytes.to_vec(alloc)?);
-    match command_of_body(alloc, &body) {
+fn is_no_body(alloc: Global, bytes: &[u8]) -> bool {
+    match command_of_body(alloc, bytes) {
         Ok(asked) => {
             asked.let_go();
-            Ok(false)
+            false
         }
-        Err(fault) => Ok(fault == BodyFault::BadBody),
+        Err(fault) => fault == BodyFault::BadBody,
     }
 }
 
@@ -239,6 +238,6 @@ const OTHERS: [&[u8]; 9] = [
 #[test]
 fn another_text_is_no_body(rt: HostRuntime) {
     for bytes in &OTHERS {
-        assert!(rt; is_no_body(rt.alloc(), *bytes) == Ok(true), "{bytes:?}");
+        assert!(rt; is_no_body(rt.alloc(), *bytes), "{bytes:?}");
     }
 }

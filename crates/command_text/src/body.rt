@@ -9,7 +9,7 @@ use crate::command::command_of_value;
 use book_rows::Command;
 use command_body::body_of_command;
 use json_form::{FormFault, value_of_bytes};
-use plain_data::{NoMemory, Text};
+use plain_data::NoMemory;
 use serde_json::Value;
 use std::alloc::Global;
 
@@ -33,7 +33,7 @@ impl From<NoMemory> for BodyFault {
 }
 
 /// The command whose text this is.
-pub fn command_of_body(alloc: Global, body: &Text) -> Result<Command, BodyFault>
+pub fn command_of_body(alloc: Global, body: &[u8]) -> Result<Command, BodyFault>
     ensures command { IfOk result (λ asked. command_in body.now ≡ Some asked) }
     ensures fit { IfOk result (λ asked. is_fit asked ≡ true) }
     ensures own { IfOk result (λ asked. body_of asked ≡ body.now) }
@@ -43,13 +43,13 @@ pub fn command_of_body(alloc: Global, body: &Text) -> Result<Command, BodyFault>
     own_command(alloc, body)
 }
 
-fn own_command(alloc: Global, body: &Text) -> Result<Command, BodyFault>
+fn own_command(alloc: Global, body: &[u8]) -> Result<Command, BodyFault>
     ensures command { IfOk result (λ asked. command_in body.now ≡ Some asked) }
     ensures fit { IfOk result (λ asked. is_fit asked ≡ true) }
     ensures own { IfOk result (λ asked. body_of asked ≡ body.now) }
     ensures bad_body { result ≡ Err BodyFault.BadBody → command_in body.now ≡ None }
 {
-    let asked = command_of_bytes(alloc, body.as_bytes())?;
+    let asked = command_of_bytes(alloc, body)?;
     match fault_of_text(alloc, &asked, body) {
         None => Ok(asked),
         Some(fault) => {
@@ -60,13 +60,13 @@ fn own_command(alloc: Global, body: &Text) -> Result<Command, BodyFault>
 }
 
 /// Why the text isn't the command's own, if it isn't.
-fn fault_of_text(alloc: Global, asked: &Command, body: &Text) -> Option<BodyFault>
+fn fault_of_text(alloc: Global, asked: &Command, body: &[u8]) -> Option<BodyFault>
     ensures own { result ≡ None → body_of asked.now ≡ body.now }
     ensures bad_body { result ≡ Some BodyFault.BadBody → body_of asked.now ≢ body.now }
 {
     match body_of_command(alloc, asked) {
         Ok(own) => {
-            if own == *body {
+            if own.as_bytes() == body {
                 None
             } else {
                 Some(BodyFault::BadBody)

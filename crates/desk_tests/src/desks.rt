@@ -71,7 +71,7 @@ fn read(alloc: Global, text: &str) -> Result<Command, BodyFault>
     ensures { IfOk result (λ asked. is_fit asked ≡ true) }
 {
     let body = body(alloc, text)?;
-    command_of_body(alloc, &body)
+    command_of_body(alloc, body.as_bytes())
 }
 
 /// A clerk's call of that request, whose command has this text.

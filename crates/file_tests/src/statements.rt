@@ -1,8 +1,10 @@
 use book_asking::{AskFault, AskedRows, ask_tables};
-use book_rows::{ActRow, Batch};
+use book_ranges::narrowed;
+use book_rows::{ActRow, Batch, Tables};
 use book_statements::{make_tables, write_batch};
 use days_core::{Day, Month, Rents, day_of_text, month_of_text};
-use plain_data::{Listed, Text};
+use keeper_core::Loaded;
+use plain_data::{Listed, SharedText};
 use record_history::{Dates, Kind, Record};
 use sqlite::{Connection, MemStore};
 use std::alloc::Global;
@@ -89,73 +91,69 @@ pub(crate) fn batch(rt: &impl Abort, alloc: Global, n: u32) -> Batch {
             clerk: 1,
             request: n,
             day: day(rt, "2024-01-01"),
-            body: Text::new(body),
+            body: SharedText::new(body).expect(rt, "memory"),
         },
         made,
         lines: Listed::new(lines),
     }
 }
 
-fn asked(rt: &impl Abort, alloc: Global, conn: &mut Connection<MemStore>) -> AskedRows {
-    match ask_tables(conn, alloc) {
-        Ok(rows) => rows,
-        Err(_) => panic!(rt; "no rows"),
+/// The rows that the file holds.
+fn asked(rt: &impl Abort, alloc: Global, conn: &mut Connection<MemStore>) -> Tables {
+    let Ok(
+        AskedRows {
+            acts,
+            records,
+            lines,
+        },
+    ) = ask_tables(conn, alloc)
+    else {
+        panic!(rt; "no rows");
+    };
+    match narrowed(acts, records, lines) {
+        Loaded::Rows(tables) => tables,
+        _ => panic!(rt; "a row out of range"),
     }
 }
 
-/// Whether the acts have the numbers that the file's forms give them.
-fn has_both_acts(rows: &AskedRows) -> bool {
-    let [first, second] = rows.acts.as_slice() else {
-        return false;
-    };
-    first.n == 1
-        && first.day == 19_723
-        && first.body.as_bytes() == "{}".as_bytes()
-        && second.n == 2
-        && second.session == 1
-        && second.clerk == 1
-        && second.request == 2
+/// The number that a query gives.
+fn stored(rt: &impl Abort, conn: &mut Connection<MemStore>, sql: &str) -> i64 {
+    match conn.query_row(sql, &[]) {
+        Ok(row) => row.get(0).unwrap_or(-1),
+        Err(_) => panic!(rt; "no row"),
+    }
 }
 
-/// Whether there is the one record, with its days.
-fn has_the_record(rows: &AskedRows) -> bool {
-    let [made] = rows.records.as_slice() else {
-        return false;
-    };
-    made.act == 1
-        && made.kind == 2
-        && made.first == 19_723
-        && made.extremely == 0
-        && made.annual == 9_600
-        && made.event == Some(19_724)
-        && made.notice == Some(19_725)
-        && made.done == Some(-32_872)
-}
+/// What a column of the first act, record or line holds.
+const STORED: [(&str, i64); 10] = [
+    ("SELECT day FROM acts WHERE n = 1", 19_723),
+    ("SELECT kind FROM records", 2),
+    ("SELECT first FROM records", 19_723),
+    ("SELECT extremely FROM records", 0),
+    ("SELECT event FROM records", 19_724),
+    ("SELECT notice FROM records", 19_725),
+    ("SELECT done FROM records", -32_872),
+    ("SELECT month FROM lines WHERE place = 1", 24_288),
+    ("SELECT last FROM lines WHERE place = 2", 19_753),
+    ("SELECT amount FROM lines WHERE place = 2", -50),
+];
 
-/// Whether there are both lines, in order.
-fn has_both_lines(rows: &AskedRows) -> bool {
-    let [first, second] = rows.lines.as_slice() else {
-        return false;
-    };
-    first.place == 1
-        && first.amount == 548
-        && first.month == 24_288
-        && second.place == 2
-        && second.amount == -50
-        && second.last == 19_753
-}
-
-/// The tables are made, two batches are written, and the rows are given as the file's forms have them.
+/// The tables are made and two batches are written: the rows are stored in the file's forms, and given as they were.
 #[test]
 fn rows_are_given_as_they_were_written(rt: HostRuntime) {
     let alloc = rt.alloc();
     let mut conn = file(&rt, alloc);
-    assert!(rt; write_batch(&mut conn, &batch(&rt, alloc, 1)).is_ok());
-    assert!(rt; write_batch(&mut conn, &batch(&rt, alloc, 2)).is_ok());
-    let rows = asked(&rt, alloc, &mut conn);
-    assert!(rt; has_both_acts(&rows));
-    assert!(rt; has_the_record(&rows));
-    assert!(rt; has_both_lines(&rows));
+    let (one, two) = (batch(&rt, alloc, 1), batch(&rt, alloc, 2));
+    assert!(rt; write_batch(&mut conn, &one).is_ok());
+    assert!(rt; write_batch(&mut conn, &two).is_ok());
+    let tables = asked(&rt, alloc, &mut conn);
+    assert!(rt; tables.acts.len() == 2);
+    assert!(rt; tables.acts[0] == one.act && tables.acts[1] == two.act);
+    assert!(rt; tables.records.as_slice() == [certified(&rt)].as_slice());
+    assert!(rt; tables.lines.as_slice() == one.lines.as_slice());
+    for (sql, number) in &STORED {
+        assert!(rt; stored(&rt, &mut conn, *sql) == *number, "{sql}");
+    }
 }
 
 /// An act that is there already is refused, and so is all of its batch.
@@ -165,8 +163,8 @@ fn act_of_the_same_number_is_refused_whole(rt: HostRuntime) {
     let mut conn = file(&rt, alloc);
     assert!(rt; write_batch(&mut conn, &batch(&rt, alloc, 1)).is_ok());
     assert!(rt; write_batch(&mut conn, &batch(&rt, alloc, 1)).is_err());
-    let rows = asked(&rt, alloc, &mut conn);
-    assert!(rt; rows.acts.len() == 1 && rows.records.len() == 1 && rows.lines.len() == 2);
+    let tables = asked(&rt, alloc, &mut conn);
+    assert!(rt; tables.acts.len() == 1 && tables.records.len() == 1 && tables.lines.len() == 2);
 }
 
 /// A file with one of the three tables alone has no rows to give, and can't get the others.

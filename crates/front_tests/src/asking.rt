@@ -14,7 +14,7 @@ const CLOSING: &str = "{'clerk':1,'request':5,'act':{'kind':'close','month':'202
 fn is_closing(alloc: Global, call: &Call) -> Result<bool, Fail> {
     let own = body_of_command(alloc, &call.command)?;
     let wanted = body(alloc, "{'kind':'close','month':'2024-01'}")?;
-    Ok(call.clerk == 1 && call.request == 5 && own == wanted)
+    Ok(call.clerk == 1 && call.request == 5 && own.as_bytes() == wanted.as_bytes())
 }
 
 #[test]

@@ -21,7 +21,7 @@ fn copy_of_acts(alloc: Global, acts: &[ActRow]) -> Result<Vec<ActRow>, NoMemory>
 {
     let mut copies = Vec::with_capacity(alloc, acts.len())?;
     for act in acts {
-        copies.push(act.try_clone(alloc)?)?;
+        copies.push(act.try_clone()?)?;
     }
     Ok(copies)
 }

@@ -101,12 +101,12 @@ none_some o x p q = let e : None ≡ Some x = sym p ∙ q in absurd (cc)
 some_once : {X : Type 0} (o : Option X) (x y : X) → o ≡ Some x → o ≡ Some y → y ≡ x
 some_once o x y p q = let e : Some y ≡ Some x = sym q ∙ p in cc
 
-module _ (rows : AskedRows) (db : Database) (asked : AreAsked rows db) (loaded : Loaded) (reads : Narrows rows.acts.items rows.records.items rows.lines.items loaded) where
+module _ (rows : AskedRows) (db : Database) (asked : AreAsked rows db) (loaded : Loaded) (reads : Narrows rows.acts rows.records rows.lines loaded) where
   of_rows : (acts : List WideAct) (records : List WideRecord) (lines : List WideLine) → db.schema ≡ book_schema → StandsFor db.trees acts records lines → Narrows acts records lines loaded
   of_rows acts records lines has stands =
       subst (λ l. Narrows acts records l loaded) (asked.lines has lines stands.lines_are stands.lines_rise)
-      (subst (λ r. Narrows acts r rows.lines.items loaded) (asked.records has records stands.records_are stands.records_rise)
-      (subst (λ a. Narrows a rows.records.items rows.lines.items loaded) (asked.acts has acts stands.acts_are stands.acts_rise) reads))
+      (subst (λ r. Narrows acts r rows.lines loaded) (asked.records has records stands.records_are stands.records_rise)
+      (subst (λ a. Narrows a rows.records rows.lines loaded) (asked.acts has acts stands.acts_are stands.acts_rise) reads))
 
   pub of_book : (book : Book) → IsBookIn db book → first_bad (map wide_act book.acts) (map wide_record book.records) (map wide_line book.lines) ≡ None × Narrows (map wide_act book.acts) (map wide_record book.records) (map wide_line book.lines) loaded
   of_book book (inl p) = (p.fits, of_rows _ _ _ p.schema p.stands)
@@ -116,7 +116,7 @@ module _ (rows : AskedRows) (db : Database) (asked : AreAsked rows db) (loaded :
   of_bad row bad = of_rows bad.acts bad.records bad.lines bad.schema bad.stands
 
 pub gives_rows : (rows : AskedRows) (old new : State) (P : Trees → Type 0) (loaded : Loaded) (b : Bool) → Survives old new P → (HasCleanDisk new → AreAsked rows old.now) → (HasCleanDisk new → Undoes old new)
-    → Narrows rows.acts.items rows.records.items rows.lines.items loaded
+    → Narrows rows.acts rows.records rows.lines loaded
     → Gives (Holds new b) (HoldsBad new b) loaded
 gives_rows rows old new P (Loaded.Rows tables) b lives asked undone reads = (
   (λ book h. let it = of_book rows old.now (asked h.ready.clean) (Loaded.Rows tables) reads book (book_before old new P lives undone b book h).it in book_is tables book it.1.1.0 it.1.1.1.0 it.1.1.1.1),

@@ -23,8 +23,8 @@ pub(crate) fn is_want_of_memory(error: &Error) -> bool
 }
 
 /// The rows of the three tables in their ranges, or the first bad one.
-fn loaded_of(alloc: Global, rows: AskedRows) -> Loaded
-    ensures narrowed { Narrows rows.acts.items rows.records.items rows.lines.items result }
+fn loaded_of(rows: AskedRows) -> Loaded
+    ensures narrowed { Narrows rows.acts rows.records rows.lines result }
     ensures answer { IsAnswer result }
 {
     let AskedRows {
@@ -32,7 +32,7 @@ fn loaded_of(alloc: Global, rows: AskedRows) -> Loaded
         records,
         lines,
     } = rows;
-    narrowed(alloc, acts, records, lines)
+    narrowed(acts, records, lines)
 }
 
 /// Asks for the rows of the three tables.
@@ -42,7 +42,7 @@ fn load_rows<S: Alter>(conn: &mut Connection<S>, alloc: Global) -> Result<Loaded
     ensures tells { (is_beside : Bool) → TellsNoMore (state S.Store conn.old) is_beside (state S.Store conn.new) is_beside }
 {
     let rows = ask_tables(conn, alloc)?;
-    Ok(loaded_of(alloc, rows))
+    Ok(loaded_of(rows))
 }
 
 /// Whether nothing stands in the file.

@@ -18,7 +18,7 @@ use office_answers::office_acts::{judge, lines_of};
 use office_answers::office_refusals::{act_day, lines_full};
 use office_answers::office_register::Register;
 use office_answers::office_step::{Call, Capacity, Refusal};
-use plain_data::{Listed, NoMemory, Text};
+use plain_data::{Listed, NoMemory, SharedText, Text};
 use record_history::{Dates, Record};
 use std::alloc::Global;
 use voucher_core::Line;
@@ -49,7 +49,7 @@ pub fn new_step(
     session: u32,
     clock: Day,
     call: Call,
-    at_hand: Option<&Text>,
+    at_hand: Option<&SharedText>,
 ) -> Result<Step, Judgment>
     requires fit { is_fit_call call ≡ true }
     requires most { held.now.capacity.acts ≤ 100000 }
@@ -83,7 +83,7 @@ fn drafted(
     session: u32,
     clock: Day,
     call: &Call,
-    at_hand: Option<&Text>,
+    at_hand: Option<&SharedText>,
 ) -> Result<Draft, Judgment>
     requires fit { is_fit_call call.now ≡ true }
     requires most { held.now.capacity.acts ≤ 100000 }
@@ -139,15 +139,19 @@ fn full_of(held: &Held, lines: &[Line]) -> Option<Refusal>
     lines_full(held.lines, lines.len() as u32, held.capacity.lines)
 }
 
-/// The text of a fit command: a copy of the one at hand, or else one that is written of it.
-fn text_for(alloc: Global, asked: &Command, at_hand: Option<&Text>) -> Result<Text, NoMemory>
+/// The text of a fit command: the one at hand, or else one that is written of it.
+fn text_for(
+    alloc: Global,
+    asked: &Command,
+    at_hand: Option<&SharedText>,
+) -> Result<SharedText, NoMemory>
     requires fit { is_fit asked.now ≡ true }
     requires at_hand { IfSome (option_copied at_hand) (IsTextOf asked.now) }
     ensures { IfOk result (IsTextOf asked.now) }
 {
     match at_hand {
-        Some(body) => Ok(Text::new(body.as_bytes().to_vec(alloc)?)),
-        None => body_of_command(alloc, asked),
+        Some(body) => body.try_clone(),
+        None => SharedText::new(body_of_command(alloc, asked)?.into_bytes()),
     }
 }
 

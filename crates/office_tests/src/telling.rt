@@ -72,7 +72,7 @@ fn read(alloc: Global, text: &str) -> Result<Command, BodyFault>
         return Err(BodyFault::NoMemory);
     };
     let body = body(alloc, &text)?;
-    command_of_body(alloc, &body)
+    command_of_body(alloc, body.as_bytes())
 }
 
 /// The command of that text.

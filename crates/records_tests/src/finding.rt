@@ -3,10 +3,10 @@ use book_search::{
     act_key, act_of_number, act_of_other_body, act_of_request, act_of_same_body, lines_of_act,
     record_of_act,
 };
-use plain_data::Text;
+use plain_data::SharedText;
 use record_history::Kind;
 use row_index::RowIndex;
-use sample_office::{act_row, day, line, record, text};
+use sample_office::{act_row, body, day, line, record};
 use std::alloc::Global;
 use std::process::Abort;
 
@@ -47,8 +47,8 @@ fn finds_the_record_of_an_act(rt: HostRuntime) {
     }
 }
 
-fn body(rt: &impl Abort, alloc: Global, words: &str) -> Text {
-    text(alloc, words).expect(rt, "memory")
+fn body_of(rt: &impl Abort, alloc: Global, words: &str) -> SharedText {
+    body(alloc, words).expect(rt, "memory")
 }
 
 const ACT_OF_NUMBER: [(u32, Option<u32>); 4] = [(0, None), (1, Some(50)), (3, Some(7)), (4, None)];
@@ -57,9 +57,9 @@ const ACT_OF_NUMBER: [(u32, Option<u32>); 4] = [(0, None), (1, Some(50)), (3, So
 fn finds_the_act_of_a_number(rt: HostRuntime) {
     let alloc = rt.alloc();
     let acts = [
-        act_row(1, 1, 50, body(&rt, alloc, "{}")),
-        act_row(2, 2, 50, body(&rt, alloc, "[]")),
-        act_row(3, 1, 7, body(&rt, alloc, "{}")),
+        act_row(1, 1, 50, body_of(&rt, alloc, "{}")),
+        act_row(2, 2, 50, body_of(&rt, alloc, "[]")),
+        act_row(3, 1, 7, body_of(&rt, alloc, "{}")),
     ];
     for (n, request) in &ACT_OF_NUMBER {
         let found = act_of_number(&acts, *n);
@@ -83,9 +83,9 @@ const REQUESTS: [RequestCase; 5] = [
 fn finds_the_act_of_a_request(rt: HostRuntime) {
     let alloc = rt.alloc();
     let acts = [
-        act_row(1, 1, 50, body(&rt, alloc, "{}")),
-        act_row(2, 2, 50, body(&rt, alloc, "[]")),
-        act_row(3, 1, 7, body(&rt, alloc, "{}")),
+        act_row(1, 1, 50, body_of(&rt, alloc, "{}")),
+        act_row(2, 2, 50, body_of(&rt, alloc, "[]")),
+        act_row(3, 1, 7, body_of(&rt, alloc, "{}")),
     ];
     let mut index = RowIndex::new(alloc);
     index.reserve().expect(&rt, "memory");

@@ -7,14 +7,14 @@ use book_rows::{ActRow, Batch, Table, Tables};
 use keeper_core::{Committed, DamagedKeeper, Keeper, Loaded, MemoryKeeper, PlannedKeeper};
 use plain_data::Listed;
 use record_history::{Dates, Kind, Record};
-use sample_office::{act_row, day, line, record, text};
+use sample_office::{act_row, body, day, line, record};
 use std::alloc::Global;
 use std::process::Abort;
 use std::str;
 use voucher_core::Line;
 
-fn act(rt: &impl Abort, alloc: Global, n: u32, body: &str) -> ActRow {
-    act_row(n, 1, n, text(alloc, body).expect(rt, "memory"))
+fn act(rt: &impl Abort, alloc: Global, n: u32, text: &str) -> ActRow {
+    act_row(n, 1, n, body(alloc, text).expect(rt, "memory"))
 }
 
 fn certified() -> Record {

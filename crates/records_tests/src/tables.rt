@@ -1,11 +1,11 @@
 use book_rows::{Batch, Tables, is_name, same_act, same_line};
 use plain_data::Listed;
-use sample_office::{act_row, line, text};
+use sample_office::{CLOSE_JANUARY, act_row, body, line};
 use std::alloc::Global;
 use std::process::Abort;
 
 fn batch(rt: &impl Abort, alloc: Global) -> Batch {
-    let body = text(alloc, "{\"kind\":\"close\",\"month\":\"2024-01\"}").expect(rt, "memory");
+    let body = body(alloc, CLOSE_JANUARY).expect(rt, "memory");
     let lines = [line(1, 1), line(1, 2)].to_vec(alloc).expect(rt, "memory");
     Batch {
         act: act_row(1, 7, 41, body),

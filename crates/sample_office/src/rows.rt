@@ -2,7 +2,7 @@ ghost use Rattle.std.specs.Prelude.{◌≡◌, IfOk};
 
 use crate::days::{day, month};
 use book_rows::ActRow;
-use plain_data::{NoMemory, Text};
+use plain_data::{NoMemory, SharedText, Text};
 use std::alloc::Global;
 use voucher_core::Line;
 
@@ -14,7 +14,7 @@ pub fn text(alloc: Global, words: &str) -> Result<Text, NoMemory>
 }
 
 /// An act of session 1 on 2024-01-01.
-pub fn act_row(n: u32, clerk: u32, request: u32, body: Text) -> ActRow
+pub fn act_row(n: u32, clerk: u32, request: u32, body: SharedText) -> ActRow
     ensures n { result.n ≡ n }
     ensures clerk { result.clerk ≡ clerk }
     ensures request { result.request ≡ request }

@@ -1,6 +1,6 @@
 //! The texts of acts as an office keeps them, but with ' in place of " and with FACTS for the facts of a household.
 
-use plain_data::{NoMemory, Text};
+use plain_data::{NoMemory, SharedText};
 use std::alloc::Global;
 
 /// One of 70 with benefits of 9,600 and medical expenses of 1,000, who pays 212 of rents of 760.
@@ -52,6 +52,6 @@ pub fn written(alloc: Global, text: &str) -> Result<String, NoMemory> {
 }
 
 /// The same as the body of an act.
-pub fn body(alloc: Global, text: &str) -> Result<Text, NoMemory> {
-    Ok(Text::new(written(alloc, text)?.into_bytes()))
+pub fn body(alloc: Global, text: &str) -> Result<SharedText, NoMemory> {
+    SharedText::new(written(alloc, text)?.into_bytes())
 }

@@ -1,7 +1,11 @@
-use Rattle.std.proofs.Common.{[], not, ap, ◌∙◌, arith}
+use Rattle.std.proofs.Common.{[], not, ap, ◌∙◌, arith, rules}
 use Rattle.sqlite.specs.Held.{state}
-use Rattle.book_asking.proofs.Texts.{lacks}
-use Rattle.book_asking.proofs.Asked.{not_run, ended_undoes}
+use Rattle.book_texts.specs.Rows.{act_values}
+use Rattle.book_texts.specs.Texts.{select_acts}
+use Rattle.book_texts.proofs.Selects.{shows_acts}
+use Rattle.book_asking.specs.Asking.{AreActs}
+use Rattle.book_asking.proofs.Texts.{lacks, acts_only_read}
+use Rattle.book_asking.proofs.Asked.{not_run, ended_undoes, asks}
 use Rattle.book_asking.proofs.asking.ask_acts.Goals as goal
 
 pub returns-in-Err-clause-undone : goal.returns-in-Err-clause-undone
@@ -12,4 +16,12 @@ returns-in-Err-clause-undone g c clean =
 
 pub returns-in-Ok-clause-known : goal.returns-in-Ok-clause-known
 returns-in-Ok-clause-known g c clean none =
-    lacks c.args.conn.now.schema _ none (c.in_default.ensures.shape (omega (arith, c.read_acts.ensures.survives.clean, clean)))
+    lacks c.args.conn.now.schema _ none (c.in_default.ensures.shape (omega (arith, c.read_rows.ensures.survives.clean, clean)))
+
+pub read_rows-requires-clause-reads : goal.read_rows-requires-clause-reads
+read_rows-requires-clause-reads g c = acts_only_read
+
+pub returns-in-Ok-clause-shown : goal.returns-in-Ok-clause-shown
+returns-in-Ok-clause-shown g c clean =
+    let all = asks g.S.Store act_values select_acts AreActs c.prepare.new.self c.read_rows.new.conn _ (rw c.in-Ok.is at (c.read_rows.ensures.shown clean)) (λ last now rows has h one acts are rise. one acts (shows_acts last now rows has h acts are rise)) in
+    search rules

@@ -3,13 +3,9 @@ use Rattle.sqlite.specs.State.{HasCleanDisk, IsUnchanged}
 use Rattle.sqlite.specs.Held.{state}
 use Rattle.sqlite.specs.Given.{HasBegun}
 use Rattle.sqlite.proofs.StateLemmas.{survives_then}
-use Rattle.book_texts.specs.Rows.{record_values, stored_record}
-use Rattle.book_texts.specs.Texts.{select_records}
-use Rattle.book_texts.specs.Trees.{record_rows, record_cmp}
-use Rattle.book_texts.proofs.Selects.{shows_records}
-use Rattle.book_asking.proofs.Texts.{OnlyReads, records_only_read}
+use Rattle.book_asking.specs.Asking.{OnlyReads}
 use Rattle.book_asking.proofs.Asked.{fails, ended_undoes, commits_nothing, HasReadAs, begins, reads_more, reads_all}
-use Rattle.book_asking.proofs.asking.read_records.Goals as goal
+use Rattle.book_asking.proofs.asking.read_rows.Goals as goal
 
 pub returns-in_err-rows-clause-undone : goal.returns-in_err-rows-clause-undone
 returns-in_err-rows-clause-undone g c clean =
@@ -23,7 +19,7 @@ returns-in_err-rows-clause-survives g c =
     let old = state g.S.Store c.args.conn.now in
     let new = state g.S.Store c.query.follows.lender-at-none in
     let refused = rw c.in_err-rows.was at c.query.follows.holds-at-none in
-    commits_nothing c.args.sql.now [] old new (subst OnlyReads (sym c.requires.text) records_only_read) refused.survives
+    commits_nothing c.args.sql.now [] old new (subst OnlyReads (sym c.requires.text) c.requires.reads) refused.survives
 
 pub rows-init : goal.rows-init
 rows-init g c =
@@ -31,9 +27,9 @@ rows-init g c =
     let now = c.in_ok-rows.rows.conn.now in (
       refl,
       made.mode c.requires.alone,
-      commits_nothing c.args.sql.now [] (state g.S.Store c.args.conn.now) (state g.S.Store now) (subst OnlyReads (sym c.requires.text) records_only_read) made.survives,
-      λ clean. subst (HasReadAs g.S.Store record_values select_records c.args.conn.now now) (sym c.new-records.ensures.items)
-          (begins g.S.Store record_values select_records c.args.conn.now now records_only_read (subst (λ s. HasBegun g.S.Store s [] c.args.conn.now now) c.requires.text (made.begun clean))),
+      commits_nothing c.args.sql.now [] (state g.S.Store c.args.conn.now) (state g.S.Store now) (subst OnlyReads (sym c.requires.text) c.requires.reads) made.survives,
+      λ clean. subst (HasReadAs g.S.Store g.T.ShownRow.values g.T.ShownRow.text c.args.conn.now now) (sym c.new-read.ensures)
+          (begins g.S.Store g.T.ShownRow.values g.T.ShownRow.text c.args.conn.now now c.requires.reads (subst (λ s. HasBegun g.S.Store s [] c.args.conn.now now) c.requires.text (made.begun clean))),
     )
 
 pub returns-in_default-clause-shown : goal.returns-in_default-clause-shown
@@ -44,7 +40,7 @@ returns-in_default-clause-shown g c clean =
     let was = c.rows.invariant.3 (omega (arith, moved.survives.clean, late)) in
     let same : IsUnchanged (state g.S.Store c.rows.rows.conn.now) (state g.S.Store now) = rw c.in_ok-row.was at (moved.same late) in
     let on = rw (c.in_ok-row.was, c.in_default.is) at (moved.ok late) in
-    let all = reads_all g.S.Store record_values select_records stored_record record_rows record_cmp (λ mid new rows has h. shows_records mid new rows has h) c.args.conn.now c.rows.rows.conn.now now c.rows.records.items was on same in
+    let all = reads_all g.S.Store g.T.ShownRow.values g.T.ShownRow.text c.args.conn.now c.rows.rows.conn.now now c.rows.read was on same in
     search rules
 
 pub rows-preserved : goal.rows-preserved
@@ -59,7 +55,7 @@ rows-preserved g c =
           let before = c.rows.invariant.3 (omega (arith, moved.survives.clean, clean)) in
           let same : IsUnchanged (state g.S.Store was) (state g.S.Store now) = rw c.in_ok-row.was at (moved.same clean) in
           let on = rw (c.in_ok-row.was, c.in-Some.is) at (moved.ok clean) in
-          let one = c.in_ok-record_of_row in
-          subst (HasReadAs g.S.Store record_values select_records c.args.conn.now now) (sym c.in_ok-push.ensures.items)
-          (reads_more g.S.Store record_values select_records c.args.conn.now was now c.rows.records.items c.in-Some.row.now one.field-0 before on same one.ensures),
+          let one = c.in_ok-of_row in
+          subst (HasReadAs g.S.Store g.T.ShownRow.values g.T.ShownRow.text c.args.conn.now now) (sym c.in_ok-hold.ensures)
+          (reads_more g.S.Store g.T.ShownRow.values g.T.ShownRow.text c.args.conn.now was now c.rows.read c.in-Some.row.now one.field-0 before on same one.ensures),
     )
