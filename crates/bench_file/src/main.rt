@@ -3,7 +3,8 @@
 #![tactic(auto)]
 
 use sqlite::types::ValueRef;
-use sqlite::{Alter, Connection, Error, Row, Transaction};
+use sqlite::{Alter, Connection, Error, Options, Row, Transaction, Unknown};
+use sqlite_disk::{Disk, Files};
 use std::alloc::Global;
 use std::env;
 use std::process::ExitCode;
@@ -54,26 +55,39 @@ fn run(rt: &HostRuntime) -> Option<()> {
 
 /// Copies the rows of one file into a new one, and gives how many acts there were.
 fn copy(rt: &HostRuntime, from: &str, to: &str) -> Option<usize> {
-    let rows = rows_in(rt, from)?;
-    keep(rt, to, &rows).then_some(rows.acts.len())
+    let from = sqlite_std_file::open(rt, from, Unknown).ok()?;
+    let rows = rows_in(rt.alloc(), from)?;
+    let to = sqlite_std_file::open(rt, to, Unknown).ok()?;
+    keep(rt.alloc(), to, &rows).then_some(rows.acts.len())
 }
 
-/// Whether a new file holds the rows then.
-fn keep(rt: &HostRuntime, path: &str, rows: &Rows) -> bool {
-    let Ok(mut to) = Connection::open(rt, path) else {
+/// Whether a new file holds the rows then. This and the next speak of any disk, since a check of a file's own has all its parts
+/// before it.
+fn keep<D: Disk + Drop>(alloc: Global, files: Files<D>, rows: &Rows) -> bool {
+    if !files.may_be_used() {
         return false;
-    };
-    let is_filled = fill(rt.alloc(), &mut to, rows).is_ok();
-    to.close().is_ok() && is_filled
+    }
+    match Connection::open_files(alloc, files, Options::new(1)) {
+        Ok(mut to) => {
+            let is_filled = fill(alloc, &mut to, rows).is_ok();
+            to.close().is_ok() && is_filled
+        }
+        Err(_) => false,
+    }
 }
 
-fn rows_in(rt: &HostRuntime, path: &str) -> Option<Rows> {
-    let Ok(mut from) = Connection::open(rt, path) else {
+fn rows_in<D: Disk + Drop>(alloc: Global, files: Files<D>) -> Option<Rows> {
+    if !files.may_be_used() {
         return None;
-    };
-    let rows = rows_of(&mut from).ok();
-    // (a connection that goes out of use here would bring all that its store frees into this function's proof)
-    from.close().is_ok().then_some(rows)?
+    }
+    match Connection::open_files(alloc, files, Options::new(1)) {
+        Ok(mut from) => {
+            let rows = rows_of(&mut from).ok();
+            // (a connection that goes out of use here would bring all that its store frees into this function's proof)
+            from.close().is_ok().then_some(rows)?
+        }
+        Err(_) => None,
+    }
 }
 
 fn fill<S: Alter>(alloc: Global, conn: &mut Connection<S>, rows: &Rows) -> Result<(), Error> {

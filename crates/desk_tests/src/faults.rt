@@ -7,7 +7,7 @@ use book_rows::Tables;
 use desk_history::NewHistory;
 use keeper_core::PlannedKeeper;
 use office_core::office_answers::Reply;
-use shared_desk::Naming;
+use shared_desk::{Finished, Naming};
 use std::alloc::Global;
 use std::marker::Brand;
 use std::process::Abort;
@@ -47,10 +47,17 @@ fn failing<B: Naming, R: Abort + Wait>(
     shared.learn(&mut third, note);
     assert!(rt; third.seen() == 5);
     assert!(rt; newest(rt, alloc, shared, &mut third) == (2, 5));
-    let left = desk.finish(third);
-    assert!(rt; left.keeper.faults() == 1);
-    assert!(rt; left.tables.acts.len() == 5);
-    assert!(rt; left.keeper.tables().acts.len() == 5);
+    assert!(rt; counts(desk.finish(third)) == (1, 5, 5));
+}
+
+/// How many faults the keeper that a desk left has counted, and how many acts the tables have and the keeper keeps.
+fn counts(left: Finished<PlannedKeeper>) -> (u64, usize, usize) {
+    let Finished { tables, keeper } = left;
+    (
+        keeper.faults(),
+        tables.acts.len(),
+        keeper.tables().acts.len(),
+    )
 }
 
 #[test]

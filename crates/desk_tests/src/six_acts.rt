@@ -6,7 +6,6 @@ use crate::desks::{call_of, history, next_pass};
 use book_rows::Tables;
 use days_core::Day;
 use desk_history::NewHistory;
-use fused_disks::Disks;
 use keeper_core::{Keeper, MemoryKeeper};
 use keeper_sqlite::SqliteKeeper;
 use office_core::Capacity;
@@ -15,6 +14,7 @@ use office_io::FixedClock;
 use sample_office::{CLOSE_JANUARY, PLAN, RENTS, START, UNIT, office_day};
 use shared_desk::{Desk, DeskFault, Finished, Naming, Pass, SharedDesk, Unopened};
 use sqlite::{Alter, Connection, Options};
+use sqlite_disk::{Disk, Files};
 use std::alloc::Global;
 use std::marker::Brand;
 use std::process::Abort;
@@ -116,8 +116,8 @@ fn worked<K: Keeper + Drop, B: Naming, R: Abort + Wait>(
     }
 }
 
-/// The same on a connection, and its store afterwards. It speaks of any store, since a check of a file's own has all its parts
-/// before it.
+/// The same on a connection, and its store afterwards. Both this and the next speak of any store or disk, since a check of a
+/// file's own has all its parts before it.
 fn worked_on<S: Alter + Drop, R: Abort + Wait>(
     rt: &R,
     alloc: Global,
@@ -137,13 +137,13 @@ fn worked_on<S: Alter + Drop, R: Abort + Wait>(
 
 /// The same over disks, whose file isn't always opened either, and the disks afterwards. The log is copied into the file
 /// each time that it has four pages, so that both are written while the acts are done.
-pub fn worked_over<R: Abort + Wait>(
+pub fn worked_over<D: Disk + Drop, R: Abort + Wait>(
     rt: &R,
     alloc: Global,
-    disks: Disks,
+    disks: Files<D>,
     today: Day,
     acts: u32,
-) -> (Option<Told>, Disks)
+) -> (Option<Told>, Files<D>)
     requires { acts ≤ 6 }
 {
     if !disks.may_be_used() {

@@ -3,10 +3,11 @@ ghost use Rattle.book_rows.specs.Book.{Book};
 ghost use Rattle.desk_history.specs.declared.views.View.TheVariants.{Blank};
 
 use crate::desks::{act_of, book, call_of, desk, history, next_pass, told};
+use book_rows::Tables;
 use desk_history::NewHistory;
 use keeper_core::MemoryKeeper;
 use sample_office::{APPLY, PLAN};
-use shared_desk::{Naming, Pass, SharedDesk};
+use shared_desk::{Finished, Naming, Pass, SharedDesk};
 use std::alloc::Global;
 use std::marker::Brand;
 use std::process::Abort;
@@ -74,16 +75,26 @@ fn by_three_threads<B: Naming + Send, R: Abort + Wait + Threads + Sync>(
     let note = shared.note(&mut third);
     shared.learn(&mut first, note);
     assert!(rt; first.seen() == 10);
-    let tables = desk.finish(first).tables;
-    assert!(rt; tables.acts.len() == 10);
-    for number in 1..=3 {
-        let own = tables
-            .acts
-            .iter()
-            .filter(|act| act.session == number)
-            .count();
-        assert!(rt; own == if number == 1 { 4 } else { 3 });
-    }
+    assert!(rt; by_sessions(desk.finish(first)) == (10, 4, 3, 3));
+}
+
+fn of_session(tables: &Tables, session: u32) -> usize {
+    tables
+        .acts
+        .iter()
+        .filter(|act| act.session == session)
+        .count()
+}
+
+/// How many acts a desk left, and how many of these are of the first, the second and the third session.
+fn by_sessions(left: Finished<MemoryKeeper>) -> (usize, usize, usize, usize) {
+    let tables = left.tables;
+    (
+        tables.acts.len(),
+        of_session(&tables, 1),
+        of_session(&tables, 2),
+        of_session(&tables, 3),
+    )
 }
 
 #[test]

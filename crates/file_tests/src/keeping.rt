@@ -1,6 +1,5 @@
-use crate::statements::{batch, file};
+use crate::statements::{assert_both, file, let_go, writes};
 use book_rows::{Table, Tables};
-use book_statements::write_batch;
 use keeper_core::{Keeper, Loaded};
 use keeper_sqlite::SqliteKeeper;
 use sqlite::{Connection, MemStore};
@@ -10,8 +9,8 @@ use std::process::Abort;
 /// A file with two acts, of which the first made a record and two lines.
 fn written(rt: &impl Abort, alloc: Global) -> Connection<MemStore> {
     let mut conn = file(rt, alloc);
-    assert!(rt; write_batch(&mut conn, &batch(rt, alloc, 1)).is_ok());
-    assert!(rt; write_batch(&mut conn, &batch(rt, alloc, 2)).is_ok());
+    assert!(rt; writes(rt, alloc, &mut conn, 1));
+    assert!(rt; writes(rt, alloc, &mut conn, 2));
     conn
 }
 
@@ -26,10 +25,13 @@ fn tables(rt: &impl Abort, alloc: Global, keeper: &mut SqliteKeeper<MemStore>) -
 fn bad_row(rt: &impl Abort, alloc: Global, change: &str) -> (Table, u32) {
     let mut conn = written(rt, alloc);
     assert!(rt; conn.execute(change, &[]).is_ok());
-    match SqliteKeeper::adopt(conn).load(alloc) {
+    let mut keeper = SqliteKeeper::adopt(conn);
+    let told = match keeper.load(alloc) {
         Loaded::BadRow { table, act } => (table, act),
         _ => panic!(rt; "no bad row"),
-    }
+    };
+    let_go(keeper.release());
+    told
 }
 
 /// A new file is an empty book, and stays one.
@@ -42,6 +44,7 @@ fn new_file_is_an_empty_book(rt: HostRuntime) {
     let mut again = SqliteKeeper::adopt(keeper.release());
     assert!(rt; tables(&rt, alloc, &mut again).acts.is_empty());
     assert!(rt; again.faults() == 0);
+    let_go(again.release());
 }
 
 /// What was written is loaded, each number as it was.
@@ -49,11 +52,8 @@ fn new_file_is_an_empty_book(rt: HostRuntime) {
 fn rows_are_loaded_as_they_were_written(rt: HostRuntime) {
     let alloc = rt.alloc();
     let mut keeper = SqliteKeeper::adopt(written(&rt, alloc));
-    let tables = tables(&rt, alloc, &mut keeper);
-    let first = batch(&rt, alloc, 1);
-    assert!(rt; tables.acts.len() == 2 && tables.acts[0] == first.act);
-    assert!(rt; tables.records.len() == 1 && Some(tables.records[0]) == first.made);
-    assert!(rt; tables.lines.as_slice() == first.lines.as_slice());
+    assert_both(&rt, alloc, &tables(&rt, alloc, &mut keeper));
+    let_go(keeper.release());
 }
 
 /// A number out of its column's range makes its row the bad one.
@@ -129,4 +129,5 @@ fn one_table_alone_fails(rt: HostRuntime) {
         _ => panic!(rt; "a file with one table was loaded"),
     }
     assert!(rt; keeper.faults() == 1);
+    let_go(keeper.release());
 }

@@ -138,22 +138,40 @@ const STORED: [(&str, i64); 10] = [
     ("SELECT amount FROM lines WHERE place = 2", -50),
 ];
 
+/// Whether the batch of that number is written.
+pub(crate) fn writes(
+    rt: &impl Abort,
+    alloc: Global,
+    conn: &mut Connection<MemStore>,
+    n: u32,
+) -> bool {
+    write_batch(conn, &batch(rt, alloc, n)).is_ok()
+}
+
+/// Lets the connection go. All that it frees is in this function's proof, and in no test's.
+pub(crate) fn let_go(_conn: Connection<MemStore>) {}
+
 /// The tables are made and two batches are written: the rows are stored in the file's forms, and given as they were.
 #[test]
 fn rows_are_given_as_they_were_written(rt: HostRuntime) {
     let alloc = rt.alloc();
     let mut conn = file(&rt, alloc);
-    let (one, two) = (batch(&rt, alloc, 1), batch(&rt, alloc, 2));
-    assert!(rt; write_batch(&mut conn, &one).is_ok());
-    assert!(rt; write_batch(&mut conn, &two).is_ok());
-    let tables = asked(&rt, alloc, &mut conn);
-    assert!(rt; tables.acts.len() == 2);
-    assert!(rt; tables.acts[0] == one.act && tables.acts[1] == two.act);
-    assert!(rt; tables.records.as_slice() == [certified(&rt)].as_slice());
-    assert!(rt; tables.lines.as_slice() == one.lines.as_slice());
+    assert!(rt; writes(&rt, alloc, &mut conn, 1));
+    assert!(rt; writes(&rt, alloc, &mut conn, 2));
+    assert_both(&rt, alloc, &asked(&rt, alloc, &mut conn));
     for (sql, number) in &STORED {
         assert!(rt; stored(&rt, &mut conn, *sql) == *number, "{sql}");
     }
+    let_go(conn);
+}
+
+/// The tables hold the rows of the first two batches.
+pub(crate) fn assert_both(rt: &impl Abort, alloc: Global, tables: &Tables) {
+    let (one, two) = (batch(rt, alloc, 1), batch(rt, alloc, 2));
+    assert!(rt; tables.acts.len() == 2);
+    assert!(rt; tables.acts[0] == one.act && tables.acts[1] == two.act);
+    assert!(rt; tables.records.as_slice() == [certified(rt)].as_slice());
+    assert!(rt; tables.lines.as_slice() == one.lines.as_slice());
 }
 
 /// An act that is there already is refused, and so is all of its batch.
@@ -161,10 +179,15 @@ fn rows_are_given_as_they_were_written(rt: HostRuntime) {
 fn act_of_the_same_number_is_refused_whole(rt: HostRuntime) {
     let alloc = rt.alloc();
     let mut conn = file(&rt, alloc);
-    assert!(rt; write_batch(&mut conn, &batch(&rt, alloc, 1)).is_ok());
-    assert!(rt; write_batch(&mut conn, &batch(&rt, alloc, 1)).is_err());
-    let tables = asked(&rt, alloc, &mut conn);
-    assert!(rt; tables.acts.len() == 1 && tables.records.len() == 1 && tables.lines.len() == 2);
+    assert!(rt; writes(&rt, alloc, &mut conn, 1));
+    assert!(rt; !writes(&rt, alloc, &mut conn, 1));
+    assert!(rt; counts(&asked(&rt, alloc, &mut conn)) == (1, 1, 2));
+    let_go(conn);
+}
+
+/// How many acts, records and lines the tables have.
+fn counts(tables: &Tables) -> (usize, usize, usize) {
+    (tables.acts.len(), tables.records.len(), tables.lines.len())
 }
 
 /// A file with one of the three tables alone has no rows to give, and can't get the others.
@@ -181,5 +204,6 @@ fn file_with_one_of_the_tables_is_refused(rt: HostRuntime) {
         _ => panic!(rt; "rows of a file without acts"),
     }
     assert!(rt; make_tables(&mut conn).is_err());
-    assert!(rt; write_batch(&mut conn, &batch(&rt, alloc, 1)).is_err());
+    assert!(rt; !writes(&rt, alloc, &mut conn, 1));
+    let_go(conn);
 }

@@ -1,4 +1,4 @@
-use crate::offices::office_after;
+use crate::offices::{let_go, office_after};
 use batch_command::office_core::Office;
 use days_core::{Day, Month, day_of_text, month_of_text};
 use forms_text::voucher_text;
@@ -99,6 +99,7 @@ fn the_application_of_june(rt: HostRuntime) -> Result<(), Fail> {
         \x20       1 2024-04 2024-04-01 2024-04-30      1      2        -48\n\
         \x20       1 2024-05 2024-05-01 2024-05-31      1      2        -48\n",
     );
+    let_go(office);
     Ok(())
 }
 
@@ -120,6 +121,7 @@ fn all_lines_as_csv(rt: HostRuntime) -> Result<(), Fail> {
         2024-06,1,2024-05,2024-05-01,2024-05-31,1,2,-48\n\
         2024-06,1,2024-06,2024-06-01,2024-06-30,0,2,500\n",
     );
+    let_go(office);
     Ok(())
 }
 
@@ -133,6 +135,7 @@ fn a_month_that_is_not_closed_and_a_day_that_is_due(rt: HostRuntime) -> Result<(
     expect(&rt, seen_late, "2025-01-01 household 1\n");
     let seen_early = due_text(alloc, &office, on(&rt, "2024-09-02"));
     expect(&rt, seen_early, "");
+    let_go(office);
     Ok(())
 }
 
@@ -150,6 +153,7 @@ fn the_admissions_of_two_years(rt: HostRuntime) -> Result<(), Fail> {
         targets_text(alloc, &office, on(&rt, "2025-01-01")),
         "fiscal year from 2025-01-01\nadmitted 0\nextremely low 0\nexpected 10\nopen yes\n",
     );
+    let_go(office);
     Ok(())
 }
 
@@ -171,5 +175,6 @@ fn an_office_without_a_plan(rt: HostRuntime) -> Result<(), Fail> {
     expect(&rt, june, "month 2024-06 is not closed\n");
     let header = "closing,household,for_month,first,last,old,new,amount\n";
     expect(&rt, lines_csv(alloc, &office.tables().lines), header);
+    let_go(office);
     Ok(())
 }

@@ -20,12 +20,12 @@ pub fn office_after(
     input: Vec<u8>,
     count: usize,
 ) -> Result<Office, Fail> {
+    let mut sink = MemorySink::new(alloc, 9_000, Vec::new(alloc), 700)?;
+    let mut source = MemorySource::new(input, Vec::new(alloc), 700);
     let mut keeper = MemoryKeeper::new(alloc);
     let Ok(mut office) = open_office(alloc, &mut keeper, LARGEST) else {
         panic!(rt; "an office");
     };
-    let mut source = MemorySource::new(input, Vec::new(alloc), 700);
-    let mut sink = MemorySink::new(alloc, 9_000, Vec::new(alloc), 700)?;
     let clock = FixedClock::new(day("2024-01-01"));
     let ending = answer_lines(
         alloc,
@@ -39,3 +39,6 @@ pub fn office_after(
     assert!(rt; office.tables().acts.len() == count);
     Ok(office)
 }
+
+/// Lets the office go. All that it frees is in this function's proof, and in no test's.
+pub fn let_go(_office: Office) {}

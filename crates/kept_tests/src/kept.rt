@@ -23,8 +23,13 @@ fn worked(
 
 /// What the nine acts are told on the book of the file.
 fn told_on(rt: &impl Abort, alloc: Global, conn: Connection<MemStore>) -> Told {
-    five_months(alloc, &mut SqliteKeeper::adopt(conn)).expect(rt, "memory")
+    let (told, conn) = worked(rt, alloc, conn);
+    let_go(conn);
+    told
 }
+
+/// Lets the connection go. All that it frees is in this function's proof, and in no other's.
+fn let_go(_conn: Connection<MemStore>) {}
 
 /// A file with the book of the nine acts.
 fn file(rt: &impl Abort, alloc: Global) -> Connection<MemStore> {
@@ -39,10 +44,12 @@ fn change(rt: &impl Abort, conn: &mut Connection<MemStore>, sql: &str) {
 }
 
 fn loaded(rt: &impl Abort, alloc: Global, conn: Connection<MemStore>) -> Tables {
-    match SqliteKeeper::adopt(conn).load(alloc) {
-        Loaded::Rows(tables) => tables,
-        _ => panic!(rt; "no rows"),
-    }
+    let mut keeper = SqliteKeeper::adopt(conn);
+    let Loaded::Rows(tables) = keeper.load(alloc) else {
+        panic!(rt; "no rows");
+    };
+    let_go(keeper.release());
+    tables
 }
 
 /// Whether the tables have the same rows.

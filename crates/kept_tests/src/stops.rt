@@ -1,8 +1,9 @@
-use fused_disks::{Disks, crash, new_disks};
+use fused_disks::{crash, new_disks};
 use keeper_core::{Keeper, Loaded};
 use keeper_sqlite::SqliteKeeper;
 use run_harness::{act, five_months};
 use sqlite::{Alter, Connection, Options};
+use sqlite_disk::{Disk, Files};
 use std::alloc::Global;
 use std::process::Abort;
 
@@ -10,90 +11,85 @@ const MOVE_OUT: &str = "{'kind':'move_out','household':1,'seen':1,'last':'2024-0
 
 const CLOSE_JUNE: &str = "{'kind':'close','month':'2024-06'}";
 
-/// How many acts were acknowledged, and whether all were.
+/// What is seen of a book: how many acts were acknowledged and whether all were, or how many acts and lines it holds.
 #[derive(Clone, Copy)]
-struct Acknowledged {
+struct Seen {
     acts: usize,
+    lines: usize,
     is_whole: bool,
 }
 
-const NONE: Acknowledged = Acknowledged {
+const NONE: Seen = Seen {
     acts: 0,
+    lines: 0,
     is_whole: false,
 };
 
 /// Has eleven acts done: nine, a move-out in April, and the closing of June, which adjusts April and May.
-fn eleven_acts<K: Keeper>(rt: &impl Abort, alloc: Global, keeper: &mut K) -> Acknowledged {
+fn eleven_acts<K: Keeper>(rt: &impl Abort, alloc: Global, keeper: &mut K) -> Seen {
     let first = five_months(alloc, keeper).expect(rt, "memory");
     if first.status != 0 {
-        return Acknowledged {
+        return Seen {
             acts: first.text.lines().count(),
-            is_whole: false,
+            ..NONE
         };
     }
     let later = act(alloc, keeper, "2024-07-01", 10, &[MOVE_OUT, CLOSE_JUNE]).expect(rt, "memory");
-    Acknowledged {
+    Seen {
         acts: later.text.lines().count().saturating_add(9),
         is_whole: later.status == 0,
-    }
-}
-
-/// The acts done on a connection, and its store afterwards. It speaks of any store, since a check of a file's own has all its
-/// parts before it.
-fn worked_on<S: Alter + Drop>(
-    rt: &impl Abort,
-    alloc: Global,
-    conn: Connection<S>,
-) -> (Acknowledged, S) {
-    let mut keeper = SqliteKeeper::adopt(conn);
-    let told = eleven_acts(rt, alloc, &mut keeper);
-    (told, keeper.release().into_store())
-}
-
-/// What the acts are told on the disks, if these are opened, and the disks afterwards.
-fn worked(rt: &impl Abort, alloc: Global, disks: Disks) -> (Acknowledged, Disks) {
-    if !disks.may_be_used() {
-        panic!(rt; "a disk whose sync failed");
-    }
-    match Connection::open_files(alloc, disks, Options::new(1)) {
-        Ok(conn) => {
-            let (told, store) = worked_on(rt, alloc, conn);
-            (told, store.close())
-        }
-        Err((_, left)) => (NONE, left.into_files()),
+        ..NONE
     }
 }
 
 /// How many acts and lines the keeper holds.
-fn rows_in<K: Keeper>(rt: &impl Abort, alloc: Global, keeper: &mut K) -> (usize, usize) {
+fn rows_in<K: Keeper>(rt: &impl Abort, alloc: Global, keeper: &mut K) -> Seen {
     match keeper.load(alloc) {
-        Loaded::Rows(tables) => (tables.acts.len(), tables.lines.len()),
+        Loaded::Rows(tables) => Seen {
+            acts: tables.acts.len(),
+            lines: tables.lines.len(),
+            ..NONE
+        },
         _ => panic!(rt; "no rows"),
     }
 }
 
-/// How many a connection's file holds, and its store afterwards.
-fn held_on<S: Alter + Drop>(
+/// What is seen on a connection where the eleven acts are done, or only looked for, and its store afterwards. Both this and
+/// the next speak of any store or disk, since a check of a file's own has all its parts before it.
+fn tried_on<S: Alter + Drop>(
     rt: &impl Abort,
     alloc: Global,
     conn: Connection<S>,
-) -> ((usize, usize), S) {
+    are_done: bool,
+) -> (Seen, S) {
     let mut keeper = SqliteKeeper::adopt(conn);
-    let rows = rows_in(rt, alloc, &mut keeper);
-    (rows, keeper.release().into_store())
+    let seen = if are_done {
+        eleven_acts(rt, alloc, &mut keeper)
+    } else {
+        rows_in(rt, alloc, &mut keeper)
+    };
+    (seen, keeper.release().into_store())
 }
 
-/// How many acts and lines the disks hold, and the disks afterwards.
-fn held(rt: &impl Abort, alloc: Global, disks: Disks) -> ((usize, usize), Disks) {
+/// The same on disks, and the disks afterwards. Where the acts are to be done, these may not be opened.
+fn tried<D: Disk + Drop>(
+    rt: &impl Abort,
+    alloc: Global,
+    disks: Files<D>,
+    are_done: bool,
+) -> (Seen, Files<D>) {
     if !disks.may_be_used() {
         panic!(rt; "a disk whose sync failed");
     }
     match Connection::open_files(alloc, disks, Options::new(1)) {
         Ok(conn) => {
-            let (rows, store) = held_on(rt, alloc, conn);
-            (rows, store.close())
+            let (seen, store) = tried_on(rt, alloc, conn, are_done);
+            (seen, store.close())
         }
-        Err(_) => panic!(rt; "a file that isn't opened"),
+        Err((_, left)) => {
+            assert!(rt; are_done, "a file that isn't opened");
+            (NONE, left.into_files())
+        }
     }
 }
 
@@ -107,16 +103,16 @@ fn lines_by(acts: usize) -> usize {
 
 /// Stops the acts after so many calls of each disk, and has them done again. Whether they weren't stopped.
 fn stops_at(rt: &impl Abort, alloc: Global, db: u64, log: u64) -> bool {
-    let (told, mut disks) = worked(rt, alloc, new_disks(alloc, db, log));
+    let (told, mut disks) = tried(rt, alloc, new_disks(alloc, db, log), true);
     crash(&mut disks);
-    let ((acts, lines), mut disks) = held(rt, alloc, disks);
+    let (Seen { acts, lines, .. }, mut disks) = tried(rt, alloc, disks, false);
     assert!(rt;
         (acts == told.acts || acts == told.acts.saturating_add(1)) && lines == lines_by(acts),
         "{acts} acts and {lines} lines for {}, stopped at {db} and {log}",
         told.acts
     );
     crash(&mut disks);
-    let (again, _) = worked(rt, alloc, disks);
+    let (again, _) = tried(rt, alloc, disks, true);
     assert!(rt;
         again.is_whole && again.acts == 11,
         "again, stopped at {db} and {log}"

@@ -1,6 +1,7 @@
 //! The file of a book.
 
-use sqlite::{Connection, Error, ErrorCode, File, FileStore, Options, Unknown};
+use sqlite::{Error, ErrorCode, File, Options, Unknown};
+use sqlite_disk::Files;
 use sqlite_std_file::OpenError;
 use std::hash::{BuildHasher, RandomState};
 use std::io::ErrorKind;
@@ -30,19 +31,13 @@ fn error_of(error: OpenError) -> Error {
     }
 }
 
-/// Opens the book in the file at the path, or makes an empty file there. SQLite's words for a base in memory and for a URI
-/// name no file.
-pub fn open_book(rt: &HostRuntime, path: &str) -> Result<Connection<FileStore<File>>, Error> {
+/// Opens the file of a book at the path, and its log, or makes empty ones there, and gives how SQLite is to use them. SQLite's
+/// words for a base in memory and for a URI name no file.
+pub fn open_book(rt: &HostRuntime, path: &str) -> Result<(Files<File>, Options), Error> {
     if path == ":memory:" || path.starts_with("file:") {
         return Err(CANNOT_OPEN);
     }
     let options = options(rt)?;
     let files = sqlite_std_file::open(rt, path, Unknown).map_err(error_of)?;
-    match Connection::open_files(rt.alloc(), files, options) {
-        Ok(mut connection) => {
-            connection.set_clock(rt);
-            Ok(connection)
-        }
-        Err((error, _)) => Err(error),
-    }
+    Ok((files, options))
 }

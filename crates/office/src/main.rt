@@ -10,8 +10,8 @@ use keeper_sqlite::SqliteKeeper;
 use office_io::{Clock, Sink, StreamSink, StreamSource, SystemClock};
 use office_links::TcpLinks;
 use office_server::run_serve;
-use sqlite::{Alter, Connection, Error, ErrorCode, FileStore};
-use sqlite_disk::Disk;
+use sqlite::{Alter, Connection, Error, ErrorCode, FileStore, Options};
+use sqlite_disk::{Disk, Files};
 use std::process::ExitCode;
 use std::rt::Env;
 use std::sync::Wait;
@@ -98,13 +98,42 @@ fn run_on_file<T: Threads + Wait + Sync>(
     words: &[String],
 ) -> u8 {
     match open_book(rt, path) {
-        Ok(connection) => closed(run_on(rt, threads, words, connection)),
-        Err(Error::SqliteFailure(ErrorCode::OutOfMemory)) => NO_MEMORY,
-        Err(_) => NOT_OPENED,
+        Ok((files, options)) => run_on_files(rt, threads, words, files, options),
+        Err(error) => status_of(error),
     }
 }
 
-/// The same, over the book of a connection. It speaks of any store, since a check of a file's own has all its parts before it.
+/// The same, over the book in a file and its log. This and the next speak of any disk or store, since a check of a file's own
+/// has all its parts before it.
+fn run_on_files<T: Threads + Wait + Sync, D: Disk + Drop + Send>(
+    rt: &HostRuntime,
+    threads: &T,
+    words: &[String],
+    files: Files<D>,
+    options: Options,
+) -> u8 {
+    // (files that were just opened may be used)
+    if !files.may_be_used() {
+        return NOT_OPENED;
+    }
+    match Connection::open_files(rt.alloc(), files, options) {
+        Ok(mut connection) => {
+            connection.set_clock(rt);
+            closed(run_on(rt, threads, words, connection))
+        }
+        Err((error, _)) => status_of(error),
+    }
+}
+
+/// The status where a book isn't opened for that reason.
+fn status_of(error: Error) -> u8 {
+    match error {
+        Error::SqliteFailure(ErrorCode::OutOfMemory) => NO_MEMORY,
+        _ => NOT_OPENED,
+    }
+}
+
+/// The same, over the book of a connection.
 fn run_on<T: Threads + Wait + Sync, S: Alter + Drop + Send>(
     rt: &HostRuntime,
     threads: &T,

@@ -7,7 +7,6 @@ use sample_office::{
 };
 use std::alloc::Global;
 use std::process::Abort;
-use std::test::Fail;
 use wait_list::{Candidate, Targets};
 
 /// A plan, a unit, rents, and a household that is certified on the first of 2024.
@@ -356,16 +355,21 @@ fn an_interim_comes_late_and_is_withdrawn(rt: HostRuntime) {
     tries(&rt, rt.alloc(), &CLOSED, "2024-05-20", &script);
 }
 
+/// Whether the office closes the month.
+fn closes(rt: &impl Abort, alloc: Global, office: &mut Known, month: &str) -> bool {
+    let text = format!(in alloc; "{{'kind':'close','month':'{month}'}}").expect(rt, "memory");
+    act(rt, alloc, office, "2024-01-01", &text).is_ok()
+}
+
 // The certification of January 2024 serves to March 2025.
 #[test]
-fn a_household_is_overdue(rt: HostRuntime) -> Result<(), Fail> {
+fn a_household_is_overdue(rt: HostRuntime) {
     let mut office = told(&rt, rt.alloc(), &CLOSED);
     for month in [
         "2024-06", "2024-07", "2024-08", "2024-09", "2024-10", "2024-11", "2024-12", "2025-01",
         "2025-02", "2025-03",
     ] {
-        let text = format!(in rt.alloc(); "{{'kind':'close','month':'{month}'}}")?;
-        assert!(rt; act(&rt, rt.alloc(), &mut office, "2024-01-01", &text).is_ok());
+        assert!(rt; closes(&rt, rt.alloc(), &mut office, month), "{month}");
     }
     let late = Refusal::Overdue {
         household: 1,
@@ -373,7 +377,6 @@ fn a_household_is_overdue(rt: HostRuntime) -> Result<(), Fail> {
     };
     let script = [("{'kind':'close','month':'2025-04'}", Err(late))];
     tell(&rt, rt.alloc(), &mut office, "2024-01-01", &script);
-    Ok(())
 }
 
 // An applicant with 9,600 is of extremely low income. The fiscal year ends with December.
