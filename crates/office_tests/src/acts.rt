@@ -39,6 +39,7 @@ fn tries(
 ) {
     let mut office = told(rt, alloc, before);
     tell(rt, alloc, &mut office, today, script);
+    office.let_go();
 }
 
 fn certification(
@@ -154,6 +155,7 @@ fn a_book_is_full(rt: HostRuntime) {
         id: 1,
     };
     assert_removal(&rt, rt.alloc(), &office.register, 5, nobody);
+    office.let_go();
 }
 
 /// Tries to remove an applicant where the book may hold so many acts.
@@ -377,6 +379,7 @@ fn a_household_is_overdue(rt: HostRuntime) {
     };
     let script = [("{'kind':'close','month':'2025-04'}", Err(late))];
     tell(&rt, rt.alloc(), &mut office, "2024-01-01", &script);
+    office.let_go();
 }
 
 // An applicant with 9,600 is of extremely low income. The fiscal year ends with December.
@@ -389,6 +392,7 @@ fn admissions_are_counted(rt: HostRuntime) {
     tell(&rt, rt.alloc(), &mut office, "2024-01-01", &script);
     assert_next(&rt, &office, "2024-02-01", None);
     assert_admitted(&rt, &office);
+    office.let_go();
 }
 
 fn assert_admitted(rt: &impl Abort, office: &Known) {

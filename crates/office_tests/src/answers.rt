@@ -105,6 +105,7 @@ fn nothing_is_known_before_the_first_act(rt: HostRuntime) {
     expect_no_plan(&rt, rt.alloc(), &none);
     expect_nobody(&rt, rt.alloc(), &none);
     expect_open(&rt, rt.alloc(), &none, "2024-01");
+    none.let_go();
 }
 
 fn expect_no_plan(rt: &impl Abort, alloc: Global, none: &Known) {
@@ -137,6 +138,7 @@ fn expect_nobody(rt: &impl Abort, alloc: Global, none: &Known) {
 fn a_household_is_paid(rt: HostRuntime) {
     let office = told(&rt, rt.alloc(), &[PLAN, UNIT, RENTS, START, CLOSE_JANUARY]);
     expect_january(&rt, rt.alloc(), &office);
+    office.let_go();
 }
 
 fn expect_january(rt: &impl Abort, alloc: Global, office: &Known) {
@@ -164,6 +166,7 @@ fn a_month_is_set_right(rt: HostRuntime) {
     let office = told(&rt, rt.alloc(), &texts);
     expect_voucher(&rt, rt.alloc(), &office, "2024-03", (1, 0, -359, -359));
     expect_paid(&rt, rt.alloc(), &office, "2024-02", 189);
+    office.let_go();
 }
 
 // The second record is the move-out, from the day after the last. The third withdraws it, so the first alone counts.
@@ -175,6 +178,7 @@ fn a_household_and_its_records(rt: HostRuntime) {
     expect_move_out(&rt, rt.alloc(), &office);
     expect_no_record(&rt, rt.alloc(), &office, 0);
     expect_no_record(&rt, rt.alloc(), &office, 4);
+    office.let_go();
 }
 
 fn expect_household(rt: &impl Abort, alloc: Global, office: &Known) {
@@ -242,6 +246,7 @@ fn who_is_due(rt: HostRuntime) {
         &[PLAN, UNIT, OTHER_UNIT, RENTS, JUNE, THERE],
     );
     expect_two_due(&rt, rt.alloc(), &office);
+    office.let_go();
 }
 
 // The first household is due on 1 June 2025, 120 days after 1 February, and the second was due on 1 January, 120 days
@@ -258,6 +263,7 @@ fn expect_two_due(rt: &impl Abort, alloc: Global, office: &Known) {
 fn who_moved_out_is_not_due(rt: HostRuntime) {
     let office = told(&rt, rt.alloc(), &[PLAN, UNIT, RENTS, START, MOVE_OUT]);
     expect_due(&rt, rt.alloc(), &office, "2025-01-01", &[]);
+    office.let_go();
 }
 
 const OCTOBER: &str =
@@ -282,6 +288,7 @@ fn admissions_of_a_fiscal_year(rt: HostRuntime) {
         &[OCTOBER, UNIT, RENTS, LIMITS, APPLY, ADMIT],
     );
     expect_years(&rt, rt.alloc(), &office);
+    office.let_go();
 }
 
 fn expect_years(rt: &impl Abort, alloc: Global, office: &Known) {
@@ -307,6 +314,7 @@ fn who_is_next(rt: HostRuntime) {
     expect_next(&rt, rt.alloc(), &office, "2024-01-01", first);
     let elsewhere = next_for(2, "2024-01-01");
     expect_refusal(&rt, rt.alloc(), &office, elsewhere, no_such(Named::Unit, 2));
+    office.let_go();
 }
 
 fn next_for(unit: u32, text: &str) -> Question {

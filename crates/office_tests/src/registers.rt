@@ -27,6 +27,7 @@ fn what_the_property_is(rt: HostRuntime) {
     assert_plan(&rt, &office.register);
     assert_units(&rt, office.register.table());
     assert_limits(&rt, office.register.table());
+    office.let_go();
 }
 
 fn assert_plan(rt: &impl Abort, register: &Register) {
@@ -69,6 +70,7 @@ fn who_applied_and_who_waits(rt: HostRuntime) {
     let office = told(&rt, rt.alloc(), &APPLIED);
     assert_two_wait(&rt, &office.register);
     assert_nobody_lives_there(&rt, &office.register);
+    office.let_go();
 }
 
 fn assert_two_wait(rt: &impl Abort, register: &Register) {

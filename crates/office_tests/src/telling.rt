@@ -92,6 +92,11 @@ pub struct Known {
     pub lines: Vec<Line>,
 }
 
+impl Known {
+    /// Lets all go. What that frees is in this function's proof, and in no test's.
+    pub fn let_go(self) {}
+}
+
 /// What the act made, once it was judged and noted in an office that may hold a hundred acts.
 pub fn act(
     rt: &impl Abort,

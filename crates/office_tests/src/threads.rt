@@ -1,3 +1,4 @@
+use crate::offices::let_go;
 use office_core::Office;
 use office_core::office_step::Capacity;
 use plain_data::NoMemory;
@@ -16,6 +17,7 @@ fn goes_to_a_thread(rt: HostRuntime) {
         Ok(child) => {
             let back = child.join(&rt);
             assert_eq!(rt; back.households(), 0);
+            let_go(back);
         }
         Err(_) => panic!(rt; "no thread"),
     }
