@@ -6,7 +6,7 @@ ghost use Rattle.desk_history.specs.declared.views.View.TheVariants.{Blank};
 
 use book_rows::{Command, Tables};
 use desk_history::{NewHistory, new_history};
-use keeper_core::{Keeper, MemoryKeeper};
+use keeper_core::PlannedKeeper;
 use office_core::command_text::{BodyFault, command_of_body};
 use office_core::office_answers::{Answer, Question, Reply};
 use office_core::{Call, Capacity, Done, Made};
@@ -20,7 +20,7 @@ use std::process::Abort;
 use std::sync::Wait;
 
 /// Income of household 1 that begins in January 2024, told of in time. Its payment rises to 260 from March on.
-pub const INTERIM: &str =
+const INTERIM: &str =
     "{'done':'2024-02-01','event':'2024-01-20','facts':{'assets':[],'care_school':0,'care_work':0,'disability':0,\
     'disposals':[],'exempt':false,'incomes':[{'annual':10800,'kind':'Benefits','member':0}],'medical':0,\
     'members':[{'born':'1953-06-01','cared':false,'disabled':false,'helped':false,'relation':'Head','student':false}],\
@@ -39,15 +39,15 @@ pub fn history(rt: &impl Abort, alloc: Global) -> NewHistory
 }
 
 /// A desk over the history, on the keeper's book.
-pub fn desk<K: Keeper + Drop, B: Naming, R: Abort>(
+pub fn desk<B: Naming, R: Abort>(
     rt: &R,
     alloc: Global,
     history: NewHistory,
-    keeper: K,
-) -> Desk<K, B>
+    keeper: PlannedKeeper,
+) -> Desk<PlannedKeeper, B>
     requires table { (history.table.shared.table_id ≡ B.table) × (history.book.table_id ≡ B.table) × (B.table.words ≡ 1) }
     requires blank { history.book.me ≡ (Blank, []) }
-    requires told { (book : Book) → K.holds keeper book → B.told book }
+    requires told { (book : Book) → B.told book }
     requires sound { B.sound → ⊥ }
 {
     let few = Capacity {
@@ -60,7 +60,10 @@ pub fn desk<K: Keeper + Drop, B: Naming, R: Abort>(
     }
 }
 
-pub fn next_pass<K: Keeper + Drop, B: Naming, R: Abort>(rt: &R, desk: &mut Desk<K, B>) -> Pass<B> {
+/// Lets the desk go. All that it frees is in this function's proof, and in no other's.
+pub fn let_go<B: Naming>(_desk: Desk<PlannedKeeper, B>) {}
+
+pub fn next_pass<B: Naming, R: Abort>(rt: &R, desk: &mut Desk<PlannedKeeper, B>) -> Pass<B> {
     match desk.pass() {
         Ok(pass) => pass,
         Err(PassFault::TooManyPasses { made }) => panic!(rt; "{made} passes"),
@@ -91,10 +94,10 @@ pub fn call_of(rt: &impl Abort, alloc: Global, clerk: u32, request: u32, text: &
 }
 
 /// What the pass is told of that call on a day.
-pub fn told<K: Keeper + Drop, B: Naming, R: Abort + Wait>(
+pub fn told<B: Naming, R: Abort + Wait>(
     rt: &R,
     alloc: Global,
-    desk: &SharedDesk<K, B>,
+    desk: &SharedDesk<PlannedKeeper, B>,
     pass: &mut Pass<B>,
     today: &str,
     call: Call,
@@ -105,11 +108,28 @@ pub fn told<K: Keeper + Drop, B: Naming, R: Abort + Wait>(
     desk.call(rt, alloc, pass, call, &clock)
 }
 
-/// The number of the newest record of household 1 as the pass is told, and the point; and 0 where there is none.
-pub fn newest<K: Keeper + Drop, B: Naming, R: Abort + Wait>(
+/// Has the pass call for the interim on a day, by that clerk, and looks what it is told, and at which point.
+pub fn raise<B: Naming, R: Abort + Wait>(
     rt: &R,
     alloc: Global,
-    desk: &SharedDesk<K, B>,
+    desk: &SharedDesk<PlannedKeeper, B>,
+    pass: &mut Pass<B>,
+    clerk: u32,
+    today: &str,
+    wanted: (u32, Reply),
+)
+    requires { (1 ≤ clerk) × (clerk ≤ 9999) }
+{
+    let call = call_of(rt, alloc, clerk, 50, INTERIM);
+    let outcome = told(rt, alloc, desk, pass, today, call);
+    assert!(rt; (outcome.point, outcome.reply) == wanted);
+}
+
+/// The number of the newest record of household 1 as the pass is told, and the point; and 0 where there is none.
+pub fn newest<B: Naming, R: Abort + Wait>(
+    rt: &R,
+    alloc: Global,
+    desk: &SharedDesk<PlannedKeeper, B>,
     pass: &mut Pass<B>,
 ) -> (u32, u32) {
     let AskOutcome { point, answer } = desk.ask(
@@ -149,10 +169,10 @@ pub fn certified(act: u32) -> Reply {
 }
 
 /// Books the act of that number, by clerk 1 on the second of January 2024.
-pub fn book<K: Keeper + Drop, B: Naming, R: Abort + Wait>(
+pub fn book<B: Naming, R: Abort + Wait>(
     rt: &R,
     alloc: Global,
-    desk: &SharedDesk<K, B>,
+    desk: &SharedDesk<PlannedKeeper, B>,
     pass: &mut Pass<B>,
     act: u32,
     text: &str,
@@ -171,7 +191,8 @@ pub fn begun<B: Naming, R: Abort + Wait>(rt: &R, alloc: Global, history: NewHist
     requires told { (book : Book) → B.told book }
     requires sound { B.sound → ⊥ }
 {
-    let mut desk = desk::<MemoryKeeper, B, R>(rt, alloc, history, MemoryKeeper::new(alloc));
+    let keeper = PlannedKeeper::new(alloc, Vec::new(alloc));
+    let mut desk = desk::<B, R>(rt, alloc, history, keeper);
     let mut first = next_pass(rt, &mut desk);
     let mut second = next_pass(rt, &mut desk);
     let shared = desk.shared();

@@ -2,7 +2,7 @@ ghost use Rattle.std.specs.Prelude.{◌≡◌, []};
 ghost use Rattle.book_rows.specs.Book.{Book};
 ghost use Rattle.desk_history.specs.declared.views.View.TheVariants.{Blank};
 
-use crate::desks::{INTERIM, begun, call_of, certified, desk, history, newest, next_pass, told};
+use crate::desks::{begun, certified, desk, history, newest, next_pass, raise};
 use book_rows::Tables;
 use desk_history::NewHistory;
 use keeper_core::PlannedKeeper;
@@ -28,20 +28,23 @@ fn failing<B: Naming, R: Abort + Wait>(
     requires sound { B.sound → ⊥ }
 {
     let keeper = PlannedKeeper::with(tables, first_commit);
-    let mut desk = desk::<PlannedKeeper, B, R>(rt, alloc, history, keeper);
+    let mut desk = desk::<B, R>(rt, alloc, history, keeper);
     let mut first = next_pass(rt, &mut desk);
     let mut second = next_pass(rt, &mut desk);
     let mut third = next_pass(rt, &mut desk);
     let shared = desk.shared();
-    let call = call_of(rt, alloc, 1, 50, INTERIM);
-    let outcome = told(rt, alloc, shared, &mut first, "2024-02-01", call);
-    assert!(rt; (outcome.point, outcome.reply) == (4, Reply::StoreFault));
-    let call = call_of(rt, alloc, 1, 50, INTERIM);
-    let outcome = told(rt, alloc, shared, &mut second, "2024-02-01", call);
-    assert!(rt; (outcome.point, outcome.reply) == (5, certified(5)));
-    let call = call_of(rt, alloc, 1, 50, INTERIM);
-    let outcome = told(rt, alloc, shared, &mut first, "2024-02-03", call);
-    assert!(rt; (outcome.point, outcome.reply) == (5, certified(5)));
+    let at = "2024-02-01";
+    raise(rt, alloc, shared, &mut first, 1, at, (4, Reply::StoreFault));
+    raise(rt, alloc, shared, &mut second, 1, at, (5, certified(5)));
+    raise(
+        rt,
+        alloc,
+        shared,
+        &mut first,
+        1,
+        "2024-02-03",
+        (5, certified(5)),
+    );
     let note = shared.note(&mut first);
     assert!(rt; third.seen() == 4);
     shared.learn(&mut third, note);

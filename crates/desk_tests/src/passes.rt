@@ -2,10 +2,10 @@ ghost use Rattle.std.specs.Prelude.{◌≡◌, []};
 ghost use Rattle.book_rows.specs.Book.{Book};
 ghost use Rattle.desk_history.specs.declared.views.View.TheVariants.{Blank};
 
-use crate::desks::{INTERIM, begun, call_of, certified, desk, history, newest, next_pass, told};
+use crate::desks::{begun, certified, desk, history, let_go, newest, next_pass, raise};
 use book_rows::Tables;
 use desk_history::NewHistory;
-use keeper_core::MemoryKeeper;
+use keeper_core::PlannedKeeper;
 use office_core::Refusal;
 use office_core::office_answers::Reply;
 use shared_desk::{Finished, MOST_PASSES, Naming, PassFault};
@@ -15,7 +15,7 @@ use std::process::Abort;
 use std::sync::Wait;
 
 /// The number and the session of the last act that a desk left.
-fn last_act(left: Finished<MemoryKeeper>) -> Option<(u32, u32)> {
+fn last_act(left: Finished<PlannedKeeper>) -> Option<(u32, u32)> {
     let act = left.tables.acts.last()?;
     Some((act.n, act.session))
 }
@@ -27,21 +27,18 @@ fn in_turn<B: Naming, R: Abort + Wait>(rt: &R, alloc: Global, history: NewHistor
     requires told { (book : Book) → B.told book }
     requires sound { B.sound → ⊥ }
 {
-    let mut desk = desk::<MemoryKeeper, B, R>(rt, alloc, history, MemoryKeeper::with(tables));
+    let keeper = PlannedKeeper::with(tables, Vec::new(alloc));
+    let mut desk = desk::<B, R>(rt, alloc, history, keeper);
     let mut first = next_pass(rt, &mut desk);
     let mut second = next_pass(rt, &mut desk);
     assert!(rt; (first.number(), second.number()) == (1, 2));
     assert!(rt; (first.seen(), second.seen()) == (4, 4));
     let shared = desk.shared();
     assert!(rt; newest(rt, alloc, shared, &mut first) == (1, 4));
-    let call = call_of(rt, alloc, 1, 50, INTERIM);
-    let outcome = told(rt, alloc, shared, &mut second, "2024-02-01", call);
-    assert!(rt; (outcome.point, outcome.reply) == (5, certified(5)));
-    let call = call_of(rt, alloc, 2, 50, INTERIM);
-    let outcome = told(rt, alloc, shared, &mut first, "2024-02-01", call);
-    assert!(rt;
-        (outcome.point, outcome.reply) == (5, Reply::Refused(Refusal::Stale { newest: 2 }))
-    );
+    let at = "2024-02-01";
+    raise(rt, alloc, shared, &mut second, 1, at, (5, certified(5)));
+    let stale = Reply::Refused(Refusal::Stale { newest: 2 });
+    raise(rt, alloc, shared, &mut first, 2, at, (5, stale));
     assert!(rt; newest(rt, alloc, shared, &mut second) == (2, 5));
     assert!(rt; last_act(desk.finish(first)) == Some((5, 2)));
 }
@@ -59,7 +56,8 @@ fn all_handed_out<B: Naming, R: Abort>(rt: &R, alloc: Global, history: NewHistor
     requires told { (book : Book) → B.told book }
     requires sound { B.sound → ⊥ }
 {
-    let mut desk = desk::<MemoryKeeper, B, R>(rt, alloc, history, MemoryKeeper::new(alloc));
+    let keeper = PlannedKeeper::new(alloc, Vec::new(alloc));
+    let mut desk = desk::<B, R>(rt, alloc, history, keeper);
     for given in 0..MOST_PASSES {
         assert!(rt; next_pass(rt, &mut desk).number() == given + 1);
     }
@@ -67,6 +65,7 @@ fn all_handed_out<B: Naming, R: Abort>(rt: &R, alloc: Global, history: NewHistor
         Ok(_) => panic!(rt; "one pass too many"),
         Err(fault) => assert!(rt; fault == PassFault::TooManyPasses { made: 32 }),
     }
+    let_go(desk);
 }
 
 #[test]

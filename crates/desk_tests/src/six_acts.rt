@@ -2,11 +2,11 @@ ghost use Rattle.std.specs.Prelude.{◌≡◌, ◌≤◌, []};
 ghost use Rattle.book_rows.specs.Book.{Book};
 ghost use Rattle.desk_history.specs.declared.views.View.TheVariants.{Blank};
 
-use crate::desks::{call_of, history, next_pass};
+use crate::desks::{call_of, history};
 use book_rows::Tables;
 use days_core::Day;
 use desk_history::NewHistory;
-use keeper_core::{Keeper, MemoryKeeper};
+use keeper_core::{Keeper, PlannedKeeper};
 use keeper_sqlite::SqliteKeeper;
 use office_core::Capacity;
 use office_core::office_answers::Reply;
@@ -104,7 +104,7 @@ fn worked<K: Keeper + Drop, B: Naming, R: Abort + Wait>(
     };
     match Desk::<K, B>::open(alloc, history, keeper, few) {
         Ok(mut desk) => {
-            let mut pass = next_pass(rt, &mut desk);
+            let mut pass = desk.pass().expect(rt, "a pass");
             let replies = replies_to(rt, alloc, desk.shared(), &mut pass, today, acts);
             let Finished { tables, keeper } = desk.finish(pass);
             (Some(Told { replies, tables }), keeper)
@@ -170,9 +170,9 @@ pub struct Wanted {
 fn wanted_after<R: Abort + Wait>(rt: &R, alloc: Global, acts: u32) -> Wanted
     requires { acts ≤ 6 }
 {
-    let keeper = MemoryKeeper::new(alloc);
+    let keeper = PlannedKeeper::new(alloc, Vec::new(alloc));
     let new = history(rt, alloc);
-    let (first, keeper) = worked::<MemoryKeeper, Brand, R>(
+    let (first, keeper) = worked::<PlannedKeeper, Brand, R>(
         rt,
         alloc,
         new,
@@ -181,7 +181,7 @@ fn wanted_after<R: Abort + Wait>(rt: &R, alloc: Global, acts: u32) -> Wanted
         acts,
     );
     let new = history(rt, alloc);
-    let (again, _) = worked::<MemoryKeeper, Brand, R>(rt, alloc, new, keeper, next_day(), 6);
+    let (again, _) = worked::<PlannedKeeper, Brand, R>(rt, alloc, new, keeper, next_day(), 6);
     Wanted {
         first: first.expect(rt, "a desk"),
         again: again.expect(rt, "a desk"),

@@ -5,7 +5,7 @@ ghost use Rattle.desk_history.specs.declared.views.View.TheVariants.{Blank};
 use crate::desks::{act_of, book, call_of, desk, history, next_pass, told};
 use book_rows::Tables;
 use desk_history::NewHistory;
-use keeper_core::MemoryKeeper;
+use keeper_core::PlannedKeeper;
 use sample_office::{APPLY, PLAN};
 use shared_desk::{Finished, Naming, Pass, SharedDesk};
 use std::alloc::Global;
@@ -18,7 +18,7 @@ use std::thread::{Threads, join};
 fn apply_all<B: Naming, R: Abort + Wait>(
     rt: &R,
     alloc: Global,
-    desk: &SharedDesk<MemoryKeeper, B>,
+    desk: &SharedDesk<PlannedKeeper, B>,
     mut pass: Pass<B>,
     clerk: u32,
 ) -> Pass<B>
@@ -38,7 +38,7 @@ fn apply_all<B: Naming, R: Abort + Wait>(
 fn both_apply<B: Naming + Send, R: Abort + Wait + Threads + Sync>(
     rt: &R,
     alloc: Global,
-    desk: &SharedDesk<MemoryKeeper, B>,
+    desk: &SharedDesk<PlannedKeeper, B>,
     second: Pass<B>,
     third: Pass<B>,
 ) -> (Pass<B>, Pass<B>) {
@@ -59,7 +59,8 @@ fn by_three_threads<B: Naming + Send, R: Abort + Wait + Threads + Sync>(
     requires told { (book : Book) → B.told book }
     requires sound { B.sound → ⊥ }
 {
-    let mut desk = desk::<MemoryKeeper, B, R>(rt, alloc, history, MemoryKeeper::new(alloc));
+    let keeper = PlannedKeeper::new(alloc, Vec::new(alloc));
+    let mut desk = desk::<B, R>(rt, alloc, history, keeper);
     let mut first = next_pass(rt, &mut desk);
     let second = next_pass(rt, &mut desk);
     let third = next_pass(rt, &mut desk);
@@ -87,7 +88,7 @@ fn of_session(tables: &Tables, session: u32) -> usize {
 }
 
 /// How many acts a desk left, and how many of these are of the first, the second and the third session.
-fn by_sessions(left: Finished<MemoryKeeper>) -> (usize, usize, usize, usize) {
+fn by_sessions(left: Finished<PlannedKeeper>) -> (usize, usize, usize, usize) {
     let tables = left.tables;
     (
         tables.acts.len(),
