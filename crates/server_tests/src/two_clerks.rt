@@ -35,6 +35,31 @@ fn writes<R: Abort + Wait, B: Naming>(
 }
 
 // The second clerk's act is stale once the first clerk's is made, and a repeat has the first reply.
+fn work_in_turn<R: Abort + Wait, B: Naming>(
+    rt: &R,
+    alloc: Global,
+    desk: &SharedDesk<MemoryKeeper, B>,
+    first: &mut Pass<B>,
+    second: &mut Pass<B>,
+) {
+    let act = raise(rt, alloc);
+    let made = format!(in alloc;
+        "book: 5\r\ncontent-length: 125\r\ncontent-type: application/json\r\n\r\n{RAISED}"
+    ).expect(rt, "memory");
+    assert!(rt; writes(rt, alloc, desk, first, &act, &made));
+    let other = act
+        .replace(alloc, "\"clerk\":1", "\"clerk\":2")
+        .expect(rt, "memory");
+    let stale = "book: 5\r\ncontent-length: 50\r\ncontent-type: application/json\r\n\r\n\
+        {'refused':{'kind':'Stale','newest':2,'number':6}}";
+    assert!(rt; writes(rt, alloc, desk, second, &other, stale));
+    let ask = "GET /households/1 HTTP/1.1\r\n\r\n";
+    let seen = "{'household':1,'live':[1,2],'name':'Ada Reed','newest':2}";
+    assert!(rt; writes(rt, alloc, desk, second, ask, seen));
+    assert!(rt; writes(rt, alloc, desk, second, &act, &made));
+    assert!(rt; (first.seen(), second.seen()) == (5, 5));
+}
+
 fn in_turn<R: Abort + Wait, B: Naming>(
     rt: &R,
     alloc: Global,
@@ -58,22 +83,7 @@ fn in_turn<R: Abort + Wait, B: Naming>(
         (Ok(first), Ok(second)) => (first, second),
         _ => panic!(rt; "no pass"),
     };
-    let act = raise(rt, alloc);
-    let made = format!(in alloc;
-        "book: 5\r\ncontent-length: 125\r\ncontent-type: application/json\r\n\r\n{RAISED}"
-    ).expect(rt, "memory");
-    assert!(rt; writes(rt, alloc, desk.shared(), &mut first, &act, &made));
-    let other = act
-        .replace(alloc, "\"clerk\":1", "\"clerk\":2")
-        .expect(rt, "memory");
-    let stale = "book: 5\r\ncontent-length: 50\r\ncontent-type: application/json\r\n\r\n\
-        {'refused':{'kind':'Stale','newest':2,'number':6}}";
-    assert!(rt; writes(rt, alloc, desk.shared(), &mut second, &other, stale));
-    let ask = "GET /households/1 HTTP/1.1\r\n\r\n";
-    let seen = "{'household':1,'live':[1,2],'name':'Ada Reed','newest':2}";
-    assert!(rt; writes(rt, alloc, desk.shared(), &mut second, ask, seen));
-    assert!(rt; writes(rt, alloc, desk.shared(), &mut second, &act, &made));
-    assert!(rt; (first.seen(), second.seen()) == (5, 5));
+    work_in_turn(rt, alloc, desk.shared(), &mut first, &mut second);
     assert!(rt; desk.finish(second).keeper.tables().acts.len() == 5);
 }
 
