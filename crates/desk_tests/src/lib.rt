@@ -8,8 +8,4 @@ mod faults;
 #[cfg(test)]
 mod passes;
 #[cfg(test)]
-mod six_acts;
-#[cfg(test)]
-mod stops;
-#[cfg(test)]
 mod threads;

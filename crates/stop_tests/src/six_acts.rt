@@ -1,17 +1,18 @@
-ghost use Rattle.std.specs.Prelude.{◌≡◌, ◌≤◌, []};
+ghost use Rattle.std.specs.Prelude.{◌≡◌, ◌≤◌, true, []};
 ghost use Rattle.book_rows.specs.Book.{Book};
+ghost use Rattle.office_core.specs.Below.office_step.Step.{is_fit_call};
 ghost use Rattle.desk_history.specs.declared.views.View.TheVariants.{Blank};
 
-use crate::desks::{call_of, history};
 use book_rows::Tables;
 use days_core::Day;
-use desk_history::NewHistory;
+use desk_history::{NewHistory, new_history};
+use json_front::call_of_bytes;
 use keeper_core::{Keeper, PlannedKeeper};
 use keeper_sqlite::SqliteKeeper;
-use office_core::Capacity;
 use office_core::office_answers::Reply;
+use office_core::{Call, Capacity};
 use office_io::FixedClock;
-use sample_office::{CLOSE_JANUARY, PLAN, RENTS, START, UNIT, office_day};
+use sample_office::{CLOSE_JANUARY, PLAN, RENTS, START, UNIT, office_day, written};
 use shared_desk::{Desk, DeskFault, Finished, Naming, Pass, SharedDesk, Unopened};
 use sqlite::{Alter, Connection, Options};
 use sqlite_disk::{Disk, Files};
@@ -59,6 +60,18 @@ impl Told {
     }
 }
 
+/// Clerk 1's call for an act, by a request.
+fn call_of(rt: &impl Abort, alloc: Global, request: u32, act: &str) -> Call
+    ensures { is_fit_call result ≡ true }
+{
+    let text = format!(in alloc; "{{'act':{act},'clerk':1,'request':{request}}}");
+    let body = written(alloc, &text.expect(rt, "memory")).expect(rt, "memory");
+    match call_of_bytes(alloc, body.as_bytes()) {
+        Ok(call) => call,
+        Err(fault) => panic!(rt; "{fault:?}: {body}"),
+    }
+}
+
 /// Has a pass call for the first of the six acts on a day.
 fn replies_to<K: Keeper + Drop, B: Naming, R: Abort + Wait>(
     rt: &R,
@@ -73,7 +86,7 @@ fn replies_to<K: Keeper + Drop, B: Naming, R: Abort + Wait>(
     let clock = FixedClock::new(today);
     let mut replies = Vec::new(alloc);
     for before in 0..acts {
-        let call = call_of(rt, alloc, 1, before + 1, ACTS[before as usize]);
+        let call = call_of(rt, alloc, before + 1, ACTS[before as usize]);
         let outcome = desk.call(rt, alloc, pass, call, &clock);
         replies
             .push((outcome.point, outcome.reply))
@@ -127,7 +140,7 @@ fn worked_on<S: Alter + Drop, R: Abort + Wait>(
 ) -> (Option<Told>, S)
     requires { acts ≤ 6 }
 {
-    let history = history(rt, alloc);
+    let history = new_history(alloc).expect(rt, "memory");
     let keeper = SqliteKeeper::adopt(conn);
     let (told, keeper) = worked::<SqliteKeeper<S>, Brand, R>(
         rt, alloc, history, keeper, today, acts,
@@ -171,7 +184,7 @@ fn wanted_after<R: Abort + Wait>(rt: &R, alloc: Global, acts: u32) -> Wanted
     requires { acts ≤ 6 }
 {
     let keeper = PlannedKeeper::new(alloc, Vec::new(alloc));
-    let new = history(rt, alloc);
+    let new = new_history(alloc).expect(rt, "memory");
     let (first, keeper) = worked::<PlannedKeeper, Brand, R>(
         rt,
         alloc,
@@ -180,7 +193,7 @@ fn wanted_after<R: Abort + Wait>(rt: &R, alloc: Global, acts: u32) -> Wanted
         first_day(),
         acts,
     );
-    let new = history(rt, alloc);
+    let new = new_history(alloc).expect(rt, "memory");
     let (again, _) = worked::<PlannedKeeper, Brand, R>(rt, alloc, new, keeper, next_day(), 6);
     Wanted {
         first: first.expect(rt, "a desk"),

@@ -1,4 +1,3 @@
-use crate::desks::act_of;
 use crate::six_acts::{Told, Wanted, all_wanted, first_day, next_day, worked_over};
 use fused_disks::{are_frozen, crash, new_disks};
 use office_core::office_answers::Reply;
@@ -71,7 +70,7 @@ fn are_repeated(wanted: &Wanted) -> bool {
     let mut number = 0u32;
     for (_, reply) in &wanted.again.replies {
         number = number.saturating_add(1);
-        if act_of(*reply) != number {
+        if !matches!(reply, Reply::Accepted(done) if done.act == number) {
             return false;
         }
     }
