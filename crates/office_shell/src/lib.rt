@@ -1,6 +1,7 @@
 //! The office program over the system's streams, clock and ports, and a book in a file or in memory.
 //!
-//! Nothing here has a contract: what the system's streams, files and ports do, no clause can tell. What is called here has.
+//! Nothing here has a contract: streams, ports and a keeper are made here and used up, so that a clause could name the status
+//! alone. What is called here has.
 #![tactic(auto)]
 
 mod book;
