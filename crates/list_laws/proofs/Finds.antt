@@ -1,5 +1,6 @@
 -- The first element that passes a test.
-use Rattle.std.proofs.Common.{◌≡◌, ◌∙◌, sym, ap, subst, ℕ, suc, ◌<◌, ◌≤◌, ◌&&◌, Bool, true, false, List, [], ◌∷◌, Some, None, length, get_or, refl, arith, find, slice_get, All, AllPairs, if◌then◌else◌, option_and_then}
+use Rattle.std.specs.Prelude.{IfSome}
+use Rattle.std.proofs.Common.{◌≡◌, ◌∙◌, sym, ap, subst, ℕ, suc, ◌<◌, ◌≤◌, ◌&&◌, Bool, true, false, List, [], ◌∷◌, Option, Some, None, length, get_or, refl, arith, find, slice_get, All, AllPairs, if◌then◌else◌, option_and_then}
 use Rattle.std.proofs.lemmas.{Bool.and_left, Bool.false_from_ne_true, Bool.false≢true, List.Folds.find_at, List.Sums.position_or_len_is, Option.slice_get-get_or, Grind.common_steps}
 use Rattle.std.proofs.lemmas.List.Elements.{All-nil, All-cons, All-head, All-tail}
 
@@ -28,6 +29,11 @@ find_holds {X} p P (y ∷ ys) x is all = by_test (p y) refl is (find_holds p P y
         let same : y ≡ x = cc in
         subst (λ (z : X). P z × (p z ≡ true)) same (All-head P y ys all, passed)
     by_test false failed is rest = rest is (All-tail P y ys all)
+
+-- the same where it is looked at only if there is one
+pub found_holds : {X : Type 0} (p : X → Bool) (P : X → Type 0) (xs : List X) (found : Option X) → found ≡ find p xs → All P xs → IfSome found P
+found_holds p P xs None is all = tt
+found_holds p P xs (Some x) is all = (find_holds p P xs x (sym is) all).0
 
 pub find_passes : {X : Type 0} (p : X → Bool) (xs : List X) (x : X) → find p xs ≡ Some x → p x ≡ true
 find_passes p xs x is = (find_holds p (λ y. Unit {0}) xs x is (λ k d within. tt)).1

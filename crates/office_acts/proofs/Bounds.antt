@@ -30,15 +30,6 @@ pub rents-within : (units : List UnitRow) (rows : List RentRow) (number day : �
     IfSome (unit_rents_on units rows number day) AreWithin
 rents-within units rows number day fit = of_unit rows day fit (unit_at units number)
 
--- what holds of all items holds of the one that is found
-pub find-all : {Item : Type 0} (P : Item → Type 0) (passes : Item → Bool) (items : List Item) → All P items → IfSome (find passes items) P
-find-all P passes [] all = tt
-find-all P passes (item ∷ items) all =
-    elim (passes item) as (λ b. IfSome (if b then Some item else find passes items) P) [
-      | true ↦ All-head P item items all
-      | false ↦ find-all P passes items (All-tail P item items all)
-    ]
-
 -- the records of each household have their dates in range
 pub dates-of : (households : List (List Record)) (household : ℕ) → All (All HasDates) households → All HasDates (records_of households household)
 dates-of households household dates = records_are (All HasDates) households household dates (All-nil HasDates)

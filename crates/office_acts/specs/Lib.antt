@@ -1,4 +1,2 @@
 pub mod Below
-pub mod Turns
 pub mod Judged
-pub mod Admissions

@@ -7,14 +7,13 @@ ghost use Rattle.office_step.specs.Refusals as refusals;
 ghost use Rattle.office_step.specs.Against.{move_in_of, of_move_in, out_of_turn, not_next, ineligible_by, ineligible, begins_assistance, no_assistance};
 ghost use Rattle.office_acts.specs.Judged.{IsMade, HasSize, HasSizeBy};
 
-use crate::lookups::unit_in;
 use crate::moving::move_in_of;
-use crate::next::next_for;
 use book_rows::{Command, HouseholdChange};
 use days_core::{Day, Month};
 use office_refusals as refusals;
 use office_register::Register;
 use office_step::{MoveIn, Refusal};
+use office_turns::{next_for, unit_in};
 use record_history::{Dates, Record};
 use rent_table::{LimitRow, Plan, Unit};
 use wait_list::Candidate;

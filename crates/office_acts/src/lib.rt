@@ -11,25 +11,20 @@ macro_rules! stands {
 }
 
 mod admission;
-mod admissions;
 mod closing;
 mod headings;
 mod judging;
-mod live;
 mod lookups;
 mod making;
-mod movers;
 mod moving;
 mod names;
-mod next;
 mod places;
 mod records;
 mod terms;
 
-pub use admissions::targets;
 pub use closing::lines_of;
 pub use judging::judge;
-pub use next::next_for;
 pub use office_refusals;
 pub use office_register;
 pub use office_step;
+pub use office_turns;

@@ -1,7 +1,6 @@
 //! What an act names, by what the register knows.
 
-ghost use Rattle.std.specs.Prelude.{◌≡◌, ◌≤◌, option_copied, IfSome};
-ghost use Rattle.rent_table.specs.Table.{unit_at};
+ghost use Rattle.std.specs.Prelude.{◌≡◌, option_copied, IfSome};
 ghost use Rattle.record_history.specs.Held.{IsWithin};
 ghost use Rattle.office_register.specs.Registered.{HasDates};
 ghost use Rattle.office_step.specs.Households.{record_at, unit_continued};
@@ -11,15 +10,6 @@ use days_core::Day;
 use office_refusals::continued;
 use office_register::Register;
 use record_history::{Dates, Record};
-use rent_table::{Plan, RentTable, Unit};
-
-/// The unit of that number.
-pub fn unit_in(register: &Register, number: u32) -> Option<&Unit>
-    ensures value { option_copied result ≡ unit_at register.now.known.units number }
-    ensures bedrooms { IfSome (option_copied result) (λ unit. unit.bedrooms ≤ 5) }
-{
-    register.table().unit(number)
-}
 
 /// The household's record of that number.
 pub fn target_in(register: &Register, household: u32, number: u32) -> Option<&Record>

@@ -8,7 +8,6 @@ ghost use Rattle.office_step.specs.Refusals as refusals;
 ghost use Rattle.office_step.specs.Against.{disorder, name_taken, size_misfit, may_collide, may_collide_in, unit_taken, move_in_of, of_move_in, too_many};
 ghost use Rattle.office_acts.specs.Judged.{IsMade};
 
-use crate::lookups::unit_in;
 use crate::moving::move_in_of;
 use book_rows::{Command, HouseholdChange};
 use days_core::{Day, Month};
@@ -16,6 +15,7 @@ use office_refusals as refusals;
 use office_refusals::change_by;
 use office_register::Register;
 use office_step::{MoveIn, Refusal};
+use office_turns::unit_in;
 use record_history::{Dates, Record};
 use rent_table::{Plan, Unit};
 use wait_list::Candidate;

@@ -1,5 +1,5 @@
 use days_core::{Day, Month};
-use office_acts::office_step::Refusal;
+use office_turns::office_step::Refusal;
 use plain_data::{Listed, NoMemory, Text};
 use record_history::{Dates, Record};
 use voucher_core::Line;

@@ -8,8 +8,8 @@ use crate::households::{household_answer, record_answer};
 use crate::next::next_answer;
 use crate::vouchers::{paid_answer, voucher_answer};
 use crate::{Answer, Asked, BookLines, Question};
-use office_acts::office_register::Register;
-use office_acts::office_step::Refusal;
+use office_turns::office_register::Register;
+use office_turns::office_step::Refusal;
 use std::alloc::Global;
 
 /// The answer to a question, by what an office knows and by the lines of all closings, at most 4,000,000.

@@ -8,8 +8,8 @@ ghost use Rattle.office_answers.specs.DueList.{is_assisted_on, horizon, due_of, 
 
 use crate::{Answer, Asked, DueDay};
 use days_core::Day;
-use office_acts::office_register::Register;
-use office_acts::office_step::Refusal;
+use office_turns::office_register::Register;
+use office_turns::office_step::Refusal;
 use plain_data::{Listed, NoMemory};
 use record_history::{Dates, History, Kind, Record};
 use rent_table::Plan;

@@ -6,9 +6,9 @@ ghost use Rattle.office_answers.specs.FiscalYear.{first_fiscal_month, first_fisc
 
 use crate::{Admissions, Answer};
 use days_core::{Day, Month, first_of, month_of};
-use office_acts::office_register::Register;
-use office_acts::office_step::Refusal;
-use office_acts::targets;
+use office_turns::office_register::Register;
+use office_turns::office_step::Refusal;
+use office_turns::targets;
 use rent_table::Plan;
 use wait_list::Targets;
 

@@ -1,12 +1,11 @@
-ghost use Rattle.std.specs.Prelude.{◌≡◌, ◌≤◌, option_copied, IfSome};
-ghost use Rattle.rent_table.specs.Table.{unit_at};
+ghost use Rattle.std.specs.Prelude.{◌≡◌};
 ghost use Rattle.office_answers.specs.Answering.{next_answer};
 
 use crate::Answer;
 use days_core::Day;
-use office_acts::next_for;
-use office_acts::office_register::Register;
-use office_acts::office_step::{Named, Refusal};
+use office_turns::office_register::Register;
+use office_turns::office_step::{Named, Refusal};
+use office_turns::{next_for, unit_in};
 use rent_table::{Plan, Unit};
 use wait_list::Candidate;
 
@@ -24,11 +23,4 @@ pub fn next_answer(register: &Register, unit: u32, day: Day) -> Result<Answer, R
             id: unit,
         }),
     }
-}
-
-fn unit_in(register: &Register, number: u32) -> Option<&Unit>
-    ensures value { option_copied result ≡ unit_at register.now.known.units number }
-    ensures bedrooms { IfSome (option_copied result) (λ unit. unit.bedrooms ≤ 5) }
-{
-    register.table().unit(number)
 }

@@ -1,4 +1,4 @@
-use office_acts::office_step::{Done, Refusal};
+use office_turns::office_step::{Done, Refusal};
 
 /// What a clerk is told of a call.
 #[derive(Clone, Copy, Debug, PartialEq, Eq)]

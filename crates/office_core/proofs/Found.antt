@@ -1,18 +1,13 @@
 -- Rows that are found in a list.
-use Rattle.std.proofs.Common.{◌≡◌, ◌≤◌, ◌+◌, ◌-◌, ℕ, zero, suc, List, [], ◌∷◌, length, Option, Some, None, ap, sym, arith, slice_get}
-use Rattle.std.specs.Prelude.{Bool, All, Contains, IfSome, find, filter}
+use Rattle.std.proofs.Common.{◌≡◌, ◌≤◌, ◌+◌, ◌-◌, ℕ, zero, suc, List, [], ◌∷◌, length, Option, Some, ap, arith, slice_get}
+use Rattle.std.specs.Prelude.{Bool, Contains, find, filter}
 use Rattle.std.specs.Option.{option_map_or}
 use Rattle.std.proofs.lemmas.List.{Elements.Contains-get_or, Sums.length-filter, Sums.count_by-le-length}
 use Rattle.book_rows.specs.declared.rows.ActRow.{ActRow}
 use Rattle.office_answers.specs.Below.office_step.Step.{last_act_day}
 use Rattle.book_replay.proofs.Below.office_laws.Tried.{find_holds}
 
--- what is true of all is true of what is found
-pub found_holds : {X : Type 0} (p : X → Bool) (P : X → Type 0) (xs : List X) (found : Option X) → found ≡ find p xs → All P xs → IfSome found P
-found_holds p P xs None is all = record {}
-found_holds p P xs (Some x) is all = (find_holds p P xs x (sym is) all).0
-
--- and it is there
+-- what is found is there
 pub found_there : {X : Type 0} (p : X → Bool) (xs : List X) (x : X) → find p xs ≡ Some x → Contains xs x
 found_there p xs x is = (find_holds p (Contains xs) xs x is (λ k d within. Contains-get_or xs k d within)).0
 

@@ -10,7 +10,7 @@ use Rattle.office_answers.specs.Below.office_step.Step.{last_act_day, day_after,
 use Rattle.office_answers.proofs.Below.office_step.Passed.{first_of-around}
 use Rattle.office_answers.specs.Below.office_step.Valid.{rows_in}
 use Rattle.book_replay.specs.Below.office_laws.AtHand.{NewRequests, RepeatedRequests, ReusedRequests, NextDayStays}
-use Rattle.office_answers.specs.Below.office_acts.Judged.{judged_by}
+use Rattle.office_acts.specs.Judged.{judged_by}
 use Rattle.office_core.specs.{declared.drafting.Held.Held, declared.judged.Judgment.Judgment, Judged.Judges, Held.IsNewTo, Office.Holding, Planned.IsPlannedFor}
 
 -- ---- what was judged

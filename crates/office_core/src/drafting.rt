@@ -14,7 +14,7 @@ use book_replay::command_text::body_of_command;
 use book_replay::office_laws::{days_are_lived, requests_are_once};
 use book_rows::{ActRow, Batch, Command};
 use days_core::Day;
-use office_answers::office_acts::{judge, lines_of};
+use office_acts::{judge, lines_of};
 use office_answers::office_refusals::{act_day, lines_full};
 use office_answers::office_register::Register;
 use office_answers::office_step::{Call, Capacity, Refusal};

@@ -15,12 +15,13 @@ mod reserve;
 pub use book_replay::{command_text, office_laws};
 pub use judged::{Judged, Judgment, Step};
 pub use office::Office;
+pub use office_acts;
 pub use office_answers;
 pub use office_answers::office_step::{
     Application, Call, Capacity, Closed, Done, Fault, Made, Named, Refusal,
 };
 pub use office_answers::{
-    Admissions, Answer, Asked, DueDay, HouseholdSummary, Question, Reply, Voucher, office_acts,
-    office_refusals, office_register, office_step,
+    Admissions, Answer, Asked, DueDay, HouseholdSummary, Question, Reply, Voucher, office_refusals,
+    office_register, office_step, office_turns,
 };
 pub use opening::OpenFault;

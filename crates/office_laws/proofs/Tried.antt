@@ -1,7 +1,7 @@
 -- What was tried before an act made its record.
 use Rattle.office_laws.proofs.Words.{option_map, ◌≡◌, ◌∙◌, ap, same_Some, refl, ℕ, ◌+◌, ◌<◌, arith, true, false, [], Some, None, if◌then◌else◌, ◌==◌, Record, Kind, is_withdrawal, newest_number, AreNumbered, may_begin, is_transfer, is_move_out, Command, HouseholdChange, Heading, Known, own_in, record_at, change_by, correction_heading, withdrawal_heading, heading_for, heading_of, record_of, disorder, unit_taken, of_made, may_collide_in, Passed, under_own, IsHeaded, made_is_headed, of_household, records_past, none_above, HouseholdAct, new_heading, IsUnder, next_under, option_map_some}
 use Rattle.office_step.proofs.Earlier.{under_it, names_earlier}
-pub use Rattle.list_laws.proofs.Finds.{find_holds}
+pub use Rattle.list_laws.proofs.Finds.{find_holds, found_holds}
 
 -- the record is the household's first, or was judged among its records
 pub data Ordered (known : Known) (r : Record) : Type 0 where

@@ -1,7 +1,8 @@
 use crate::telling::{Known, act, command, tell, told};
-use office_core::office_acts::{judge, next_for, targets};
+use office_core::office_acts::judge;
 use office_core::office_register::Register;
 use office_core::office_step::{Made, Named, Refusal};
+use office_core::office_turns::{next_for, targets};
 use sample_office::{
     ADMIT, APPLY, LIMITS, OTHER_UNIT, PLAN, RENTS, START, UNIT, day, month, office_day,
 };

@@ -1,6 +1,6 @@
 use Rattle.std.specs.Prelude.{◌==◌, option_copied}
 use Rattle.record_history.specs.{declared.records.Record.Record, Held.IsWithin}
-use Rattle.office_core.proofs.Found.{found_holds}
+use Rattle.book_replay.proofs.Below.office_laws.Tried.{found_holds}
 use Rattle.office_core.proofs.office.Office.record_of.Goals as goal
 
 pub returns-clause-within : goal.returns-clause-within

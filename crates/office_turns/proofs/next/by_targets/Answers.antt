@@ -1,8 +1,8 @@
 use Rattle.std.proofs.Common.{◌≡◌, rules}
 use Rattle.wait_list.specs.Target.{wants_extremely_low}
 use Rattle.office_step.specs.Candidates.{targets_of}
-use Rattle.office_acts.proofs.Wanted.{either}
-use Rattle.office_acts.proofs.next.by_targets.Goals as goal
+use Rattle.office_turns.proofs.Wanted.{either}
+use Rattle.office_turns.proofs.next.by_targets.Goals as goal
 
 pub returns-then-eq : goal.returns-then-eq
 returns-then-eq c =

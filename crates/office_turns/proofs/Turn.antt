@@ -5,7 +5,7 @@ use Rattle.std.proofs.lemmas.List.{Elements.filter-append, Elements.filter_map-a
 use Rattle.row_choice.specs.Latest.{later}
 use Rattle.voucher_core.proofs.Totals.{range-more}
 use Rattle.office_step.specs.declared.known.Mover.{Mover}
-use Rattle.office_acts.specs.Turns.{came_first, first_of_movers}
+use Rattle.office_turns.specs.Turns.{came_first, first_of_movers}
 
 one_of : (found : Option Mover) (f : ℕ → Option Mover) (place : ℕ) → f place ≡ found → filter_map f (place ∷ []) ≡ option_to_list found
 one_of None f place is = rw is refl

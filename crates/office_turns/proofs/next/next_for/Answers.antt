@@ -2,8 +2,8 @@ use Rattle.std.proofs.Common.{◌∙◌, refl}
 use Rattle.rent_table.specs.Table.{limits_on}
 use Rattle.wait_list.specs.Target.{wants_extremely_low}
 use Rattle.office_step.specs.Candidates.{targets_of}
-use Rattle.office_acts.proofs.Wanted.{next_by}
-use Rattle.office_acts.proofs.next.next_for.Goals as goal
+use Rattle.office_turns.proofs.Wanted.{next_by}
+use Rattle.office_turns.proofs.next.next_for.Goals as goal
 
 pub returns : goal.returns
 returns c =

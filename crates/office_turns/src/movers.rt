@@ -7,7 +7,7 @@ ghost use Rattle.record_history.specs.Records.{in_force};
 ghost use Rattle.record_history.specs.Held.{records_of};
 ghost use Rattle.due_dates.specs.Stale.{ends_assistance};
 ghost use Rattle.office_step.specs.Candidates.{newest_transfer, counts, would_move, request_in, mover_of, movers_of, first_mover};
-ghost use Rattle.office_acts.specs.Turns.{came_first, newer, is_turn, first_of_movers};
+ghost use Rattle.office_turns.specs.Turns.{came_first, newer, is_turn, first_of_movers};
 
 use days_core::Day;
 use office_step::{Mover, Request};

@@ -1,8 +1,8 @@
 use Rattle.std.proofs.Common.{refl}
 use Rattle.office_step.specs.Candidates.{mover_of}
-use Rattle.office_acts.specs.Turns.{is_turn}
-use Rattle.office_acts.proofs.Turn.{movers-more}
-use Rattle.office_acts.proofs.movers.first_of_movers.Goals as goal
+use Rattle.office_turns.specs.Turns.{is_turn}
+use Rattle.office_turns.proofs.Turn.{movers-more}
+use Rattle.office_turns.proofs.movers.first_of_movers.Goals as goal
 
 pub loop-place-preserved : goal.loop-place-preserved
 loop-place-preserved c =

@@ -8,8 +8,8 @@ use Rattle.days_core.specs.Calendar.{month_of}
 use Rattle.record_history.specs.{declared.records.Record.Record, Records.is_live, Records.live_records, Held.records_of, Held.AreNumbered, Ordered.AreInOrder}
 use Rattle.rent_table.specs.declared.plan.Plan.{Plan}
 use Rattle.office_step.specs.Candidates.{fiscal_year, is_admission, admissions}
-use Rattle.office_acts.specs.Admissions.{is_admission_of}
-use Rattle.office_acts.proofs.AsMany.{as_many}
+use Rattle.office_turns.specs.Admissions.{is_admission_of}
+use Rattle.office_turns.proofs.AsMany.{as_many}
 
 -- the records of the household at that place
 pub records_at : (households : List (List Record)) (place : ℕ) → records_of households (place + 1) ≡ get_or households place []

@@ -1,8 +1,8 @@
 use Rattle.std.specs.Prelude.{◌≡◌, filter}
 use Rattle.std.specs.List.{range_with_len, filter_map}
 use Rattle.office_step.specs.Candidates.{mover_of}
-use Rattle.office_acts.specs.Turns.{is_turn, first_of_movers}
-use Rattle.office_acts.proofs.movers.first_of_movers.Given as goal
+use Rattle.office_turns.specs.Turns.{is_turn, first_of_movers}
+use Rattle.office_turns.proofs.movers.first_of_movers.Given as goal
 
 abbrev pub invariant-loop-place : goal.invariant-loop-place
 invariant-loop-place l =

@@ -2,8 +2,8 @@ use Rattle.std.proofs.Common.{◌∙◌, ap, ◌+◌, refl, arith}
 use Rattle.std.proofs.lemmas.List.{take_all}
 use Rattle.record_history.specs.Held.{records_of}
 use Rattle.office_step.specs.Candidates.{fiscal_year}
-use Rattle.office_acts.proofs.Counted.{SoFar, few-live, all-counted, extremely-counted, few-more, so_far-more, few-extremely}
-use Rattle.office_acts.proofs.admissions.targets_by.Goals as goal
+use Rattle.office_turns.proofs.Counted.{SoFar, few-live, all-counted, extremely-counted, few-more, so_far-more, few-extremely}
+use Rattle.office_turns.proofs.admissions.targets_by.Goals as goal
 
 pub loop-place-init : goal.loop-place-init
 loop-place-init c = record { all = refl; low = refl; few = omega arith }

@@ -2,8 +2,8 @@ use Rattle.std.specs.Prelude.{◌≡◌, take, filter, option_copied}
 use Rattle.row_choice.specs.Latest.{latest}
 use Rattle.record_history.specs.Records.{is_live}
 use Rattle.tenancy_rules.specs.Order.{is_transfer}
-use Rattle.office_acts.specs.Turns.{newer}
-use Rattle.office_acts.proofs.movers.newest_transfer.Given as goal
+use Rattle.office_turns.specs.Turns.{newer}
+use Rattle.office_turns.proofs.movers.newest_transfer.Given as goal
 
 abbrev pub invariant-loop-held : goal.invariant-loop-held
 invariant-loop-held l =

@@ -2,7 +2,7 @@
 
 ghost use Rattle.std.specs.Prelude.{◌≡◌, ◌≤◌, ◌&&◌, length, filter, sum_by};
 ghost use Rattle.office_step.specs.Candidates.{fiscal_year, targets_of};
-ghost use Rattle.office_acts.specs.Admissions.{is_admission_of};
+ghost use Rattle.office_turns.specs.Admissions.{is_admission_of};
 
 use crate::live::live_in_order;
 use days_core::{Day, Month, month_of};
