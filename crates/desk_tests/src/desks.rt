@@ -20,7 +20,7 @@ use std::process::Abort;
 use std::sync::Wait;
 
 /// Income of household 1 that begins in January 2024, told of in time. Its payment rises to 260 from March on.
-const INTERIM: &str =
+pub const INTERIM: &str =
     "{'done':'2024-02-01','event':'2024-01-20','facts':{'assets':[],'care_school':0,'care_work':0,'disability':0,\
     'disposals':[],'exempt':false,'incomes':[{'annual':10800,'kind':'Benefits','member':0}],'medical':0,\
     'members':[{'born':'1953-06-01','cared':false,'disabled':false,'helped':false,'relation':'Head','student':false}],\

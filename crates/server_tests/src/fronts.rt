@@ -66,7 +66,7 @@ fn served<R: Abort + Wait>(
 }
 
 /// A history with no name yet.
-pub fn history(rt: &impl Abort, alloc: Global) -> NewHistory
+fn history(rt: &impl Abort, alloc: Global) -> NewHistory
     ensures words { result.table.shared.table_id.words ≡ 1 }
     ensures same { result.book.table_id ≡ result.table.shared.table_id }
     ensures blank { result.book.me ≡ (Blank, []) }

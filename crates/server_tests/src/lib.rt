@@ -1,8 +1,6 @@
-//! Tests of an office over HTTP: of sessions over streams, and of the server over links, with keepers in memory.
+//! Tests of an office over HTTP: of what a session answers, and of the server over links, with keepers in memory.
 #![tactic(auto)]
 
-#[cfg(test)]
-mod cuts;
 #[cfg(test)]
 mod faults;
 #[cfg(test)]
@@ -13,5 +11,3 @@ mod gated;
 mod links;
 #[cfg(test)]
 mod serving;
-#[cfg(test)]
-mod two_clerks;

@@ -2,25 +2,25 @@ ghost use Rattle.std.specs.Prelude.{◌≡◌, []};
 ghost use Rattle.book_rows.specs.Book.{Book};
 ghost use Rattle.desk_history.specs.declared.views.View.TheVariants.{Blank};
 
-use crate::fronts::history;
-use crate::serving::{RAISED, raise, small_office};
+use crate::desks::{begun, desk, history, next_pass};
+use crate::sessions::{ASK, CERTIFIED, SEEN, interim};
+use book_rows::Tables;
 use desk_history::NewHistory;
-use http_front::clerk_desk::office_core::Capacity;
-use http_front::shared_desk::{Desk, Naming, Pass, SharedDesk};
 use http_front::{SessionEnd, session};
-use keeper_core::MemoryKeeper;
+use keeper_core::PlannedKeeper;
 use office_io::{FixedClock, MemorySink, MemorySource};
 use sample_office::{day, written};
+use shared_desk::{Naming, Pass, SharedDesk};
 use std::alloc::Global;
 use std::marker::Brand;
 use std::process::Abort;
 use std::sync::Wait;
 
 /// Whether a session of the pass on 1 February 2024, over all of the text, writes what ends so, with ' for ".
-fn writes<R: Abort + Wait, B: Naming>(
+fn writes<B: Naming, R: Abort + Wait>(
     rt: &R,
     alloc: Global,
-    desk: &SharedDesk<MemoryKeeper, B>,
+    desk: &SharedDesk<PlannedKeeper, B>,
     pass: &mut Pass<B>,
     text: &str,
     wanted: &str,
@@ -35,54 +35,36 @@ fn writes<R: Abort + Wait, B: Naming>(
 }
 
 // The second clerk's act is stale once the first clerk's is made, and a repeat has the first reply.
-fn work_in_turn<R: Abort + Wait, B: Naming>(
+fn work_in_turn<B: Naming, R: Abort + Wait>(
     rt: &R,
     alloc: Global,
-    desk: &SharedDesk<MemoryKeeper, B>,
+    desk: &SharedDesk<PlannedKeeper, B>,
     first: &mut Pass<B>,
     second: &mut Pass<B>,
 ) {
-    let act = raise(rt, alloc);
-    let made = format!(in alloc;
-        "book: 5\r\ncontent-length: 125\r\ncontent-type: application/json\r\n\r\n{RAISED}"
-    ).expect(rt, "memory");
-    assert!(rt; writes(rt, alloc, desk, first, &act, &made));
+    let act = interim(rt, alloc);
+    assert!(rt; writes(rt, alloc, desk, first, &act, CERTIFIED));
     let other = act
         .replace(alloc, "\"clerk\":1", "\"clerk\":2")
         .expect(rt, "memory");
     let stale = "book: 5\r\ncontent-length: 50\r\ncontent-type: application/json\r\n\r\n\
         {'refused':{'kind':'Stale','newest':2,'number':6}}";
     assert!(rt; writes(rt, alloc, desk, second, &other, stale));
-    let ask = "GET /households/1 HTTP/1.1\r\n\r\n";
-    let seen = "{'household':1,'live':[1,2],'name':'Ada Reed','newest':2}";
-    assert!(rt; writes(rt, alloc, desk, second, ask, seen));
-    assert!(rt; writes(rt, alloc, desk, second, &act, &made));
+    assert!(rt; writes(rt, alloc, desk, second, ASK, SEEN));
+    assert!(rt; writes(rt, alloc, desk, second, &act, CERTIFIED));
     assert!(rt; (first.seen(), second.seen()) == (5, 5));
 }
 
-fn in_turn<R: Abort + Wait, B: Naming>(
-    rt: &R,
-    alloc: Global,
-    history: NewHistory,
-    keeper: MemoryKeeper,
-)
+fn in_turn<B: Naming, R: Abort + Wait>(rt: &R, alloc: Global, history: NewHistory, tables: Tables)
     requires table { (history.table.shared.table_id ≡ B.table) × (history.book.table_id ≡ B.table) × (B.table.words ≡ 1) }
     requires blank { history.book.me ≡ (Blank, []) }
     requires told { (book : Book) → B.told book }
     requires sound { B.sound → ⊥ }
 {
-    let capacity = Capacity {
-        acts: 100,
-        lines: 1_000,
-    };
-    let mut desk = match Desk::<MemoryKeeper, B>::open(alloc, history, keeper, capacity) {
-        Ok(desk) => desk,
-        Err(_) => panic!(rt; "no desk"),
-    };
-    let (mut first, mut second) = match (desk.pass(), desk.pass()) {
-        (Ok(first), Ok(second)) => (first, second),
-        _ => panic!(rt; "no pass"),
-    };
+    let keeper = PlannedKeeper::with(tables, Vec::new(alloc));
+    let mut desk = desk::<B, R>(rt, alloc, history, keeper);
+    let mut first = next_pass(rt, &mut desk);
+    let mut second = next_pass(rt, &mut desk);
     work_in_turn(rt, alloc, desk.shared(), &mut first, &mut second);
     assert!(rt; desk.finish(second).keeper.tables().acts.len() == 5);
 }
@@ -90,6 +72,6 @@ fn in_turn<R: Abort + Wait, B: Naming>(
 #[test]
 fn two_sessions_on_one_desk(rt: HostRuntime) {
     let alloc = rt.alloc();
-    let keeper = small_office(&rt, alloc);
-    in_turn::<HostRuntime, Brand>(&rt, alloc, history(&rt, alloc), keeper);
+    let tables = begun::<Brand, HostRuntime>(&rt, alloc, history(&rt, alloc));
+    in_turn::<Brand, HostRuntime>(&rt, alloc, history(&rt, alloc), tables);
 }

@@ -2,15 +2,15 @@ ghost use Rattle.std.specs.Prelude.{◌≡◌, []};
 ghost use Rattle.book_rows.specs.Book.{Book};
 ghost use Rattle.desk_history.specs.declared.views.View.TheVariants.{Blank};
 
-use crate::fronts::history;
-use crate::serving::{RAISED, raise, small_office};
+use crate::desks::{begun, desk, history, next_pass};
+use crate::sessions::{ASK, CERTIFIED, SEEN, interim};
+use book_rows::Tables;
 use desk_history::NewHistory;
-use http_front::clerk_desk::office_core::Capacity;
-use http_front::shared_desk::{Desk, Naming, Pass, SharedDesk};
 use http_front::{SessionEnd, session};
-use keeper_core::MemoryKeeper;
+use keeper_core::PlannedKeeper;
 use office_io::{FixedClock, MemorySink, MemorySource};
 use sample_office::{day, written};
+use shared_desk::{Naming, Pass, SharedDesk};
 use std::alloc::Global;
 use std::marker::Brand;
 use std::process::Abort;
@@ -46,10 +46,10 @@ fn calls(rt: &impl Abort, alloc: Global, failing: Option<u64>) -> Vec<u64> {
 }
 
 /// Serves the bytes by the pass on 1 February 2024.
-fn served<R: Abort + Wait, B: Naming>(
+fn served<B: Naming, R: Abort + Wait>(
     rt: &R,
     alloc: Global,
-    desk: &SharedDesk<MemoryKeeper, B>,
+    desk: &SharedDesk<PlannedKeeper, B>,
     pass: &mut Pass<B>,
     given: &Given<'_>,
 ) -> Told {
@@ -72,22 +72,18 @@ fn first(bytes: &[u8], count: usize) -> &[u8] {
 
 /// What the office of four acts says to its fifth, and then to a question.
 fn responses(rt: &impl Abort, alloc: Global) -> (Vec<u8>, Vec<u8>) {
-    let made = format!(in alloc;
-        "HTTP/1.1 201 Created\r\nbook: 5\r\ncontent-length: 125\r\ncontent-type: application/json\r\n\r\n{RAISED}"
-    );
-    let seen =
-        "HTTP/1.1 200 OK\r\nbook: 5\r\ncontent-length: 57\r\ncontent-type: application/json\r\n\r\n\
-        {'household':1,'live':[1,2],'name':'Ada Reed','newest':2}";
-    let first = written(alloc, &made.expect(rt, "memory")).expect(rt, "memory");
-    let second = written(alloc, seen).expect(rt, "memory");
+    let made = format!(in alloc; "HTTP/1.1 201 Created\r\n{CERTIFIED}").expect(rt, "memory");
+    let seen = format!(in alloc; "HTTP/1.1 200 OK\r\n{SEEN}").expect(rt, "memory");
+    let first = written(alloc, &made).expect(rt, "memory");
+    let second = written(alloc, &seen).expect(rt, "memory");
     (first.into_bytes(), second.into_bytes())
 }
 
 // Of an act whose bytes end before it is whole nothing is said, and nothing is done.
-fn cut_acts<R: Abort + Wait, B: Naming>(
+fn cut_acts<B: Naming, R: Abort + Wait>(
     rt: &R,
     alloc: Global,
-    desk: &SharedDesk<MemoryKeeper, B>,
+    desk: &SharedDesk<PlannedKeeper, B>,
     pass: &mut Pass<B>,
     act: &[u8],
 ) {
@@ -108,10 +104,10 @@ fn cut_acts<R: Abort + Wait, B: Naming>(
 }
 
 // What is written before a write fails is the beginning of the responses. The act is done the first time, and once.
-fn failed_writes<R: Abort + Wait, B: Naming>(
+fn failed_writes<B: Naming, R: Abort + Wait>(
     rt: &R,
     alloc: Global,
-    desk: &SharedDesk<MemoryKeeper, B>,
+    desk: &SharedDesk<PlannedKeeper, B>,
     pass: &mut Pass<B>,
     bytes: &[u8],
     wanted: &[u8],
@@ -132,10 +128,10 @@ fn failed_writes<R: Abort + Wait, B: Naming>(
 }
 
 // What is written before a read fails is the responses to the messages that were whole by then.
-fn failed_reads<R: Abort + Wait, B: Naming>(
+fn failed_reads<B: Naming, R: Abort + Wait>(
     rt: &R,
     alloc: Global,
-    desk: &SharedDesk<MemoryKeeper, B>,
+    desk: &SharedDesk<PlannedKeeper, B>,
     pass: &mut Pass<B>,
     messages: (&[u8], &[u8]),
     replies: (&[u8], &[u8]),
@@ -164,51 +160,41 @@ fn failed_reads<R: Abort + Wait, B: Naming>(
 }
 
 // At one desk, byte by byte.
-fn at_each_byte<R: Abort + Wait, B: Naming>(
+fn at_each_byte<B: Naming, R: Abort + Wait>(
     rt: &R,
     alloc: Global,
     history: NewHistory,
-    keeper: MemoryKeeper,
+    tables: Tables,
 )
     requires table { (history.table.shared.table_id ≡ B.table) × (history.book.table_id ≡ B.table) × (B.table.words ≡ 1) }
     requires blank { history.book.me ≡ (Blank, []) }
     requires told { (book : Book) → B.told book }
     requires sound { B.sound → ⊥ }
 {
-    let capacity = Capacity {
-        acts: 100,
-        lines: 1_000,
-    };
-    let mut desk = match Desk::<MemoryKeeper, B>::open(alloc, history, keeper, capacity) {
-        Ok(desk) => desk,
-        Err(_) => panic!(rt; "no desk"),
-    };
-    let mut pass = match desk.pass() {
-        Ok(pass) => pass,
-        Err(_) => panic!(rt; "no pass"),
-    };
+    let keeper = PlannedKeeper::with(tables, Vec::new(alloc));
+    let mut desk = desk::<B, R>(rt, alloc, history, keeper);
+    let mut pass = next_pass(rt, &mut desk);
     faults_of(rt, alloc, desk.shared(), &mut pass);
     assert!(rt; desk.finish(pass).keeper.tables().acts.len() == 5);
 }
 
-fn faults_of<R: Abort + Wait, B: Naming>(
+fn faults_of<B: Naming, R: Abort + Wait>(
     rt: &R,
     alloc: Global,
-    desk: &SharedDesk<MemoryKeeper, B>,
+    desk: &SharedDesk<PlannedKeeper, B>,
     pass: &mut Pass<B>,
 ) {
-    let act = raise(rt, alloc);
-    let ask = "GET /households/1 HTTP/1.1\r\n\r\n";
+    let act = interim(rt, alloc);
     let (made, seen) = responses(rt, alloc);
     cut_acts(rt, alloc, desk, pass, act.as_bytes());
     failed_writes(rt, alloc, desk, pass, act.as_bytes(), &made);
-    let messages = (act.as_bytes(), ask.as_bytes());
+    let messages = (act.as_bytes(), ASK.as_bytes());
     failed_reads(rt, alloc, desk, pass, messages, (&made, &seen));
 }
 
 #[test]
 fn sessions_are_cut_at_each_byte(rt: HostRuntime) {
     let alloc = rt.alloc();
-    let keeper = small_office(&rt, alloc);
-    at_each_byte::<HostRuntime, Brand>(&rt, alloc, history(&rt, alloc), keeper);
+    let tables = begun::<Brand, HostRuntime>(&rt, alloc, history(&rt, alloc));
+    at_each_byte::<Brand, HostRuntime>(&rt, alloc, history(&rt, alloc), tables);
 }
