@@ -2,68 +2,18 @@ ghost use Rattle.std.specs.Prelude.{◌≡◌, []};
 ghost use Rattle.book_rows.specs.Book.{Book};
 ghost use Rattle.desk_history.specs.declared.views.View.TheVariants.{Blank};
 
-use crate::desks::{begun, desk, history, next_pass};
-use crate::sessions::{ASK, CERTIFIED, SEEN, interim};
+use crate::desks::{acts_kept, begun, desk, history, next_pass};
+use crate::sessions::{ASK, CERTIFIED, Given, SEEN, interim, served};
 use book_rows::Tables;
 use desk_history::NewHistory;
-use http_front::{SessionEnd, session};
+use http_front::SessionEnd;
 use keeper_core::PlannedKeeper;
-use office_io::{FixedClock, MemorySink, MemorySource};
-use sample_office::{day, written};
+use sample_office::written;
 use shared_desk::{Naming, Pass, SharedDesk};
 use std::alloc::Global;
 use std::marker::Brand;
 use std::process::Abort;
 use std::sync::Wait;
-
-/// A session's bytes, and the calls of its source and its sink that fail, of which each gives or takes one byte.
-#[derive(Clone, Copy)]
-struct Given<'a> {
-    bytes: &'a [u8],
-    unread: Option<u64>,
-    unwritten: Option<u64>,
-}
-
-/// How a session ended, and what it wrote.
-#[derive(Drop)]
-struct Told {
-    end: SessionEnd,
-    bytes: Vec<u8>,
-}
-
-impl Told {
-    fn is(&self, end: SessionEnd, bytes: &[u8]) -> bool {
-        self.end == end && self.bytes.as_slice() == bytes
-    }
-}
-
-fn calls(rt: &impl Abort, alloc: Global, failing: Option<u64>) -> Vec<u64> {
-    let mut calls = Vec::new(alloc);
-    if let Some(call) = failing {
-        calls.push(call).expect(rt, "memory");
-    }
-    calls
-}
-
-/// Serves the bytes by the pass on 1 February 2024.
-fn served<B: Naming, R: Abort + Wait>(
-    rt: &R,
-    alloc: Global,
-    desk: &SharedDesk<PlannedKeeper, B>,
-    pass: &mut Pass<B>,
-    given: &Given<'_>,
-) -> Told {
-    let bytes = given.bytes.to_vec(alloc).expect(rt, "memory");
-    let mut source = MemorySource::new(bytes, calls(rt, alloc, given.unread), 1);
-    let unwritten = calls(rt, alloc, given.unwritten);
-    let mut sink = MemorySink::new(alloc, 4_096, unwritten, 1).expect(rt, "memory");
-    let clock = FixedClock::new(day("2024-02-01"));
-    let end = session(rt, alloc, desk, pass, &mut source, &mut sink, &clock);
-    Told {
-        end,
-        bytes: sink.into_bytes(),
-    }
-}
 
 /// The first so many bytes, or all.
 fn first(bytes: &[u8], count: usize) -> &[u8] {
@@ -175,7 +125,7 @@ fn at_each_byte<B: Naming, R: Abort + Wait>(
     let mut desk = desk::<B, R>(rt, alloc, history, keeper);
     let mut pass = next_pass(rt, &mut desk);
     faults_of(rt, alloc, desk.shared(), &mut pass);
-    assert!(rt; desk.finish(pass).keeper.tables().acts.len() == 5);
+    assert!(rt; acts_kept(desk.finish(pass)) == 5);
 }
 
 fn faults_of<B: Naming, R: Abort + Wait>(

@@ -12,9 +12,8 @@ use office_core::office_answers::{Answer, Question, Reply};
 use office_core::{Call, Capacity, Done, Made};
 use office_io::FixedClock;
 use plain_data::NoMemory;
-use record_history::{Dates, Record};
 use sample_office::{PLAN, RENTS, START, UNIT, body, office_day};
-use shared_desk::{AskOutcome, Desk, Naming, Outcome, Pass, PassFault, SharedDesk};
+use shared_desk::{AskOutcome, Desk, Finished, Naming, Outcome, Pass, PassFault, SharedDesk};
 use std::alloc::Global;
 use std::process::Abort;
 use std::sync::Wait;
@@ -62,6 +61,11 @@ pub fn desk<B: Naming, R: Abort>(
 
 /// Lets the desk go. All that it frees is in this function's proof, and in no other's.
 pub fn let_go<B: Naming>(_desk: Desk<PlannedKeeper, B>) {}
+
+/// How many acts the keeper keeps that a desk left.
+pub fn acts_kept(left: Finished<PlannedKeeper>) -> usize {
+    left.keeper.tables().acts.len()
+}
 
 pub fn next_pass<B: Naming, R: Abort>(rt: &R, desk: &mut Desk<PlannedKeeper, B>) -> Pass<B> {
     match desk.pass() {

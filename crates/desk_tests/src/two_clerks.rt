@@ -2,14 +2,13 @@ ghost use Rattle.std.specs.Prelude.{◌≡◌, []};
 ghost use Rattle.book_rows.specs.Book.{Book};
 ghost use Rattle.desk_history.specs.declared.views.View.TheVariants.{Blank};
 
-use crate::desks::{begun, desk, history, next_pass};
-use crate::sessions::{ASK, CERTIFIED, SEEN, interim};
+use crate::desks::{acts_kept, begun, desk, history, next_pass};
+use crate::sessions::{ASK, CERTIFIED, Given, SEEN, interim, served};
 use book_rows::Tables;
 use desk_history::NewHistory;
-use http_front::{SessionEnd, session};
+use http_front::SessionEnd;
 use keeper_core::PlannedKeeper;
-use office_io::{FixedClock, MemorySink, MemorySource};
-use sample_office::{day, written};
+use sample_office::written;
 use shared_desk::{Naming, Pass, SharedDesk};
 use std::alloc::Global;
 use std::marker::Brand;
@@ -25,13 +24,14 @@ fn writes<B: Naming, R: Abort + Wait>(
     text: &str,
     wanted: &str,
 ) -> bool {
-    let bytes = Vec::from_slice(alloc, text.as_bytes()).expect(rt, "memory");
-    let mut source = MemorySource::new(bytes, Vec::new(alloc), 1);
-    let mut sink = MemorySink::new(alloc, 4_096, Vec::new(alloc), 4_096).expect(rt, "memory");
-    let clock = FixedClock::new(day("2024-02-01"));
-    let end = session(rt, alloc, desk, pass, &mut source, &mut sink, &clock);
+    let given = Given {
+        bytes: text.as_bytes(),
+        unread: None,
+        unwritten: None,
+    };
+    let told = served(rt, alloc, desk, pass, &given);
     let wanted = written(alloc, wanted).expect(rt, "memory");
-    end == SessionEnd::Ended && sink.as_bytes().ends_with(wanted.as_bytes())
+    told.end == SessionEnd::Ended && told.bytes.ends_with(wanted.as_bytes())
 }
 
 // The second clerk's act is stale once the first clerk's is made, and a repeat has the first reply.
@@ -66,7 +66,7 @@ fn in_turn<B: Naming, R: Abort + Wait>(rt: &R, alloc: Global, history: NewHistor
     let mut first = next_pass(rt, &mut desk);
     let mut second = next_pass(rt, &mut desk);
     work_in_turn(rt, alloc, desk.shared(), &mut first, &mut second);
-    assert!(rt; desk.finish(second).keeper.tables().acts.len() == 5);
+    assert!(rt; acts_kept(desk.finish(second)) == 5);
 }
 
 #[test]
