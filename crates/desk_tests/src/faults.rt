@@ -2,11 +2,12 @@ ghost use Rattle.std.specs.Prelude.{◌≡◌, []};
 ghost use Rattle.book_rows.specs.Book.{Book};
 ghost use Rattle.desk_history.specs.declared.views.View.TheVariants.{Blank};
 
-use crate::desks::{begun, certified, desk, history, newest, next_pass, raise};
+use crate::household::{certified, newest, raise};
 use book_rows::Tables;
-use desk_history::NewHistory;
+use desk_history::{NewHistory, new_history};
 use keeper_core::PlannedKeeper;
 use office_core::office_answers::Reply;
+use sample_desks::{begun_tables, desk};
 use shared_desk::{Finished, Naming};
 use std::alloc::Global;
 use std::marker::Brand;
@@ -28,10 +29,10 @@ fn failing<B: Naming, R: Abort + Wait>(
     requires sound { B.sound → ⊥ }
 {
     let keeper = PlannedKeeper::with(tables, first_commit);
-    let mut desk = desk::<B, R>(rt, alloc, history, keeper);
-    let mut first = next_pass(rt, &mut desk);
-    let mut second = next_pass(rt, &mut desk);
-    let mut third = next_pass(rt, &mut desk);
+    let mut desk = desk::<B>(alloc, history, keeper).expect(rt, "a desk");
+    let mut first = desk.pass().expect(rt, "a pass");
+    let mut second = desk.pass().expect(rt, "a pass");
+    let mut third = desk.pass().expect(rt, "a pass");
     let shared = desk.shared();
     let at = "2024-02-01";
     raise(rt, alloc, shared, &mut first, 1, at, (4, Reply::StoreFault));
@@ -66,8 +67,10 @@ fn counts(left: Finished<PlannedKeeper>) -> (u64, usize, usize) {
 #[test]
 fn the_first_commit_fails(rt: HostRuntime) {
     let alloc = rt.alloc();
-    let tables = begun::<Brand, HostRuntime>(&rt, alloc, history(&rt, alloc));
+    let history = new_history(alloc).expect(&rt, "memory");
+    let tables = begun_tables::<Brand, HostRuntime>(&rt, alloc, history).expect(&rt, "tables");
     // The load is the call before.
     let first_commit = [1].to_vec(alloc).expect(&rt, "memory");
-    failing::<Brand, HostRuntime>(&rt, alloc, history(&rt, alloc), tables, first_commit);
+    let history = new_history(alloc).expect(&rt, "memory");
+    failing::<Brand, HostRuntime>(&rt, alloc, history, tables, first_commit);
 }

@@ -2,12 +2,13 @@ ghost use Rattle.std.specs.Prelude.{◌≡◌, []};
 ghost use Rattle.book_rows.specs.Book.{Book};
 ghost use Rattle.desk_history.specs.declared.views.View.TheVariants.{Blank};
 
-use crate::desks::{begun, certified, desk, history, let_go, newest, next_pass, raise};
+use crate::household::{certified, newest, raise};
 use book_rows::Tables;
-use desk_history::NewHistory;
+use desk_history::{NewHistory, new_history};
 use keeper_core::PlannedKeeper;
 use office_core::Refusal;
 use office_core::office_answers::Reply;
+use sample_desks::{begun_tables, desk, let_go};
 use shared_desk::{Finished, MOST_PASSES, Naming, PassFault};
 use std::alloc::Global;
 use std::marker::Brand;
@@ -28,9 +29,9 @@ fn in_turn<B: Naming, R: Abort + Wait>(rt: &R, alloc: Global, history: NewHistor
     requires sound { B.sound → ⊥ }
 {
     let keeper = PlannedKeeper::with(tables, Vec::new(alloc));
-    let mut desk = desk::<B, R>(rt, alloc, history, keeper);
-    let mut first = next_pass(rt, &mut desk);
-    let mut second = next_pass(rt, &mut desk);
+    let mut desk = desk::<B>(alloc, history, keeper).expect(rt, "a desk");
+    let mut first = desk.pass().expect(rt, "a pass");
+    let mut second = desk.pass().expect(rt, "a pass");
     assert!(rt; (first.number(), second.number()) == (1, 2));
     assert!(rt; (first.seen(), second.seen()) == (4, 4));
     let shared = desk.shared();
@@ -46,8 +47,10 @@ fn in_turn<B: Naming, R: Abort + Wait>(rt: &R, alloc: Global, history: NewHistor
 #[test]
 fn two_passes_in_turn(rt: HostRuntime) {
     let alloc = rt.alloc();
-    let tables = begun::<Brand, HostRuntime>(&rt, alloc, history(&rt, alloc));
-    in_turn::<Brand, HostRuntime>(&rt, alloc, history(&rt, alloc), tables);
+    let history = new_history(alloc).expect(&rt, "memory");
+    let tables = begun_tables::<Brand, HostRuntime>(&rt, alloc, history).expect(&rt, "tables");
+    let history = new_history(alloc).expect(&rt, "memory");
+    in_turn::<Brand, HostRuntime>(&rt, alloc, history, tables);
 }
 
 fn all_handed_out<B: Naming, R: Abort>(rt: &R, alloc: Global, history: NewHistory)
@@ -57,9 +60,9 @@ fn all_handed_out<B: Naming, R: Abort>(rt: &R, alloc: Global, history: NewHistor
     requires sound { B.sound → ⊥ }
 {
     let keeper = PlannedKeeper::new(alloc, Vec::new(alloc));
-    let mut desk = desk::<B, R>(rt, alloc, history, keeper);
+    let mut desk = desk::<B>(alloc, history, keeper).expect(rt, "a desk");
     for given in 0..MOST_PASSES {
-        assert!(rt; next_pass(rt, &mut desk).number() == given + 1);
+        assert!(rt; desk.pass().expect(rt, "a pass").number() == given + 1);
     }
     match desk.pass() {
         Ok(_) => panic!(rt; "one pass too many"),
@@ -71,5 +74,6 @@ fn all_handed_out<B: Naming, R: Abort>(rt: &R, alloc: Global, history: NewHistor
 #[test]
 fn thirty_two_passes(rt: HostRuntime) {
     let alloc = rt.alloc();
-    all_handed_out::<Brand, HostRuntime>(&rt, alloc, history(&rt, alloc));
+    let history = new_history(alloc).expect(&rt, "memory");
+    all_handed_out::<Brand, HostRuntime>(&rt, alloc, history);
 }

@@ -2,10 +2,10 @@ ghost use Rattle.std.specs.Prelude.{◌≡◌, ◌≤◌, []};
 ghost use Rattle.book_rows.specs.Book.{Book};
 ghost use Rattle.desk_history.specs.declared.views.View.TheVariants.{Blank};
 
-use crate::desks::{act_of, book, call_of, desk, history, next_pass, told};
 use book_rows::Tables;
-use desk_history::NewHistory;
+use desk_history::{NewHistory, new_history};
 use keeper_core::PlannedKeeper;
+use sample_desks::{act_of, book_act, call_of, desk, outcome_of};
 use sample_office::{APPLY, PLAN};
 use shared_desk::{Finished, Naming, Pass, SharedDesk};
 use std::alloc::Global;
@@ -26,8 +26,8 @@ fn apply_all<B: Naming, R: Abort + Wait>(
 {
     for request in 0..3 {
         let before = pass.seen();
-        let call = call_of(rt, alloc, clerk, request + 2, APPLY);
-        let outcome = told(rt, alloc, desk, &mut pass, "2024-01-02", call);
+        let call = call_of(alloc, clerk, request + 2, APPLY).expect(rt, "a call");
+        let outcome = outcome_of(rt, alloc, desk, &mut pass, "2024-01-02", call);
         assert!(rt; before < outcome.point && outcome.point == pass.seen());
         assert!(rt; act_of(outcome.reply) == outcome.point);
     }
@@ -60,12 +60,12 @@ fn by_three_threads<B: Naming + Send, R: Abort + Wait + Threads + Sync>(
     requires sound { B.sound → ⊥ }
 {
     let keeper = PlannedKeeper::new(alloc, Vec::new(alloc));
-    let mut desk = desk::<B, R>(rt, alloc, history, keeper);
-    let mut first = next_pass(rt, &mut desk);
-    let second = next_pass(rt, &mut desk);
-    let third = next_pass(rt, &mut desk);
+    let mut desk = desk::<B>(alloc, history, keeper).expect(rt, "a desk");
+    let mut first = desk.pass().expect(rt, "a pass");
+    let second = desk.pass().expect(rt, "a pass");
+    let third = desk.pass().expect(rt, "a pass");
     let shared = desk.shared();
-    book(rt, alloc, shared, &mut first, 1, PLAN);
+    assert!(rt; book_act(rt, alloc, shared, &mut first, 1, PLAN));
     let (mut first, (mut second, mut third)) = join(
         rt,
         move || apply_all(rt, alloc, shared, first, 1),
@@ -101,5 +101,6 @@ fn by_sessions(left: Finished<PlannedKeeper>) -> (usize, usize, usize, usize) {
 #[test]
 fn three_threads_share_a_desk(rt: HostRuntime) {
     let alloc = rt.alloc();
-    by_three_threads::<Brand, HostRuntime>(&rt, alloc, history(&rt, alloc));
+    let history = new_history(alloc).expect(&rt, "memory");
+    by_three_threads::<Brand, HostRuntime>(&rt, alloc, history);
 }

@@ -17,5 +17,6 @@ pub use property::{limit_row, plan, rent_row, rent_table, rents, unit};
 pub use records::{history_of, hold, record};
 pub use rows::{act_row, line, text};
 pub use texts::{
-    ADMIT, APPLY, CLOSE_JANUARY, FACTS, LIMITS, OTHER_UNIT, PLAN, RENTS, START, UNIT, body, written,
+    ADMIT, APPLY, CLOSE_JANUARY, FACTS, INTERIM, LIMITS, OTHER_UNIT, PLAN, RENTS, START, UNIT,
+    body, opening, post, written,
 };

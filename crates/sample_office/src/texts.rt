@@ -43,6 +43,13 @@ pub const ADMIT: &str = "{'applicant':1,'facts':FACTS,'from':'2024-02-01','kind'
 pub const START: &str =
     "{'facts':FACTS,'from':'2024-01-01','kind':'start','name':'Ada Reed','unit':1}";
 
+/// Income of household 1 that begins in January 2024, told of in time. Its payment rises to 260 from March on.
+pub const INTERIM: &str =
+    "{'done':'2024-02-01','event':'2024-01-20','facts':{'assets':[],'care_school':0,'care_work':0,'disability':0,\
+    'disposals':[],'exempt':false,'incomes':[{'annual':10800,'kind':'Benefits','member':0}],'medical':0,\
+    'members':[{'born':'1953-06-01','cared':false,'disabled':false,'helped':false,'relation':'Head','student':false}],\
+    'welfare':0},'from':'2024-03-01','household':1,'kind':'interim','notice':'2024-01-25','seen':1}";
+
 pub const CLOSE_JANUARY: &str = "{'kind':'close','month':'2024-01'}";
 
 /// The text with the facts written out, and with " for each '.
@@ -54,4 +61,24 @@ pub fn written(alloc: Global, text: &str) -> Result<String, NoMemory> {
 /// The same as the body of an act.
 pub fn body(alloc: Global, text: &str) -> Result<SharedText, NoMemory> {
     SharedText::new(written(alloc, text)?.into_bytes())
+}
+
+/// The HTTP message by which clerk 1 posts an act.
+pub fn post(alloc: Global, request: u64, act: &str) -> Result<String, NoMemory> {
+    let text = format!(in alloc; "{{'clerk':1,'request':{request},'act':{act}}}")?;
+    let body = written(alloc, &text)?;
+    let length = body.len() as u64;
+    let message = format!(in alloc;
+        "POST /acts HTTP/1.1\r\nContent-Length: {length}\r\n\r\n{body}"
+    );
+    Ok(message?)
+}
+
+/// The messages that post the plan, the unit, its rents and the household, one request after the other.
+pub fn opening(alloc: Global) -> Result<String, NoMemory> {
+    let mut text = String::new(alloc);
+    for (request, act) in [(1u64, PLAN), (2, UNIT), (3, RENTS), (4, START)] {
+        text.push_str(&post(alloc, request, act)?)?;
+    }
+    Ok(text)
 }

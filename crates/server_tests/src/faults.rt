@@ -1,7 +1,7 @@
-use crate::serving::{ends, has_given_back, links, post, serve, small_office};
+use crate::serving::{ends, has_given_back, links, serve, small_office};
 use book_rows::Table;
 use keeper_core::{DamagedKeeper, MemoryKeeper, PlannedKeeper};
-use sample_office::PLAN;
+use sample_office::{PLAN, post};
 
 const ASK: &str = "GET /households/1 HTTP/1.1\r\n\r\n";
 
@@ -38,7 +38,7 @@ fn a_failed_commit_ends_no_server(rt: HostRuntime) {
     let alloc = rt.alloc();
     let failing = [1].to_vec(alloc).expect(&rt, "memory");
     let keeper = PlannedKeeper::new(alloc, failing);
-    let plan = post(&rt, alloc, 1, PLAN);
+    let plan = post(alloc, 1, PLAN).expect(&rt, "memory");
     let two = links(&rt, alloc, &[plan.as_str(), plan.as_str()], &[], 4_096);
     let told = serve(&rt, alloc, two, keeper, 40);
     assert!(rt; told.is(0, "book 1\n"));

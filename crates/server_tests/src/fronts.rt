@@ -2,29 +2,17 @@ ghost use Rattle.std.specs.Prelude.{◌≡◌, []};
 ghost use Rattle.book_rows.specs.Book.{Book};
 ghost use Rattle.desk_history.specs.declared.views.View.TheVariants.{Blank};
 
-use crate::serving::post;
 use desk_history::{NewHistory, new_history};
-use http_front::clerk_desk::office_core::Capacity;
-use http_front::shared_desk::{Desk, Naming};
 use http_front::{SessionEnd, session};
 use keeper_core::PlannedKeeper;
 use office_io::{FixedClock, MemorySink, MemorySource};
-use plain_data::NoMemory;
-use sample_office::{PLAN, RENTS, START, UNIT, day, written};
+use sample_desks::{acts_kept, desk};
+use sample_office::{PLAN, RENTS, UNIT, day, opening, post, written};
+use shared_desk::Naming;
 use std::alloc::Global;
 use std::marker::Brand;
 use std::process::Abort;
 use std::sync::Wait;
-
-/// The messages that post the plan, a unit, rents and a household of one of 70.
-fn opening(rt: &impl Abort, alloc: Global) -> String {
-    let mut text = String::new(alloc);
-    for (request, act) in [(1u64, PLAN), (2, UNIT), (3, RENTS), (4, START)] {
-        text.push_str(&post(rt, alloc, request, act))
-            .expect(rt, "memory");
-    }
-    text
-}
 
 /// What a response is that isn't the last.
 fn response(rt: &impl Abort, alloc: Global, status: &str, point: u64, body: &str) -> String {
@@ -58,23 +46,11 @@ fn served<R: Abort + Wait>(
     most: usize,
 ) -> Told {
     assert!(rt; most > 0);
-    let history = history(rt, alloc);
+    let history = new_history(alloc).expect(rt, "memory");
     let input = written(alloc, text).expect(rt, "memory").into_bytes();
     let mut source = MemorySource::new(input, Vec::new(alloc), most);
     let keeper = PlannedKeeper::new(alloc, failing.to_vec(alloc).expect(rt, "memory"));
     served_by::<R, Brand>(rt, alloc, history, keeper, &mut source)
-}
-
-/// A history with no name yet.
-fn history(rt: &impl Abort, alloc: Global) -> NewHistory
-    ensures words { result.table.shared.table_id.words ≡ 1 }
-    ensures same { result.book.table_id ≡ result.table.shared.table_id }
-    ensures blank { result.book.me ≡ (Blank, []) }
-{
-    match new_history(alloc) {
-        Ok(history) => history,
-        Err(NoMemory) => panic!(rt; "no memory"),
-    }
 }
 
 /// The same, at a desk whose history has a name.
@@ -90,18 +66,8 @@ fn served_by<R: Abort + Wait, B: Naming>(
     requires told { (book : Book) → B.told book }
     requires sound { B.sound → ⊥ }
 {
-    let capacity = Capacity {
-        acts: 100,
-        lines: 1_000,
-    };
-    let mut desk = match Desk::<PlannedKeeper, B>::open(alloc, history, keeper, capacity) {
-        Ok(desk) => desk,
-        Err(_) => panic!(rt; "no desk"),
-    };
-    let mut pass = match desk.pass() {
-        Ok(pass) => pass,
-        Err(_) => panic!(rt; "no pass"),
-    };
+    let mut desk = desk::<B>(alloc, history, keeper).expect(rt, "a desk");
+    let mut pass = desk.pass().expect(rt, "a pass");
     let mut sink = MemorySink::new(alloc, 16_384, Vec::new(alloc), 16_384).expect(rt, "memory");
     let clock = FixedClock::new(day("2024-01-01"));
     let end = session(
@@ -117,7 +83,7 @@ fn served_by<R: Abort + Wait, B: Naming>(
     Told {
         end,
         responses: responses.replace(alloc, "\"", "'").expect(rt, "memory"),
-        kept: desk.finish(pass).keeper.tables().acts.len(),
+        kept: acts_kept(desk.finish(pass)),
     }
 }
 
@@ -144,14 +110,14 @@ fn acts_are_made_in_turn(rt: HostRuntime) {
     let alloc = rt.alloc();
     let wanted = opened(&rt, alloc);
     for most in [1, 700, 4_096] {
-        let told = served(&rt, alloc, &opening(&rt, alloc), &[], most);
+        let told = served(&rt, alloc, &opening(alloc).expect(&rt, "memory"), &[], most);
         assert!(rt; told.is(SessionEnd::Ended, &wanted, 4));
     }
 }
 
 /// Whether the message, behind the opening ones, has this response and nothing is kept of it.
 fn has<R: Abort + Wait>(rt: &R, alloc: Global, message: &str, wanted: &str) -> bool {
-    let mut text = opening(rt, alloc);
+    let mut text = opening(alloc).expect(rt, "memory");
     text.push_str(message).expect(rt, "memory");
     let mut responses = opened(rt, alloc);
     responses.push_str(wanted).expect(rt, "memory");
@@ -163,10 +129,24 @@ fn has<R: Abort + Wait>(rt: &R, alloc: Global, message: &str, wanted: &str) -> b
 fn requests_are_made_once(rt: HostRuntime) {
     let alloc = rt.alloc();
     let again = response(&rt, alloc, "201 Created", 4, REPLIES[1]);
-    assert!(rt; has(&rt, alloc, &post(&rt, alloc, 2, UNIT), &again));
+    assert!(rt;
+        has(
+            &rt,
+            alloc,
+            &post(alloc, 2, UNIT).expect(&rt, "memory"),
+            &again
+        )
+    );
     let reused = "{'refused':{'act':2,'kind':'RequestReused','number':1}}";
     let other = response(&rt, alloc, "409 Conflict", 4, reused);
-    assert!(rt; has(&rt, alloc, &post(&rt, alloc, 2, RENTS), &other));
+    assert!(rt;
+        has(
+            &rt,
+            alloc,
+            &post(alloc, 2, RENTS).expect(&rt, "memory"),
+            &other
+        )
+    );
 }
 
 // Each question is answered of the book that stands.
@@ -275,7 +255,13 @@ fn a_keeper_that_fails_is_blamed_once(rt: HostRuntime) {
             .push_str(&response(&rt, alloc, status, point, body))
             .expect(&rt, "memory");
     }
-    let told = served(&rt, alloc, &opening(&rt, alloc), &[3], 4_096);
+    let told = served(
+        &rt,
+        alloc,
+        &opening(alloc).expect(&rt, "memory"),
+        &[3],
+        4_096,
+    );
     assert!(rt; told.is(SessionEnd::Ended, &wanted, 2));
 }
 
@@ -283,7 +269,7 @@ fn a_keeper_that_fails_is_blamed_once(rt: HostRuntime) {
 #[test]
 fn a_cut_message_is_no_act(rt: HostRuntime) {
     let alloc = rt.alloc();
-    let whole = post(&rt, alloc, 1, PLAN);
+    let whole = post(alloc, 1, PLAN).expect(&rt, "memory");
     let cut = whole
         .as_str()
         .get(..whole.len().saturating_sub(1))
@@ -307,7 +293,7 @@ fn ends_with<R: Abort + Wait>(
     end: SessionEnd,
     wanted: &str,
 ) -> bool {
-    let mut text = opening(rt, alloc);
+    let mut text = opening(alloc).expect(rt, "memory");
     text.push_str(message).expect(rt, "memory");
     text.push_str("GET /households/1 HTTP/1.1\r\n\r\n")
         .expect(rt, "memory");

@@ -1,9 +1,9 @@
-use crate::serving::{RAISED, raise, small_office};
+use crate::serving::{RAISED, small_office};
 use gated_links::{Gate, GatedSink, GatedSource, gated_link};
 use office_io::{FixedClock, MemorySink};
 use office_links::{Link, MemoryListener};
 use office_server::run_serve;
-use sample_office::{day, written};
+use sample_office::{INTERIM, day, post, written};
 use std::alloc::Global;
 use std::process::Abort;
 use std::sync::Wait;
@@ -64,7 +64,7 @@ fn two_links_are_served_at_once(rt: HostRuntime) {
     let alloc = rt.alloc();
     let gates = [Gate::new(), Gate::new(), Gate::new()];
     gates[1].open();
-    let act = raise(&rt, alloc);
+    let act = post(alloc, 50, INTERIM).expect(&rt, "memory");
     let listener = served_by_two(&rt, alloc, two_links(&rt, alloc, &act, &gates));
     let links = listener.given_back();
     assert!(rt; links.len() == 2);

@@ -1,4 +1,5 @@
-use crate::serving::{ends, has_given_back, links, post, serve, serve_by, small_office};
+use crate::serving::{ends, has_given_back, links, serve, serve_by, small_office};
+use sample_office::post;
 
 /// The household has less income: it is certified anew from February on.
 const INTERIM: &str =
@@ -11,7 +12,7 @@ const ASK: &str = "GET /households/1 HTTP/1.1\r\n\r\n";
 fn links_are_served_on_one_book(rt: HostRuntime) {
     let alloc = rt.alloc();
     let keeper = small_office(&rt, alloc);
-    let interim = post(&rt, alloc, 5, INTERIM);
+    let interim = post(alloc, 5, INTERIM).expect(&rt, "memory");
     let two = links(&rt, alloc, &[interim.as_str(), ASK], &[], 4_096);
     let told = serve(&rt, alloc, two, keeper, 40);
     assert!(rt; told.is(0, "book 5\n"));
@@ -62,7 +63,7 @@ fn several_workers_serve_each_link(rt: HostRuntime) {
     let alloc = rt.alloc();
     for workers in [2, 8, 32] {
         let keeper = small_office(&rt, alloc);
-        let interim = post(&rt, alloc, 5, INTERIM);
+        let interim = post(alloc, 5, INTERIM).expect(&rt, "memory");
         let some = links(
             &rt,
             alloc,

@@ -5,7 +5,7 @@ use office_io::{FixedClock, MemorySink, MemorySource};
 use office_links::{Link, MemoryListener, listener_of_inputs};
 use office_server::run_serve;
 use plain_data::Text;
-use sample_office::{FACTS, PLAN, RENTS, START, UNIT, day, written};
+use sample_office::{day, opening, written};
 use std::alloc::Global;
 use std::process::Abort;
 use std::sync::Wait;
@@ -28,31 +28,7 @@ impl<K> Told<K> {
     }
 }
 
-/// A message that posts an act by clerk 1, with ' for ".
-pub fn post(rt: &impl Abort, alloc: Global, request: u64, act: &str) -> String {
-    let text = format!(in alloc; "{{'clerk':1,'request':{request},'act':{act}}}");
-    let body = written(alloc, &text.expect(rt, "memory")).expect(rt, "memory");
-    let length = body.len() as u64;
-    let message = format!(in alloc;
-        "POST /acts HTTP/1.1\r\nContent-Length: {length}\r\n\r\n{body}"
-    );
-    message.expect(rt, "memory")
-}
-
-/// The message that posts as clerk 1, with request 50, that household 1 has 10,800 dollars of benefits a year and no medical
-/// expenses from 20 January 2024 on, told of in time and worked on on 1 February.
-pub fn raise(rt: &impl Abort, alloc: Global) -> String {
-    let facts = FACTS.replace(alloc, "9600", "10800").expect(rt, "memory");
-    let facts = facts
-        .replace(alloc, "'medical':1000", "'medical':0")
-        .expect(rt, "memory");
-    let act = format!(in alloc;
-        "{{'done':'2024-02-01','event':'2024-01-20','facts':{facts},'from':'2024-03-01','household':1,'kind':'interim','notice':'2024-01-25','seen':1}}"
-    );
-    post(rt, alloc, 50, &act.expect(rt, "memory"))
-}
-
-/// The reply to it where it is act 5.
+/// The reply to the interim where it is act 5.
 pub const RAISED: &str =
     "{'act':5,'day':'2024-02-01','made':{'assistance':500,'household':1,'record':2,'reimbursement':0,'tenant_rent':200,'ttp':260}}";
 
@@ -108,11 +84,7 @@ pub fn serve_by<R: Abort + Threads + Wait + Sync, K: Keeper + Drop + Send>(
 
 /// A keeper of the book of four acts that one link posts: a plan, a unit, rents and a household of one of 70.
 pub fn small_office<R: Abort + Threads + Wait + Sync>(rt: &R, alloc: Global) -> MemoryKeeper {
-    let mut text = String::new(alloc);
-    for (request, act) in [(1u64, PLAN), (2, UNIT), (3, RENTS), (4, START)] {
-        let message = post(rt, alloc, request, act);
-        text.push_str(&message).expect(rt, "memory");
-    }
+    let text = opening(alloc).expect(rt, "memory");
     let first = links(rt, alloc, &[text.as_str()], &[], 4_096);
     let told = serve(rt, alloc, first, MemoryKeeper::new(alloc), 40);
     assert!(rt; told.is(0, "book 4\n"));

@@ -1,8 +1,8 @@
 use Rattle.std.specs.Prelude.{⊤}
 use Rattle.desk_tests.proofs.faults.the_first_commit_fails.Given as goal
 
-abbrev pub ghosts-begun : goal.ghosts-begun
-ghosts-begun g a = record { table = a.history.table.shared.table_id; told = λ _. ⊤; sound = ⊥ }
+abbrev pub ghosts-begun_tables : goal.ghosts-begun_tables
+ghosts-begun_tables g a = record { table = a.history.table.shared.table_id; told = λ _. ⊤; sound = ⊥ }
 
 abbrev pub ghosts-failing : goal.ghosts-failing
 ghosts-failing g a = record { table = a.history.table.shared.table_id; told = λ _. ⊤; sound = ⊥ }

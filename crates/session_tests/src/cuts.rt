@@ -2,12 +2,12 @@ ghost use Rattle.std.specs.Prelude.{◌≡◌, []};
 ghost use Rattle.book_rows.specs.Book.{Book};
 ghost use Rattle.desk_history.specs.declared.views.View.TheVariants.{Blank};
 
-use crate::desks::{acts_kept, begun, desk, history, next_pass};
 use crate::sessions::{ASK, CERTIFIED, Given, SEEN, interim, served};
 use book_rows::Tables;
-use desk_history::NewHistory;
+use desk_history::{NewHistory, new_history};
 use http_front::SessionEnd;
 use keeper_core::PlannedKeeper;
+use sample_desks::{acts_kept, begun_tables, desk};
 use sample_office::written;
 use shared_desk::{Naming, Pass, SharedDesk};
 use std::alloc::Global;
@@ -122,8 +122,8 @@ fn at_each_byte<B: Naming, R: Abort + Wait>(
     requires sound { B.sound → ⊥ }
 {
     let keeper = PlannedKeeper::with(tables, Vec::new(alloc));
-    let mut desk = desk::<B, R>(rt, alloc, history, keeper);
-    let mut pass = next_pass(rt, &mut desk);
+    let mut desk = desk::<B>(alloc, history, keeper).expect(rt, "a desk");
+    let mut pass = desk.pass().expect(rt, "a pass");
     faults_of(rt, alloc, desk.shared(), &mut pass);
     assert!(rt; acts_kept(desk.finish(pass)) == 5);
 }
@@ -145,6 +145,8 @@ fn faults_of<B: Naming, R: Abort + Wait>(
 #[test]
 fn sessions_are_cut_at_each_byte(rt: HostRuntime) {
     let alloc = rt.alloc();
-    let tables = begun::<Brand, HostRuntime>(&rt, alloc, history(&rt, alloc));
-    at_each_byte::<Brand, HostRuntime>(&rt, alloc, history(&rt, alloc), tables);
+    let history = new_history(alloc).expect(&rt, "memory");
+    let tables = begun_tables::<Brand, HostRuntime>(&rt, alloc, history).expect(&rt, "tables");
+    let history = new_history(alloc).expect(&rt, "memory");
+    at_each_byte::<Brand, HostRuntime>(&rt, alloc, history, tables);
 }

@@ -2,12 +2,12 @@ ghost use Rattle.std.specs.Prelude.{◌≡◌, []};
 ghost use Rattle.book_rows.specs.Book.{Book};
 ghost use Rattle.desk_history.specs.declared.views.View.TheVariants.{Blank};
 
-use crate::desks::{acts_kept, begun, desk, history, next_pass};
 use crate::sessions::{ASK, CERTIFIED, Given, SEEN, interim, served};
 use book_rows::Tables;
-use desk_history::NewHistory;
+use desk_history::{NewHistory, new_history};
 use http_front::SessionEnd;
 use keeper_core::PlannedKeeper;
+use sample_desks::{acts_kept, begun_tables, desk};
 use sample_office::written;
 use shared_desk::{Naming, Pass, SharedDesk};
 use std::alloc::Global;
@@ -62,9 +62,9 @@ fn in_turn<B: Naming, R: Abort + Wait>(rt: &R, alloc: Global, history: NewHistor
     requires sound { B.sound → ⊥ }
 {
     let keeper = PlannedKeeper::with(tables, Vec::new(alloc));
-    let mut desk = desk::<B, R>(rt, alloc, history, keeper);
-    let mut first = next_pass(rt, &mut desk);
-    let mut second = next_pass(rt, &mut desk);
+    let mut desk = desk::<B>(alloc, history, keeper).expect(rt, "a desk");
+    let mut first = desk.pass().expect(rt, "a pass");
+    let mut second = desk.pass().expect(rt, "a pass");
     work_in_turn(rt, alloc, desk.shared(), &mut first, &mut second);
     assert!(rt; acts_kept(desk.finish(second)) == 5);
 }
@@ -72,6 +72,8 @@ fn in_turn<B: Naming, R: Abort + Wait>(rt: &R, alloc: Global, history: NewHistor
 #[test]
 fn two_sessions_on_one_desk(rt: HostRuntime) {
     let alloc = rt.alloc();
-    let tables = begun::<Brand, HostRuntime>(&rt, alloc, history(&rt, alloc));
-    in_turn::<Brand, HostRuntime>(&rt, alloc, history(&rt, alloc), tables);
+    let history = new_history(alloc).expect(&rt, "memory");
+    let tables = begun_tables::<Brand, HostRuntime>(&rt, alloc, history).expect(&rt, "tables");
+    let history = new_history(alloc).expect(&rt, "memory");
+    in_turn::<Brand, HostRuntime>(&rt, alloc, history, tables);
 }

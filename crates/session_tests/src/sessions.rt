@@ -1,10 +1,9 @@
 //! What sessions over HTTP at a desk are given and write.
 
-use crate::desks::INTERIM;
 use http_front::{SessionEnd, session};
 use keeper_core::PlannedKeeper;
 use office_io::{FixedClock, MemorySink, MemorySource};
-use sample_office::{day, written};
+use sample_office::{INTERIM, day, post};
 use shared_desk::{Naming, Pass, SharedDesk};
 use std::alloc::Global;
 use std::process::Abort;
@@ -13,15 +12,9 @@ use std::sync::Wait;
 /// The message that asks for the household.
 pub const ASK: &str = "GET /households/1 HTTP/1.1\r\n\r\n";
 
-/// The message that posts the interim as clerk 1, with request 50.
+/// The message that posts the interim, with request 50.
 pub fn interim(rt: &impl Abort, alloc: Global) -> String {
-    let text = format!(in alloc; "{{'clerk':1,'request':50,'act':{INTERIM}}}");
-    let body = written(alloc, &text.expect(rt, "memory")).expect(rt, "memory");
-    let length = body.len() as u64;
-    let message = format!(in alloc;
-        "POST /acts HTTP/1.1\r\nContent-Length: {length}\r\n\r\n{body}"
-    );
-    message.expect(rt, "memory")
+    post(alloc, 50, INTERIM).expect(rt, "memory")
 }
 
 /// The end of the response to it where it is act 5, with ' for ".

@@ -1,8 +1,0 @@
-use Rattle.std.specs.Prelude.{⊤}
-use Rattle.desk_tests.proofs.cuts.sessions_are_cut_at_each_byte.Given as goal
-
-abbrev pub ghosts-begun : goal.ghosts-begun
-ghosts-begun g a = record { table = a.history.table.shared.table_id; told = λ _. ⊤; sound = ⊥ }
-
-abbrev pub ghosts-at_each_byte : goal.ghosts-at_each_byte
-ghosts-at_each_byte g a = record { table = a.history.table.shared.table_id; told = λ _. ⊤; sound = ⊥ }

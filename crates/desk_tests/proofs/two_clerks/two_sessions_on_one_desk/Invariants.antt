@@ -1,8 +1,0 @@
-use Rattle.std.specs.Prelude.{⊤}
-use Rattle.desk_tests.proofs.two_clerks.two_sessions_on_one_desk.Given as goal
-
-abbrev pub ghosts-begun : goal.ghosts-begun
-ghosts-begun g a = record { table = a.history.table.shared.table_id; told = λ _. ⊤; sound = ⊥ }
-
-abbrev pub ghosts-in_turn : goal.ghosts-in_turn
-ghosts-in_turn g a = record { table = a.history.table.shared.table_id; told = λ _. ⊤; sound = ⊥ }
