@@ -11,7 +11,7 @@ The first refusal ends it. Mend that line and give the file again: what was done
 stand in URL, as in https://ann@office.example; the password is then taken from the environment, OFFICE_PASSWORD.
 
 Exit status: 0 all acts are done, 1 an act was refused, 2 the words or the file are unfit, 3 no answer came."""
-import base64, http.client, json, os, sys, time, urllib.parse
+import base64, contextlib, http.client, json, os, sys, time, urllib.parse
 
 NEED_SEEN = {"interim", "correct", "withdraw", "gross", "annual", "transfer", "terminate", "resume", "move_out"}
 SEND_AGAIN = {502, 503, 504, 507}  # 502 and 504 come from a proxy that doesn't reach the server.
@@ -28,7 +28,8 @@ class Refused(Exception):
     """The office says no. `reason` is the refusal (docs/REFUSALS.md). The request stays free."""
 
     def __init__(self, reason, act):
-        super().__init__(reason["kind"] + ": " + PLAIN.get(reason["kind"], json.dumps(reason)[1:-1]).format_map({**act, **reason}))
+        plain, members = PLAIN.get(reason["kind"]), {name: it for name, it in reason.items() if name not in ("kind", "number")}
+        super().__init__(reason["kind"] + ": " + (plain.format_map({**act, **reason}) if plain else json.dumps(members)))
         self.reason = reason
 
 
@@ -36,7 +37,7 @@ class NoAnswer(Exception):
     """Nobody knows whether the act was done. Post the same act under the same request again."""
 
 
-class Clerk:
+class Clerk(contextlib.AbstractContextManager):
     """One clerk's connection. `point` is how many acts of the book this clerk knows of, `seen` the newest record of each household that
     was looked at, `request` the next act's number. Use `with`: an open connection keeps a worker of the server."""
 
@@ -50,9 +51,6 @@ class Clerk:
             words = f"{parts.username}:{os.environ.get('OFFICE_PASSWORD', '')}"
             self.headers["authorization"] = "Basic " + base64.b64encode(words.encode()).decode()
         self.number, self.request, self.patience, self.point, self.seen = number, request, patience, 0, {}
-
-    def __enter__(self):
-        return self
 
     def __exit__(self, *fault):
         self.link.close()
@@ -70,7 +68,7 @@ class Clerk:
             if act["household"] not in self.seen:
                 raise Refused({"kind": "NotLooked"}, act)
             act = {**act, "seen": self.seen[act["household"]]}
-        number = request or self.request
+        number = self.request if request is None else request
         answer = self.send("POST", "/acts", json.dumps({"clerk": self.number, "request": number, "act": act}), act, 0)
         self.request = number + 1
         if "record" in (answer["made"] or {}):
@@ -109,13 +107,22 @@ class Clerk:
         return came.status, int(point), json.loads(text)
 
 
+def line_of(place, text, clerk):
+    try:
+        line = json.loads(text)
+    except ValueError:
+        line = None
+    if not isinstance(line, dict) or not isinstance(line.get("act", line), dict):
+        raise ValueError(f"line {place} is no act in JSON")
+    if line.get("clerk", clerk) != clerk:
+        raise ValueError(f"line {place} is another clerk's")
+    return place, line
+
+
 def acts_of(path, clerk):
     """The acts of a file: the line's place, the request if it has one, and the act."""
     with open(path, encoding="utf-8") as texts:
-        lines = [(place, json.loads(text)) for place, text in enumerate(texts, 1) if text.strip()]
-    others = [place for place, line in lines if line.get("clerk", clerk) != clerk]
-    if others:
-        raise ValueError(f"line {others[0]} is another clerk's")
+        lines = [line_of(place, text, clerk) for place, text in enumerate(texts, 1) if text.strip()]
     return [(place, line.get("request"), line.get("act", line)) for place, line in lines if "ask" not in line]
 
 
@@ -127,7 +134,7 @@ def main(words):
         with Clerk(words[0], int(words[1])) as clerk:
             for place, request, act in acts:
                 print(json.dumps(clerk.post(act, request), separators=(",", ":")), flush=True)
-    except (OSError, ValueError, AttributeError) as fault:
+    except (OSError, ValueError) as fault:
         return 2, str(fault)
     except Refused as fault:
         return 1, f"line {place} is refused, {fault}"
