@@ -46,14 +46,14 @@ class Clerk(contextlib.AbstractContextManager):
         if parts.scheme not in ("http", "https") or not parts.hostname:
             raise ValueError(f"{url} doesn't begin with http:// or https://")
         kind = http.client.HTTPSConnection if parts.scheme == "https" else http.client.HTTPConnection
-        self.link, self.headers = kind(parts.hostname, parts.port, timeout=30), {}
+        self.connection, self.headers = kind(parts.hostname, parts.port, timeout=30), {}
         if parts.username:
             words = f"{parts.username}:{os.environ.get('OFFICE_PASSWORD', '')}"
             self.headers["authorization"] = "Basic " + base64.b64encode(words.encode()).decode()
         self.number, self.request, self.patience, self.point, self.seen = number, request, patience, 0, {}
 
     def __exit__(self, *fault):
-        self.link.close()
+        self.connection.close()
 
     def ask(self, target):
         """The answer to a question, as "/households/1" (docs/HTTP.md). It is never older than what this clerk knows."""
@@ -86,7 +86,7 @@ class Clerk(contextlib.AbstractContextManager):
                 why = f"status {status}" if status in SEND_AGAIN else f"the book has {point} acts, and had {least}"
             except (OSError, http.client.HTTPException, ValueError) as fault:
                 why = str(fault) or repr(fault)
-            self.link.close()
+            self.connection.close()
             if time.monotonic() > end:
                 raise NoAnswer(why)
             time.sleep(pause)
@@ -97,8 +97,8 @@ class Clerk(contextlib.AbstractContextManager):
         return answer
 
     def send_once(self, method, target, body):
-        self.link.request(method, target, body, self.headers)
-        came = self.link.getresponse()
+        self.connection.request(method, target, body, self.headers)
+        came = self.connection.getresponse()
         text, length, point = came.read(), came.getheader("content-length"), came.getheader("book")
         if length is None:
             raise http.client.HTTPException("the answer was cut")
