@@ -3,7 +3,7 @@
 #
 #     examples/month-end.sh BOOK MONTH CLERK FOLDER
 #
-# It closes MONTH, and leaves three files in FOLDER: the voucher, the lines up to this closing as CSV, and a copy of the book.
+# It closes MONTH and leaves in FOLDER the voucher, the lines up to this closing as CSV, and a copy of the book with its log.
 # The annuals that are due after the month go to standard output. Given again it closes nothing twice and overwrites nothing.
 # CLERK is a number that only month ends use: the closing of 2024-02 is its request 202402.
 # OFFICE may name the program; else it is ./office of this repository.
@@ -80,29 +80,34 @@ print_due() {
 
 # A log above its 41 bytes has acts that the file doesn't have (docs/BOOK.md).
 check_log() {
-    [[ ! -e $book-wal || $(stat -c %s -- "$book-wal") -le 41 ]] || fail "another program has used $book meanwhile; give this again"
+    [[ $(stat -c %s -- "$book-wal") -le 41 ]] || fail "another program has used $book meanwhile; give this again"
 }
 
 copy_book() {
-    local copy=$folder/book-$month.copy
+    local copy=$folder/book-$month
     if [[ ! -e $copy ]]; then
         run "$book" batch </dev/null
         check_log
-        cp -- "$book" "$work/copy"
+        rm -rf -- "$copy.part"
+        mkdir -- "$copy.part" || fail "$copy can't be written"
+        cp -- "$book" "$book-wal" "$copy.part" || fail "$copy can't be written"
+        sync -- "$copy.part"/* "$copy.part" || fail "$copy can't be written"
         check_log
-        try_copy "$work/copy"
-        keep "$work/copy" "book-$month.copy"
+        try_copy "$copy.part"
+        mv -nT -- "$copy.part" "$copy"
+        sync -- "$folder"
     fi
     try_copy "$copy"
 }
 
 # Opens a copy of the copy, which does each of its acts again, and compares what it says of the month.
 try_copy() {
-    cp -- "$1" "$work/try"
-    rm -f -- "$work/try-wal"
+    cp -- "$1/${book##*/}" "$work/try" || fail "the copy $1 is not whole"
+    cp -- "$1/${book##*/}-wal" "$work/try-wal" || fail "the copy $1 is not whole"
+    "$office" --book "$work/try" batch </dev/null >"$work/said" || fail "the copy $1 can't be used: the program ends with status $?"
     write_lists "$work/try" "$work/try"
-    cmp -s "$work/try.txt" "$work/book.txt" || fail "$1 has another voucher of $month than $book"
-    cmp -s "$work/try.csv" "$work/book.csv" || fail "$1 has other lines up to $month than $book"
+    cmp -s "$work/try.txt" "$work/book.txt" || fail "the copy $1 has another voucher of $month than $book"
+    cmp -s "$work/try.csv" "$work/book.csv" || fail "the copy $1 has other lines up to $month than $book"
 }
 
 check_words "$@"
