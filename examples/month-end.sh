@@ -25,7 +25,7 @@ run() {
     4) fail "there is no room to write to" ;;
     5) fail "$1 can't be opened or written, or another program has it" ;;
     6) fail "$1 is not an office's book; docs/BOOK.md says what to do" ;;
-    *) fail "the program ended with status $status; docs/COMMANDS.md tells each" ;;
+    *) fail "the program ended with exit status $status; docs/COMMANDS.md tells each" ;;
     esac
 }
 
@@ -104,7 +104,7 @@ copy_book() {
 try_copy() {
     cp -- "$1/${book##*/}" "$work/try" || fail "the copy $1 is not whole"
     cp -- "$1/${book##*/}-wal" "$work/try-wal" || fail "the copy $1 is not whole"
-    "$office" --book "$work/try" batch </dev/null >"$work/said" || fail "the copy $1 can't be used: the program ends with status $?"
+    "$office" --book "$work/try" batch </dev/null >"$work/said" || fail "the copy $1 can't be used: the program ends with exit status $?"
     write_lists "$work/try" "$work/try"
     cmp -s "$work/try.txt" "$work/book.txt" || fail "the copy $1 has another voucher of $month than $book"
     cmp -s "$work/try.csv" "$work/book.csv" || fail "the copy $1 has other lines up to $month than $book"
