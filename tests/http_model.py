@@ -1,4 +1,4 @@
-"""What the office over HTTP has to answer to the bytes of a link, from the grammar of a head and the page docs/HTTP.md alone."""
+"""What the office over HTTP has to answer to the bytes of a connection, from the grammar of a head and the page docs/HTTP.md alone."""
 import datetime, re
 
 LIMIT = 16384
@@ -153,7 +153,7 @@ class Office:
         return 404, refusal("NoRoute")
 
     def next(self, sent):
-        """The response to the first message, what stands behind it, and whether the link ends; None where no message is whole yet."""
+        """The response to the first message, what stands behind it, and whether the connection ends; None if no message is whole yet."""
         try:
             method, target, minor, headers, size = head_of(sent[:LIMIT])
         except Hopeless:
@@ -169,8 +169,8 @@ class Office:
         status, body = self.routed(method, target, sent[size:size + length])
         return self.response(status, body, closes), sent[size + length:], closes
 
-    def link(self, sent):
-        """All that comes over a link that brings these bytes and then ends."""
+    def connection(self, sent):
+        """All that comes over a connection that brings these bytes and then ends."""
         answered, ended = b"", False
         while not ended and (step := self.next(sent)):
             response, sent, ended = step
