@@ -1,9 +1,8 @@
-"""Changed lines of a batch and changed messages of links: no run hangs, ends by a signal or writes to standard error, each answer is
+"""Changed lines of a batch and changed messages over HTTP: no run hangs, ends by a signal or writes to standard error, each answer is
 well formed, and the book is what the accepted acts make."""
-import contextlib, datetime, json, random, re, socket, subprocess, threading
+import json, random, re, threading
 
-from book_file import LINES, TOP, replied, rows
-from http_answers import Serving, first_answer
+from office_tests import LINES, TOP, Serving, content, day_text, examples, first_answer, lines_in, replied, rows
 
 NUMBERS = [b"0", b"-1", b"-0", b"1.0", b"1e3", b"4294967295", b"4294967296", b"99999999999999999999", b"9" * 400, b"true", b"null", b'""', b"[]", b"{}", b"01", b"+1", b"1" * 20]
 TEXTS = [b'"\\u0000"', b'"\xff"', b'"\\ud800"', b'"' + b"x" * 3000 + b'"', b'"\xc3\xa9"', b'" "', b'"\\u0041-101"', b'"2024-02-30"', b'"0000-01"', b'"9999-12-31"']
@@ -17,16 +16,9 @@ LONGEST = 16384
 
 def samples(tries):
     """Lines of acts of every kind and of questions of every kind, as the manual and a made office have them."""
-    found = []
-    for name in ("first-month", "first-year"):
-        with open(f"{TOP}/examples/{name}.jsonl", "rb") as file:
-            found += file.read().split(b"\n")
-    with open(f"{TOP}/docs/ACTS.md", "rb") as page:
-        found += re.findall(rb'^    (\{"today".*\})$', page.read(), re.MULTILINE)
-    with open(f"{TOP}/docs/COMMANDS.md", "rb") as page:
-        found += re.findall(rb'^    (\{"ask".*\})$', page.read(), re.MULTILINE)
-    found += subprocess.run([tries.program, "make", "2"], stdout=subprocess.PIPE, check=True).stdout.split(b"\n")
-    return [line for line in found if line]
+    acts = re.findall(rb'^    (\{"today".*\})$', content(f"{TOP}/docs/ACTS.md"), re.MULTILINE)
+    questions = re.findall(rb'^    (\{"ask".*\})$', content(f"{TOP}/docs/COMMANDS.md"), re.MULTILINE)
+    return examples() + acts + questions + [line.rstrip(b"\n") for line in tries.made(2)]
 
 
 def of_a_number(chance, text, places):
@@ -99,16 +91,12 @@ class Accepted:
         """Whether a file holds them and no other, and they are answered so again in a book of their own."""
         acts = rows(path, "acts", "n")
         tries.says(f"{name}: the acts in the book", [it[0] for it in acts], list(range(1, self.first + 1)) + sorted(self.replies))
-        lines = [b'{"today":"%s","clerk":%d,"request":%d,"act":%s}\n' % (day_of(it[4]), it[2], it[3], it[5].encode()) for it in acts]
+        lines = [f'{{"today":"{day_text(it[4])}","clerk":{it[2]},"request":{it[3]},"act":{it[5]}}}\n'.encode() for it in acts]
         again = path + ".again"
         status, out, err = tries.run(again, ["batch"], b"".join(lines))
         tries.says(f"{name}: the same acts in a book of their own", (status, err, out.split(b"\n")[self.first:-1]), (0, b"", [self.replies[it] for it in sorted(self.replies)]))
-        for table, order in (("records", "act"), ("lines", "act, place")):
-            tries.says(f"{name}: their {table}", rows(path, table, order), rows(again, table, order))
-
-
-def day_of(number):
-    return datetime.date.fromordinal(719163 + number).isoformat().encode()
+        tries.says(f"{name}: their records", rows(path, "records", "act"), rows(again, "records", "act"))
+        tries.says(f"{name}: their lines", lines_in(path), lines_in(again))
 
 
 def is_line(piece):
@@ -148,35 +136,22 @@ def some_message(chance, known):
 
 
 class Client(threading.Thread):
-    """Sends changed messages over so many links, and keeps the answers."""
+    """Sends changed messages over so many connections, and reads the answers."""
 
-    def __init__(self, serving, links, known, accepted, seed):
+    def __init__(self, serving, connections, known, accepted, seed):
         super().__init__()
-        self.serving, self.links, self.known, self.accepted, self.chance = serving, links, known, accepted, random.Random(seed)
+        self.serving, self.connections, self.known, self.accepted, self.chance = serving, connections, known, accepted, random.Random(seed)
         self.wrong, self.messages, self.answers = [], 0, 0
 
     def run(self):
-        for _ in range(self.links):
+        for _ in range(self.connections):
             stream = b"".join(some_message(self.chance, self.known) for _ in range(3))
             self.messages += 3
             try:
-                came = self.over_a_link(stream)
-                self.read(came)
+                cut = self.chance.randrange(len(stream) + 1) if self.chance.random() < 0.1 else 0
+                self.read(self.serving.answers(stream[:cut], stream[cut:]))
             except Exception as fault:
                 self.wrong.append((repr(fault)[:300], stream[:1500]))
-
-    def over_a_link(self, stream):
-        with self.serving.link() as link:
-            # The server may have ended the link by then.
-            with contextlib.suppress(BrokenPipeError, ConnectionResetError):
-                if self.chance.random() < 0.1:
-                    cut = self.chance.randrange(len(stream) + 1)
-                    link.socket.sendall(stream[:cut])
-                    stream = stream[cut:]
-                link.socket.sendall(stream)
-            with contextlib.suppress(OSError):
-                link.socket.shutdown(socket.SHUT_WR)
-            return link.rest()
 
     def read(self, came):
         point, last = 0, False
@@ -191,16 +166,16 @@ class Client(threading.Thread):
 def try_messages(tries, chance, count, seed):
     known, path, accepted, clients = samples(tries), tries.path("messages.book"), Accepted(4), 4
     tries.says("the office of the changed messages", tries.run(path, ["batch"], b"".join(LINES[:4])), (0, replied(4), b""))
-    links = -(-count // (3 * clients))
-    serving = Serving(tries, path, clients, links * clients)
-    clients = [Client(serving, links, known, accepted, f"{seed} {number}") for number in range(clients)]
+    connections = -(-count // (3 * clients))
+    serving = Serving(tries, path, clients, connections * clients)
+    clients = [Client(serving, connections, known, accepted, f"{seed} {number}") for number in range(clients)]
     for client in clients:
         client.start()
     for client in clients:
         client.join()
     name = f"changed messages of seed {seed}"
     tries.says(f"{name}: answers of another form, or none", [it for client in clients for it in client.wrong][:3], [])
-    tries.says(f"{name}: the end", serving.end(), (0, b"book %d\n" % (4 + len(accepted.replies)), b""))
+    serving.ends(f"{name}: the end", 4 + len(accepted.replies))
     accepted.are_in(tries, name, path)
     sent, answers = (sum(getattr(client, it) for client in clients) for it in ("messages", "answers"))
     print(f"{sent} changed messages of seed {seed}: {answers} were answered, {len(accepted.replies)} acts accepted", flush=True)

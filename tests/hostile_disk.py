@@ -1,8 +1,7 @@
 """The order of writes, syncs and replies, by strace; and disks that fill up, leave that is taken away, and logs that aren't the file's."""
 import contextlib, os, re, shutil, signal, sqlite3, subprocess, tempfile, threading
 
-from book_file import LINES, copied, replied, rows, unit_line
-from http_answers import Serving, free_port
+from office_tests import APPLICANTS, AS_NOBODY, ASK_HOUSEHOLD, LINES, Serving, applicant_rows, call, content, copied, free_port, get, replied, rows, unit, unit_line
 
 CALLS = "trace=pwrite64,pwritev,write,writev,sendto,sendmsg,fdatasync,fsync,ftruncate"
 BEGUN = re.compile(r'(\d+) +(\w+)\((\d+)<([^>]*)>(?:, "([^"]*)")?')
@@ -61,7 +60,7 @@ def batch_order(tries, count):
     """Units with a name of their own, and between them what leaves nothing in the file: a question, a repeat, a refusal."""
     path, trace = tries.path("order.book"), tries.path("order.trace")
     acts = LINES + [unit_line(request) for request in range(10, 10 + count)]
-    quiet = [b'{"ask":{"kind":"household","household":1}}\n', LINES[0], unit_line(2)]
+    quiet = [ASK_HOUSEHOLD, LINES[0], unit_line(2)]
     lines = [it for at, act in enumerate(acts) for it in (act, quiet[at % 3])]
     status, out, err = tries.run(path, ["batch"], b"".join(lines), before=traced(tries, trace))
     replies = list(unsynced(trace, path, lambda number, given: number == 1))
@@ -79,17 +78,17 @@ def serve_order(tries, count):
     tries.run(path, ["batch"], LINES[0])
     serving = Serving(tries, path, clerks, clerks, before=traced(tries, trace))
 
-    def post(clerk):
-        with serving.link() as link:
-            for request in range(count):
-                link.asked(b'{"clerk":%d,"request":%d,"act":{"kind":"unit","name":"C%dR%d","group":1,"bedrooms":1,"accessible":false}}' % (clerk, request + 1, clerk, request))
+    def posts(clerk):
+        with serving.connect() as connection:
+            for request in range(1, 1 + count):
+                connection.posted(call(clerk, request, unit(f"C{clerk}R{request}")))
 
-    threads = [threading.Thread(target=post, args=(clerk,)) for clerk in range(2, 2 + clerks)]
+    threads = [threading.Thread(target=posts, args=(clerk,)) for clerk in range(2, 2 + clerks)]
     for thread in threads:
         thread.start()
     for thread in threads:
         thread.join()
-    tries.says("a traced server", serving.end(), (0, b"book %d\n" % (1 + clerks * count), b""))
+    serving.ends("a traced server", 1 + clerks * count)
     acts = {it[0]: it for it in rows(path, "acts", "n")}
     replies = [it for it in unsynced(trace, path, lambda number, given: given.startswith(b"HTTP/1.1 201"))]
     tries.says("traced responses", len(replies), clerks * count)
@@ -101,7 +100,7 @@ def serve_order(tries, count):
 
 def try_order(tries, count):
     if not shutil.which("strace"):
-        print("the order on the disk: not tried, as there is no strace here", flush=True)
+        print("strace isn't there, so the order of writes, syncs and replies is not tried", flush=True)
         return
     batch_order(tries, count)
     serve_order(tries, count)
@@ -141,23 +140,21 @@ def sends_the_rest(tries, name, path, words, told, header, lines):
 
 def full_disks(tries, chance):
     """Batches and an import, until there is no room; then there is."""
-    units = [unit_line(request) for request in range(2, 2000)]
-    applicants = [f"{request},Applicant {request},1,1,no,,9600\n".encode() for request in range(2, 2000)]
-    header = b"request,name,size,persons,accessible,preferences,annual\n"
+    units, applicants = list(map(unit_line, range(2, 2000))), applicant_rows(2, 2000)
     for number in range(6):
         size = f"{chance.randrange(500, 1200)}k"
         room = Room(tries, size)
         with room as path:
             if not path:
-                print("full disks: not tried, as no file system can be mounted here", flush=True)
+                print("no file system can be mounted here, so full disks are not tried", flush=True)
                 return False
             tries.says("the plan", tries.run(path, ["batch"], LINES[0])[0], 0)
-            words, header_, lines = (["batch"], b"", units) if number % 2 else (["import", "1"], header, applicants)
-            status, replies, said = tries.run(path, words, header_ + b"".join(lines))
+            words, header, lines = (["batch"], b"", units) if number % 2 else (["import", "1"], APPLICANTS, applicants)
+            status, replies, said = tries.run(path, words, header + b"".join(lines))
             told, name = replies.count(b"\n"), f"{words[0]} in {size}"
             tries.says(f"{name}: it is full", (status, said, replies[-1:], 0 < told < len(lines)), (5, b"", b"\n", True))
             room.grow("16m")
-            sends_the_rest(tries, name, path, words, told + 1, header_, lines)
+            sends_the_rest(tries, name, path, words, told + 1, header, lines)
     return True
 
 
@@ -167,31 +164,30 @@ def full_server(tries):
     with room as path:
         tries.run(path, ["batch"], LINES[0])
         serving, told = Serving(tries, path, 2, 1), []
-        post = lambda link, request: link.asked(b'{"clerk":2,"request":%d,"act":{"kind":"unit","name":"S%d","group":1,"bedrooms":1,"accessible":false}}' % (request, request))
-        with serving.link() as link:
+        post = lambda connection, request: connection.posted(call(2, request, unit(f"S{request}")))
+        with serving.connect() as connection:
             while not told or told[-1].status == 201 and len(told) < 2000:
-                told.append(post(link, len(told) + 1))
+                told.append(post(connection, len(told) + 1))
             tries.says("the full disk's answer", (told[-1].status, told[-1].body), (503, b'{"refused":{"kind":"Store"}}'))
             tries.says("its point", told[-1].book, len(told))
-            tries.says("a question at a full disk", link.sent(b"GET /due/2024-01-01 HTTP/1.1\r\n\r\n")[:2], (200, len(told)))
+            tries.says("a question at a full disk", connection.sent(get("/due/2024-01-01"))[:2], (200, len(told)))
             room.grow("16m")
-            again = [post(link, len(told)) for _ in range(2)]
+            again = [post(connection, len(told)) for _ in range(2)]
         tries.says("the act once there is room, and again", ([it.status for it in again], again[0].body == again[1].body), ([201, 201], True))
-        tries.says("the end of a server at a full disk", serving.end(), (0, b"book %d\n" % (len(told) + 1), b""))
+        serving.ends("the end of a server at a full disk", len(told) + 1)
         tries.says("its acts", [it[2:4] for it in rows(path, "acts", "n")][1:], [(2, request) for request in range(1, len(told) + 1)])
         tries.says("its book opens", tries.run(path, ["batch"]), (0, b"", b""))
 
 
 def in_mid_run(tries, path, change):
     """The answers of a batch of nine acts, to which something happens once the third is answered."""
-    nobody = ["setpriv", "--reuid=65534", "--regid=65534", "--clear-groups"] if os.geteuid() == 0 else []
-    process = subprocess.Popen([*nobody, tries.program, "--book", path, "batch"], stdin=subprocess.PIPE, stdout=subprocess.PIPE, stderr=subprocess.PIPE)
+    process = subprocess.Popen([*AS_NOBODY, *tries.words(path, "batch")], stdin=subprocess.PIPE, stdout=subprocess.PIPE, stderr=subprocess.PIPE)
     process.stdin.write(b"".join(LINES[:3]))
     process.stdin.flush()
     first = b"".join(process.stdout.readline() for _ in range(3))
     change()
     rest, said = process.communicate(b"".join(LINES[3:]), timeout=60)
-    return process.returncode, first + rest, said, lambda: tries.run(path, ["batch"], b"".join(LINES), before=nobody)
+    return process.returncode, first + rest, said, lambda: tries.run(path, ["batch"], b"".join(LINES), before=AS_NOBODY)
 
 
 def taken_leave(tries):
@@ -215,7 +211,7 @@ def frozen_log(tries):
     freeze = lambda sign: subprocess.run(["chattr", sign + "i", path + "-wal"], capture_output=True).returncode
     open(path + "-wal", "wb").close()
     if not shutil.which("chattr") or freeze("+"):
-        print("a log that can't be written: not tried, as this file system has no such mark", flush=True)
+        print("this file system has no mark against writing, so a log that can't be written is not tried", flush=True)
         return
     freeze("-")
     os.chmod(path + "-wal", 0o666)
@@ -229,9 +225,9 @@ def nobody_reads(tries):
     """A batch whose replies can't be written ends with status 4, and the act of the reply that wasn't is kept."""
     path = tries.path("unread.book")
     with open("/dev/full", "wb") as full:
-        ran = subprocess.run([tries.program, "--book", path, "batch"], input=b"".join(LINES), stdout=full, stderr=subprocess.PIPE, timeout=60)
-    tries.says("replies to a full device", (ran.returncode, ran.stderr, len(rows(path, "acts", "n"))), (4, b"", 1))
-    process = subprocess.Popen([tries.program, "--book", path, "batch"], stdin=subprocess.PIPE, stdout=subprocess.PIPE, stderr=subprocess.PIPE)
+        status, _, said = tries.run(path, ["batch"], b"".join(LINES), stdout=full)
+    tries.says("replies to a full device", (status, said, len(rows(path, "acts", "n"))), (4, b"", 1))
+    process = subprocess.Popen(tries.words(path, "batch"), stdin=subprocess.PIPE, stdout=subprocess.PIPE, stderr=subprocess.PIPE)
     process.stdin.write(LINES[0])
     process.stdin.flush()
     tries.says("a reply that is read", process.stdout.readline(), replied(1))
@@ -248,7 +244,7 @@ def nobody_reads(tries):
 def limited_files(tries):
     """A limit on the length of files ends the program by a signal, as a kill does."""
     if not shutil.which("prlimit"):
-        print("a limit on the length of files: not tried, as there is no prlimit here", flush=True)
+        print("prlimit isn't there, so a limit on the length of files is not tried", flush=True)
         return
     for limit in (1_000, 50_000, 300_000):
         path = tries.path(f"limit-{limit}.book")
@@ -273,22 +269,22 @@ def second_program(tries):
     """While a server has the file no other program gets it, and the server goes on."""
     path = tries.book("shared.book")
     serving = Serving(tries, path, 1, 2)
-    with serving.link() as link:
-        ask = b"GET /households/1 HTTP/1.1\r\n\r\n"
-        tries.says("the first program", link.sent(ask)[:2], (200, 9))
+    with serving.connect() as connection:
+        ask = get("/households/1")
+        tries.says("the first program", connection.sent(ask)[:2], (200, 9))
         for words in (["batch"], ["export"], ["serve", str(free_port()), "1", "1"]):
             tries.says(f"a second program, {words[0]}", tries.run(path, words, LINES[0]), (5, b"", b""))
         tries.says("a reader of SQLite", read_by_sqlite(path), "database is locked")
-        tries.says("the first program again", link.sent(ask)[:2], (200, 9))
-    serving.link().reset()
-    tries.says("its end", serving.end(), (0, b"book 9\n", b""))
+        tries.says("the first program again", connection.sent(ask)[:2], (200, 9))
+    serving.connect().reset()
+    serving.ends("its end", 9)
 
 
 # ---- logs
 
 def killed_after(tries, path, lines):
     """A batch that is killed once all these lines are answered: the file, and the log as it lies beside it."""
-    process = subprocess.Popen([tries.program, "--book", path, "batch"], stdin=subprocess.PIPE, stdout=subprocess.PIPE)
+    process = subprocess.Popen(tries.words(path, "batch"), stdin=subprocess.PIPE, stdout=subprocess.PIPE)
     process.stdin.write(b"".join(lines))
     process.stdin.flush()
     for _ in lines:
@@ -296,11 +292,6 @@ def killed_after(tries, path, lines):
     process.kill()
     process.communicate()
     return content(path), content(path + "-wal")
-
-
-def content(path):
-    with open(path, "rb") as file:
-        return file.read()
 
 
 def opened(tries, file, log):
@@ -319,7 +310,7 @@ def other_logs(tries, chance, count):
     nine = [(1, request) for request in range(1, 10)]
     whole, own = content(tries.book("whole.book")), content(tries.path("whole.book-wal"))
     killed, log = killed_after(tries, tries.path("killed.book"), LINES[:6])
-    other = killed_after(tries, tries.path("other.book"), [LINES[0]] + [unit_line(request) for request in range(2, 60)])[1]
+    other = killed_after(tries, tries.path("other.book"), [LINES[0], *map(unit_line, range(2, 60))])[1]
     fit = [own, None, b"", log[:31], log[:55], *(chance.randbytes(chance.randrange(1, 100_000)) for _ in range(count))]
     for held in fit:
         tries.says(f"a whole file beside {held and held[:60]!r}", opened(tries, whole, held), ((0, b"", b""), nine))

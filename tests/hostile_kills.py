@@ -1,10 +1,8 @@
 """Kills at random moments: of batches, imports and a server of four workers, over one file as the kill before left it."""
-import json, os, subprocess, threading, time
+import json, subprocess, threading, time
 
-from book_file import ACTS, LINES, copied, rows, unit_line
-from http_answers import Serving
+from office_tests import APPLICANTS, LINES, Serving, applicant, applicant_rows, call, content, copied, rows, unit_line
 
-HEADER = b"request,name,size,persons,accessible,preferences,annual\n"
 FULL = 1500
 
 
@@ -20,15 +18,14 @@ class Lines:
 
 
 def of_batch(tries, number):
-    units = [unit_line(request) for request in range(len(LINES) + 1, FULL + 1000)]
-    return Lines(["batch"], tries.path(f"batch-{number}.book"), b"", LINES + units, [], 1)
+    units = map(unit_line, range(len(LINES) + 1, FULL + 1000))
+    return Lines(["batch"], tries.path(f"batch-{number}.book"), b"", [*LINES, *units], [], 1)
 
 
 def of_import(tries, number):
     path = tries.path(f"import-{number}.book")
     tries.run(path, ["batch"], LINES[0])
-    applicants = [f"{request},Applicant {request},1,1,no,,9600\n".encode() for request in range(2, FULL + 1000)]
-    return Lines(["import", "2"], path, HEADER, applicants, [(1, 1)], 2)
+    return Lines(["import", "2"], path, APPLICANTS, applicant_rows(2, FULL + 1000), [(1, 1)], 2)
 
 
 def opening_time(tries):
@@ -44,12 +41,11 @@ def killed(tries, moment, path, words, given):
     with open(tries.path("given"), "wb") as file:
         file.write(given)
     with open(tries.path("given"), "rb") as source, open(tries.path("written"), "wb") as sink:
-        process = subprocess.Popen([tries.program, "--book", path, *words], stdin=source, stdout=sink, stderr=subprocess.PIPE)
+        process = subprocess.Popen(tries.words(path, *words), stdin=source, stdout=sink, stderr=subprocess.PIPE)
         time.sleep(moment)
         process.kill()
         said = process.communicate()[1]
-    with open(tries.path("written"), "rb") as sink:
-        return sink.read().split(b"\n")[:-1], said
+    return content(tries.path("written")).split(b"\n")[:-1], said
 
 
 def held_in(tries, name, path):
@@ -81,7 +77,7 @@ def kill_lines(tries, chance, moments, book, name):
 
 
 class Clerk(threading.Thread):
-    """Posts one act after another over one link, each once the one before is answered, until the link breaks."""
+    """Posts one act after another over one connection, each once the one before is answered, until the connection breaks."""
 
     def __init__(self, number, serving, done, chance):
         super().__init__()
@@ -90,27 +86,27 @@ class Clerk(threading.Thread):
 
     def run(self):
         try:
-            with self.serving.link() as link:
+            with self.serving.connect() as connection:
                 while True:
                     request = self.chance.randrange(1, self.request) if self.request > 1 and self.chance.random() < 0.1 else self.request
-                    self.post(link, request)
+                    self.post(connection, request)
                     self.request = max(self.request, request + 1)
         except (OSError, EOFError):
             pass
 
-    def post(self, link, request):
-        answer = link.asked(call(self.number, request))
+    def post(self, connection, request):
+        answer = connection.posted(call_of(self.number, request))
         first = self.done.setdefault((self.number, request), answer.body)
         if answer.status != 201 or answer.body != first:
             self.wrong.append((request, answer, first))
 
 
 def act_of(clerk, request):
-    return {"kind": "apply", "name": f"Clerk {clerk} of {request}", "size": 1, "persons": 1, "preferences": [], "accessible": False, "annual": 9000}
+    return applicant(f"Clerk {clerk} of {request}")
 
 
-def call(clerk, request):
-    return json.dumps({"clerk": clerk, "request": request, "act": act_of(clerk, request)}, separators=(",", ":")).encode()
+def call_of(clerk, request):
+    return call(clerk, request, act_of(clerk, request))
 
 
 def kill_server(tries, chance, moments, path, done, name):
@@ -134,7 +130,7 @@ def kill_server(tries, chance, moments, path, done, name):
     tries.says(f"{name}: each in its place", {key: kept[key][0] for key in done if key in kept}, numbers)
     tries.says(f"{name}: each as it was sent", [key for key, it in kept.items() if json.loads(it[5]) != act_of(*key)], [])
     last = sorted(done)[-200:]
-    again = tries.run(chance.choice([copy, path]), ["batch"], b"".join(call(*key) + b"\n" for key in last))
+    again = tries.run(chance.choice([copy, path]), ["batch"], b"".join(call_of(*key) + b"\n" for key in last))
     tries.says(f"{name}: again", again, (0, b"".join(done[key] + b"\n" for key in last), b""))
     return len(set(kept) - set(done)), len(kept)
 

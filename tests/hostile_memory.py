@@ -2,10 +2,9 @@
 The status is one of README's table and no signal, and the file holds the acts that were acknowledged, or these and the one in work."""
 import os, shutil, subprocess, sys, tempfile
 
-from book_file import FACTS, LINES, TOP, copied, replied, rows, unit_line
-from http_answers import Serving
+from office_tests import APPLICANTS, ASK_HOUSEHOLD, FACTS, LINES, TOP, Serving, content, copied, get, post, replied, rows, unit_line
 
-INTERIM = '{"clerk":2,"request":50,"act":{"kind":"interim","household":1,"seen":1,"event":"2024-01-20","notice":"2024-01-25","done":"2024-02-01","from":"2024-03-01","facts":%s}}' % FACTS
+INTERIM = b'{"clerk":2,"request":50,"act":{"kind":"interim","household":1,"seen":1,"event":"2024-01-20","notice":"2024-01-25","done":"2024-02-01","from":"2024-03-01","facts":%s}}' % FACTS.encode()
 WAYS = ("REFUSE_FROM", "REFUSE_ONLY")
 
 
@@ -22,16 +21,15 @@ class Refusing:
         """How many allocations a run takes."""
         told = self.tries.path("told")
         run(self.with_refused("REFUSE_ONLY", 0, told))
-        with open(told, "rb") as file:
-            return int.from_bytes(file.read(8), sys.byteorder)
+        return int.from_bytes(content(told)[:8], sys.byteorder)
 
 
 def shim_of(tries):
-    """None where the program can't be given one."""
+    """None if the program can't be given one."""
     compiler, shim = shutil.which("gcc") or shutil.which("cc"), tries.path("refuse.so")
     is_linked = compiler and b"malloc" in subprocess.run(["nm", "-D", tries.program], capture_output=True).stdout
     if not is_linked or subprocess.run([compiler, "-O2", "-shared", "-fPIC", "-o", shim, f"{TOP}/tests/refuse.c"]).returncode:
-        print("refused memory: not tried, as there is no C compiler here, or the program takes its memory otherwise", flush=True)
+        print("there is no C compiler here, or the program takes its memory otherwise, so refused memory is not tried", flush=True)
         return None
     return shim
 
@@ -69,12 +67,12 @@ def refused_batches(refusing, most):
 def refused_openings(refusing, most):
     """A book of a made office, which is opened, asked and left as it is."""
     tries = refusing.tries
-    path, lines = tries.path("many.book"), subprocess.run([tries.program, "make", "12"], stdout=subprocess.PIPE).stdout
-    tries.says("a book of a made office", tries.run(path, ["batch"], lines)[0], 0)
-    ask, seen, held = b'{"ask":{"kind":"household","household":1}}\n', {}, rows(path, "acts", "n")
+    path = tries.path("many.book")
+    tries.says("a book of a made office", tries.run(path, ["batch"], b"".join(tries.made(12)))[0], 0)
+    seen, held = {}, rows(path, "acts", "n")
     tries.run(path, ["batch"])
-    whole = tries.run(path, ["batch"], ask)
-    run = lambda env: tries.run(path, ["batch"], ask, env=env)
+    whole = tries.run(path, ["batch"], ASK_HOUSEHOLD)
+    run = lambda env: tries.run(path, ["batch"], ASK_HOUSEHOLD, env=env)
     total = refusing.taken(run)
     for way in WAYS:
         for number in numbers(total, most):
@@ -82,7 +80,7 @@ def refused_openings(refusing, most):
             seen[status] = seen.get(status, 0) + 1
             wanted = whole if status == 0 else (7, b"", b"")
             tries.says(f"an opening, {way}={number}", (status, out, err), wanted)
-    tries.says("the book after the openings", tries.run(path, ["batch"], ask), whole)
+    tries.says("the book after the openings", tries.run(path, ["batch"], ASK_HOUSEHOLD), whole)
     tries.says("its acts", rows(path, "acts", "n"), held)
     return f"{total} allocations of opening a book of {len(held)} acts: {seen}"
 
@@ -107,28 +105,28 @@ def refused_full(refusing, most):
     return f"opening a book of 100,000 acts, each of its first 200 allocations: {seen}"
 
 
-def two_links(serving):
-    """The answers over two links, each as far as it goes: an act and a question, and a second act."""
-    answers = []
-    for messages in ((INTERIM.encode(), b""), (LINES[4][:1] + LINES[4][LINES[4].index(b'"clerk"'):-1],)):
+def two_connections(serving):
+    """The answers over two connections, each as far as it goes: an act and a question, and a second act."""
+    answers, closing = [], LINES[4][:1] + LINES[4][LINES[4].index(b'"clerk"'):-1]
+    for messages in ((post(INTERIM), get("/households/1")), (post(closing),)):
         try:
-            with serving.link() as link:
-                for body in messages:
-                    answers.append(link.asked(body) if body else link.sent(b"GET /households/1 HTTP/1.1\r\n\r\n"))
+            with serving.connect() as connection:
+                for message in messages:
+                    answers.append(connection.sent(message))
         except (EOFError, ConnectionError):
             answers.append(None)
     return answers
 
 
 def refused_servers(refusing, most):
-    """Two links of a server on the book of four acts: an interim with a question, and a closing."""
+    """Two connections of a server on the book of four acts: an interim with a question, and a closing."""
     tries = refusing.tries
     first, path, copy, seen = tries.path("four.book"), tries.path("served.book"), tries.path("copy.book"), {}
     tries.run(first, ["batch"], b"".join(LINES[:4]))
 
     def run(env):
         serving = Serving(tries, copied(first, path), 1, 2, env=env)
-        return two_links(serving), serving.end()
+        return two_connections(serving), serving.end()
 
     total = refusing.taken(run)
     for way in WAYS:
@@ -141,29 +139,25 @@ def refused_servers(refusing, most):
             held = [it[2:4] for it in rows(copy, "acts", "n")]
             tries.says(f"{name}: the book", (held[:4], set(held[4:]) <= {(2, 50), (1, 5)}, len(held) - 4 >= len(told)), ([(1, it) for it in range(1, 5)], True, True))
             tries.says(f"{name}: the line", out, b"book %d\n" % len(held) if status == 0 else b"")
-    return f"{total} allocations of a server of two links: {seen}"
+    return f"{total} allocations of a server of two connections: {seen}"
 
 
 def commands(tries):
     """The other commands, each with its input, on a book and without one."""
-    applicants = b"request,name,size,persons,accessible,preferences,annual\n" + b"".join(b"%d,Name %d,1,1,no,1;2,9600\n" % (it, it) for it in range(20, 26))
-    with open(f"{TOP}/examples/one-household.json", "rb") as file:
-        household = file.read()
-    book = ["--book", tries.book("reported.book")]
+    household = content(f"{TOP}/examples/one-household.json")
     for words in (["assess"], ["make", "2"], ["trial", "1"], ["voucher", "2024-03"], ["nonsense"], ["serve", "99999", "1", "1"]):
-        yield words, household
+        yield None, words, household
+    applicants = APPLICANTS + b"".join(b"%d,Name %d,1,1,no,1;2,9600\n" % (it, it) for it in range(20, 26))
+    book = tries.book("reported.book")
     for words in (["export"], ["voucher", "2024-03"], ["due", "2024-09-03"], ["targets", "2024-01-01"], ["import", "2"]):
-        yield book + words, applicants
+        yield book, words, applicants
 
 
 def refused_commands(refusing, most):
     """Each of them ends as ever, or with status 7 after a front of what it writes."""
     tries, seen = refusing.tries, {}
-    for words, given in commands(tries):
-        def run(env):
-            ran = subprocess.run([tries.program, *words], input=given, stdout=subprocess.PIPE, stderr=subprocess.PIPE, timeout=60, env=env)
-            return ran.returncode, ran.stdout, ran.stderr
-
+    for book, words, given in commands(tries):
+        run = lambda env: tries.run(book, words, given, env=env)
         total = refusing.taken(run)
         whole = run(os.environ)
         for way in WAYS:
