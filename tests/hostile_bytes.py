@@ -2,7 +2,7 @@
 well formed, and the book is what the accepted acts make."""
 import json, random, re, threading
 
-from office_tests import LINES, TOP, Serving, content, day_text, examples, first_answer, lines_in, replied, rows
+from office_tests import LINES, TOP, Serving, content, day_text, examples, first_answer, lines_in, replied, rows, run_together
 
 NUMBERS = [b"0", b"-1", b"-0", b"1.0", b"1e3", b"4294967295", b"4294967296", b"99999999999999999999", b"9" * 400, b"true", b"null", b'""', b"[]", b"{}", b"01", b"+1", b"1" * 20]
 TEXTS = [b'"\\u0000"', b'"\xff"', b'"\\ud800"', b'"' + b"x" * 3000 + b'"', b'"\xc3\xa9"', b'" "', b'"\\u0041-101"', b'"2024-02-30"', b'"0000-01"', b'"9999-12-31"']
@@ -169,10 +169,7 @@ def try_messages(tries, chance, count, seed):
     connections = -(-count // (3 * clients))
     serving = Serving(tries, path, clients, connections * clients)
     clients = [Client(serving, connections, known, accepted, f"{seed} {number}") for number in range(clients)]
-    for client in clients:
-        client.start()
-    for client in clients:
-        client.join()
+    run_together(clients)
     name = f"changed messages of seed {seed}"
     tries.says(f"{name}: answers of another form, or none", [it for client in clients for it in client.wrong][:3], [])
     serving.ends(f"{name}: the end", 4 + len(accepted.replies))

@@ -1,7 +1,7 @@
-"""The order of writes, syncs and replies, by strace; and disks that fill up, leave that is taken away, and logs that aren't the file's."""
+"""The order of writes, syncs and replies, by strace; and disks that fill up, files that are made read-only, and logs that aren't the file's."""
 import contextlib, os, re, shutil, signal, sqlite3, subprocess, tempfile, threading
 
-from office_tests import APPLICANTS, AS_NOBODY, ASK_HOUSEHOLD, LINES, Serving, applicant_rows, call, content, copied, free_port, get, replied, rows, unit, unit_line
+from office_tests import APPLICANTS, AS_NOBODY, ASK_HOUSEHOLD, LINES, Serving, applicant_rows, call, content, copied, free_port, get, replied, rows, run_together, unit, unit_line
 
 CALLS = "trace=pwrite64,pwritev,write,writev,sendto,sendmsg,fdatasync,fsync,ftruncate"
 BEGUN = re.compile(r'(\d+) +(\w+)\((\d+)<([^>]*)>(?:, "([^"]*)")?')
@@ -83,11 +83,7 @@ def serve_order(tries, count):
             for request in range(1, 1 + count):
                 connection.posted(call(clerk, request, unit(f"C{clerk}R{request}")))
 
-    threads = [threading.Thread(target=posts, args=(clerk,)) for clerk in range(2, 2 + clerks)]
-    for thread in threads:
-        thread.start()
-    for thread in threads:
-        thread.join()
+    run_together([threading.Thread(target=posts, args=(clerk,)) for clerk in range(2, 2 + clerks)])
     serving.ends("a traced server", 1 + clerks * count)
     acts = {it[0]: it for it in rows(path, "acts", "n")}
     replies = [it for it in unsynced(trace, path, lambda number, given: given.startswith(b"HTTP/1.1 201"))]
@@ -110,7 +106,7 @@ def try_order(tries, count):
 # ---- disks
 
 class Room:
-    """A small file system in memory, where one may be mounted."""
+    """A small file system in memory, if one may be mounted."""
 
     def __init__(self, tries, size):
         self.path = tempfile.mkdtemp(prefix="room-", dir=tries.folder)
@@ -190,23 +186,23 @@ def in_mid_run(tries, path, change):
     return process.returncode, first + rest, said, lambda: tries.run(path, ["batch"], b"".join(LINES), before=AS_NOBODY)
 
 
-def taken_leave(tries):
+def made_read_only(tries):
     """The file, or its folder, may no longer be written: a run that has them goes on, and the next one is told."""
     for what, next_status in (("file", 5), ("folder", 0)):
-        folder = tries.path(f"leave-{what}")
+        folder = tries.path(f"read-only-{what}")
         os.mkdir(folder)
         os.chmod(folder, 0o777)
         path = os.path.join(folder, "book")
         changed, mode, back = (path, 0o444, 0o666) if what == "file" else (folder, 0o555, 0o777)
         *came, again = in_mid_run(tries, path, lambda: os.chmod(changed, mode))
-        tries.says(f"a {what} without leave in mid-run", came, [0, replied(9), b""])
-        tries.says(f"a {what} without leave", again(), (next_status, replied(9) if next_status == 0 else b"", b""))
+        tries.says(f"a {what} that becomes read-only in mid-run", came, [0, replied(9), b""])
+        tries.says(f"a {what} that is read-only", again(), (next_status, replied(9) if next_status == 0 else b"", b""))
         os.chmod(changed, back)
-        tries.says(f"a {what} with leave again", again(), (0, replied(9), b""))
+        tries.says(f"a {what} that is writable again", again(), (0, replied(9), b""))
 
 
 def frozen_log(tries):
-    """No write to the log succeeds from some moment on, where the file system can do that."""
+    """No write to the log succeeds from some moment on, if the file system can do that."""
     path = tries.path("frozen.book")
     freeze = lambda sign: subprocess.run(["chattr", sign + "i", path + "-wal"], capture_output=True).returncode
     open(path + "-wal", "wb").close()
@@ -330,7 +326,7 @@ def other_logs(tries, chance, count):
 def try_disks(tries, chance, count):
     if full_disks(tries, chance):
         full_server(tries)
-    taken_leave(tries)
+    made_read_only(tries)
     frozen_log(tries)
     nobody_reads(tries)
     limited_files(tries)

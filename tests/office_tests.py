@@ -99,7 +99,7 @@ class ProgramTries(Tries):
         for it, times in collections.Counter(exchanges).items() if check else ():
             method, target, asked, body, status, told, answer = it
             faults = check(method, target, dict(asked), body, status, dict(told), answer)
-            self.says(f"{method} {target}, answered {status}: faults by docs/openapi.yaml", faults, [])
+            self.says(f"faults by docs/openapi.yaml of {method} {target} {body!r:.500}, answered {status} {answer!r:.500}", faults, [])
             self.checked += times
 
 
@@ -109,6 +109,13 @@ def check_exchange():
         return None
     import openapi_check
     return openapi_check.check_exchange
+
+
+def run_together(threads):
+    for thread in threads:
+        thread.start()
+    for thread in threads:
+        thread.join()
 
 
 def content(path):
