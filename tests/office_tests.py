@@ -339,10 +339,14 @@ class Serving:
 
     def __init__(self, tries, book, workers, connections, before=(), **how):
         self.tries, self.port = tries, free_port()
-        words = [*before, *tries.words(book, "serve", str(self.port), str(workers), str(connections))]
-        how = {"stdin": subprocess.DEVNULL, "stdout": subprocess.PIPE, "stderr": subprocess.PIPE} | how
-        self.process = subprocess.Popen(words, **how)
-        tries.servers.append(self.process)
+        self.words = [*before, *tries.words(book, "serve", str(self.port), str(workers), str(connections))]
+        self.how = {"stdin": subprocess.DEVNULL, "stdout": subprocess.PIPE, "stderr": subprocess.PIPE} | how
+        self.start()
+
+    def start(self):
+        """Also once more on its port, after it was killed."""
+        self.process = subprocess.Popen(self.words, **self.how)
+        self.tries.servers.append(self.process)
 
     def connect(self, seconds=20):
         """A connection, once the server listens; EOFError if it has ended."""
