@@ -425,7 +425,8 @@ class Relay(threading.Thread):
 
     def __exit__(self, *_):
         self.listening.shutdown(socket.SHUT_RDWR)
-        self.join()
+        # A server that hangs must not hold up the test.
+        self.join(20)
         self.listening.close()
 
     def run(self):
