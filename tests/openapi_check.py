@@ -41,7 +41,20 @@ def repeated(validator, told, instance, schema):
             GOOD[key] = told
 
 
-Validator = jsonschema.validators.extend(jsonschema.Draft202012Validator, {"x-choices": chosen, "x-repeated": repeated})
+def has_other_members(schema, instance):
+    """The schema is of a closed object, and the value can't be one by its members' names alone."""
+    is_closed = schema.get("additionalProperties") is False
+    return is_closed and not (isinstance(instance, dict) and set(schema["required"]) <= set(instance) <= set(schema["properties"]))
+
+
+def one_of(validator, choices, instance, schema):
+    """As jsonschema's own, but what can't fit by its members' names isn't tried."""
+    fitting = [it for it in choices if not has_other_members(it, instance) and not any(validator.descend(instance, it))]
+    if len(fitting) != 1:
+        yield jsonschema.ValidationError(f"{instance!r:.200} is {len(fitting)} of the {len(choices)} that it may be")
+
+
+Validator = jsonschema.validators.extend(jsonschema.Draft202012Validator, {"x-choices": chosen, "x-repeated": repeated, "oneOf": one_of})
 DATES = jsonschema.FormatChecker(["date"])
 
 
@@ -278,8 +291,17 @@ def asks_for_the_end(request_headers):
     return any(name == "connection" and value.lower() == "close" for name, value in pairs_of(request_headers))
 
 
-@functools.lru_cache(None)
+ONE = threading.Lock()
+
+
 def document():
+    """The one whose counts summary tells, also if several threads ask for it at once."""
+    with ONE:
+        return the_document()
+
+
+@functools.lru_cache(None)
+def the_document():
     return Document()
 
 
