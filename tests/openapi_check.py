@@ -55,7 +55,6 @@ def one_of(validator, choices, instance, schema):
 
 
 Validator = jsonschema.validators.extend(jsonschema.Draft202012Validator, {"x-choices": chosen, "x-repeated": repeated, "oneOf": one_of})
-DATES = jsonschema.FormatChecker(["date"])
 
 
 class Schemas:
@@ -142,7 +141,7 @@ class Parameter:
     """A value that is told by a text, in the target or in a header."""
 
     def __init__(self, schema):
-        self.is_number, self.validator = schema.get("type") == "integer", Validator(schema, format_checker=DATES)
+        self.is_number, self.validator = schema.get("type") == "integer", Validator(schema)
         self.fault = functools.lru_cache(KEPT)(self.fault)
 
     def fault(self, text):
@@ -157,7 +156,7 @@ class Body:
     def __init__(self, told):
         (self.kind, content), = told["content"].items()
         self.schema = content["schema"]
-        self.validator = Validator(self.schema, format_checker=DATES)
+        self.validator = Validator(self.schema)
         self.read = functools.lru_cache(KEPT)(self.read)
 
     def read(self, text, of_the_office):
@@ -278,8 +277,10 @@ class Document:
         return []
 
     def summary(self):
-        words = [f"{count} {name}" for name, count in sorted(self.counts.items()) if name != "exchanges"]
-        return f"{self.counts['exchanges']} exchanges beside docs/openapi.yaml: " + ", ".join(words)
+        statuses = ", ".join(f"{count} of {name[7:]}" for name, count in sorted(self.counts.items()) if name.startswith("status "))
+        refused, passed = self.counts["refused for the form, and the schema refuses it"], self.counts["refused for the form, though the schema accepts it"]
+        return (f"{self.counts['exchanges']} exchanges checked by docs/openapi.yaml ({statuses}): {self.counts['requests of the form']} requests were taken and are of its form; "
+                f"of {refused + passed} refused for their form its schemas refuse {refused}")
 
 
 def pairs_of(headers):
