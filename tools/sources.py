@@ -23,8 +23,9 @@ class Clause:
 class Call:
     """A function, or a method of a type or trait."""
 
-    def __init__(self, name, owner, path, head, clauses, comment):
+    def __init__(self, name, owner, path, head, clauses, comment, is_of_trait):
         self.name, self.owner, self.path, self.head, self.clauses, self.comment = name, owner, path, head, clauses, comment
+        self.is_of_trait = is_of_trait
 
     def module(self):
         return os.path.basename(self.path)[:-len(".rt")]
@@ -144,11 +145,11 @@ def calls_in(path, text):
     found = []
     for it in FUNCTION.finditer(text):
         block = next((b for b in blocks if b[0] < it.start() < b[1]), None)
-        is_of_trait = block and block[2] == "trait"
+        is_of_trait = bool(block) and block[2] == "trait"
         if block and block[3] or ((it["pub"] or "").strip() != "pub" and not is_of_trait):
             continue
         head, clauses = contract_at(text, it.end())
-        found.append(Call(it["name"], block[4] if block else "", path, head, clauses, comment_above(text, it.start())))
+        found.append(Call(it["name"], block[4] if block else "", path, head, clauses, comment_above(text, it.start()), is_of_trait))
     return found
 
 
