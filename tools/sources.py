@@ -203,10 +203,15 @@ def crates():
     return found
 
 
-def program_of(all_crates):
-    """The crates that the program is made of."""
+def programs_in(all_crates):
+    """The programs that are for use: those with a main file, but for what benchmarks compare with."""
+    return [it.name for it in all_crates if os.path.join(it.folder, "src", "main.rt") in it.files and not it.name.startswith("bench_")]
+
+
+def program_of(all_crates, roots=("office",)):
+    """The crates that the program, or some programs, are made of."""
     uses = {it.name: it.uses for it in all_crates}
-    seen, left = set(), ["office"]
+    seen, left = set(), list(roots)
     while left:
         name = left.pop()
         if name in uses and name not in seen:
