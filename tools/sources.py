@@ -221,7 +221,7 @@ def program_of(all_crates, roots=("office",)):
 
 
 DEFINITION = re.compile(
-    r"^(?P<indent>(?:  )?)(?:(?:abbrev|unfoldable|pub) )*(?:(?:record|data) (?P<record>\w+)[^{}]*? where\n|(?P<name>[^\W\d]\w*)\b[^\n]*?:)", re.M)
+    r"^(?P<indent>(?:  )?)(?:(?:abbrev|unfoldable|pub) )*(?:(?:record|data) (?P<record>\w+)(?:[^\n]|\n(?= +[({]))*? where\n|(?P<name>[^\W\d]\w*)\b[^\n]*?:)", re.M)
 
 
 def definitions_in(crate, folder="specs"):
