@@ -42,18 +42,18 @@ abbrev pub IsSettled : State → Type 0
 IsSettled s = (s.in_transaction ≡ false) × (IsTrue s.is_open → s.now ≡ s.committed)
 
 pub unchanged_undoes : (old new : State) → IsUnchanged old new → Undoes old new
-unchanged_undoes old new h lives = (h.0.was_open, h.0.now_is, λ e. sym h.0.mode ∙ e)
+unchanged_undoes old new h lives = (h.0.was_open, h.0.now_is, h.0.mode)
 
 pub ended_undoes : (old new : State) → IsSettled old → IsUnchanged old new ⊎ IsRolledBack old new → Undoes old new
 ended_undoes old new alone (inl h) = λ lives. unchanged_undoes old new h lives
 ended_undoes old new alone (inr h) =
-    λ lives. let was = h.was_open lives in (was, (h.undone lives).0 ∙ sym (alone.1 was), λ _. alone.0)
+    λ lives. let was = h.was_open lives in (was, (h.undone lives).0 ∙ sym (alone.1 was), h.autocommit ∙ sym alone.0)
 
 pub undoes_then : (a b c : State) → Undoes a b → Undoes b c → Undoes a c
 undoes_then a b c one two lives =
     let later = two lives in
     let first = one later.0 in
-    (first.0, later.1 ∙ first.1, λ e. first.2 (later.2 e))
+    (first.0, later.1 ∙ first.1, later.2 ∙ first.2)
 
 pub settled_then : (a b : State) → IsSettled a → IsUnchanged a b → IsSettled b
 settled_then a b alone h = (h.0.mode ∙ alone.0, λ _. h.0.now_is ∙ alone.1 h.0.was_open ∙ sym h.0.committed_is)

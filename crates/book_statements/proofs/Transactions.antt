@@ -14,7 +14,7 @@ module _ (old mid new : State) (alone : old.in_transaction ≡ false) (kept : Ke
   rolled_back settled back = λ is_open.
       let was = back.was_open is_open in
       let first = kept.was_open was in
-      (first, (back.undone is_open).0 ∙ kept.committed was ∙ sym (settled first), λ _. alone)
+      (first, (back.undone is_open).0 ∙ kept.committed was ∙ sym (settled first), back.autocommit ∙ sym alone)
 
   -- a commit that failed has undone all
   pub not_committed : (IsTrue old.is_open → old.now ≡ old.committed) → IsTrue mid.in_transaction → (e : Error) → FailsToCommit mid new e → Undoes old new

@@ -51,9 +51,9 @@ pub record Lands (old new : State) (batch : Batch) : Type 0 where
   pub live : IsDatabase new.now
   pub rows : old.now.schema ≡ book_schema → Adds (act_part batch.act) (made_part batch.made) (line_part batch.lines) old.now.trees new.now.trees
 
--- where the connection is still open, all is as it was
+-- where the connection is still open, all is as it was, and a transaction is open only if one was
 abbrev pub Undoes : State → State → Type 0
-Undoes old new = IsTrue new.is_open → IsTrue old.is_open × (new.now ≡ old.now) × (new.in_transaction ≡ false → old.in_transaction ≡ false)
+Undoes old new = IsTrue new.is_open → IsTrue old.is_open × (new.now ≡ old.now) × (new.in_transaction ≡ old.in_transaction)
 
 -- what the commit of an act's rows may leave in the file
 pub record BatchTrees (old : State) (batch : Batch) (trees : Trees) : Type 0 where
