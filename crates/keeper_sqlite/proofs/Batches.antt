@@ -31,7 +31,7 @@ use Rattle.book_statements.specs.Effects.{act_part, made_part, line_part}
 use Rattle.book_ranges.specs.Ranges.{fits_act, fits_record, fits_line, named, bad_act, bad_record, bad_line, first_bad, row_of, IsInRange}
 use Rattle.keeper_sqlite.specs.Told.{HoldsRows, IsBookIn, IsBadIn}
 use Rattle.keeper_sqlite.proofs.Landing.{act_only, record_only, line_only, null_only}
-use Rattle.keeper_sqlite.proofs.Books.{was, came, line_total, all_fit, none_first}
+use Rattle.keeper_sqlite.proofs.Books.{was, came, stands_after, rise_after, fit_after, line_total, all_fit, none_first}
 
 less : (m n : ℕ) → m < n → int_cmp (pos m) (pos n) ≡ Less
 less m n low = go (int_cmp (pos m) (pos n)) (int_ranked (pos m) (pos n) (int_cmp (pos m) (pos n)) refl)
@@ -113,6 +113,37 @@ module _ (old new : Database) (batch : Batch) (adds : Adds (act_part batch.act) 
       let lines_are = came wide_line line_values line_only line_cmp line_total fits_line (λ w. named w.act) lines.us batch.lines book.lines lines.together lines.up (lines_up n 0 batch.lines own (λ k d within. let e : (get_or batch.lines k d).place ≡ k + 1 = it.places k d within in omega (arith, e)))
       (across Follows (λ a. a.act < n) (λ b. b.act ≡ n) (λ a b p q. ap (λ o. ordering_then o (int_cmp (pos a.place) (pos b.place))) (below a.act b.act n p q)) lines.us batch.lines (recursion_from_All _ lines.us low.lines) own) told.stands.lines_rise in
       (earlier, (held, (λ i. record { acts = acts_are i; records = records_are i; lines = lines_are i })))
+
+-- ---- the book that was told, with the batch
+
+module _ (old new : Database) (batch : Batch) (adds : Adds (act_part batch.act) (made_part batch.made) (line_part batch.lines) old.trees new.trees) (has : new.schema ≡ book_schema) (it : IsBatch batch) (fit : IsInRange batch) where
+  pub book_after : (book : Book) → HoldsRows old book → IsBefore book batch.act.n → HoldsRows new (appended book batch)
+  book_after book told low =
+      let n = batch.act.n in
+      let was_fit = all_fit _ _ _ told.fits in
+      let own = recursion_from_All _ batch.lines it.lines in
+      let acts_rise = rise_after wide_act stored_act act_only act_cmp (on_total (λ (w : WideAct). w.n) int_cmp_total) fits_act (λ w. named w.n) book.acts (batch.act ∷ []) told.stands.acts_rise (tt, tt)
+      (across (λ a b. act_cmp (wide_act a) (wide_act b) ≡ Less) (λ a. a.n < n) (λ b. b.n ≡ n) (λ a b p q. below a.n b.n n p q) book.acts (batch.act ∷ []) (recursion_from_All _ book.acts low.acts) (refl, tt)) in
+      let records_rise = rise_after wide_record stored_record record_only record_cmp (on_total (λ (w : WideRecord). w.act) int_cmp_total) fits_record (λ w. named w.act) book.records (option_to_list batch.made) told.stands.records_rise (made_up batch.made)
+      (across (λ a b. record_cmp (wide_record a) (wide_record b) ≡ Less) (λ a. a.act < n) (λ b. b.act ≡ n) (λ a b p q. below a.act b.act n p q) book.records (option_to_list batch.made) (recursion_from_All _ book.records low.records) (made_of n batch.made it.made)) in
+      let lines_rise = rise_after wide_line line_values line_only line_cmp line_total fits_line (λ w. named w.act) book.lines batch.lines told.stands.lines_rise (lines_up n 0 batch.lines own (λ k d within. let e : (get_or batch.lines k d).place ≡ k + 1 = it.places k d within in omega (arith, e)))
+      (across Follows (λ a. a.act < n) (λ b. b.act ≡ n) (λ a b p q. ap (λ o. ordering_then o (int_cmp (pos a.place) (pos b.place))) (below a.act b.act n p q)) book.lines batch.lines (recursion_from_All _ book.lines low.lines) own) in
+      record {
+        schema = has;
+        stands = record {
+          acts_are = stands_after wide_act stored_act act_only act_cmp (on_total (λ (w : WideAct). w.n) int_cmp_total) fits_act (λ w. named w.n) _ _ book.acts (batch.act ∷ []) told.stands.acts_are adds.acts_are;
+          records_are = stands_after wide_record stored_record record_only record_cmp (on_total (λ (w : WideRecord). w.act) int_cmp_total) fits_record (λ w. named w.act) _ _ book.records (option_to_list batch.made) told.stands.records_are adds.records_are;
+          lines_are = stands_after wide_line line_values line_only line_cmp line_total fits_line (λ w. named w.act) _ _ book.lines batch.lines told.stands.lines_are adds.lines_are;
+          acts_rise = acts_rise;
+          records_rise = records_rise;
+          lines_rise = lines_rise;
+        };
+        fits = none_first _ _ _ (record {
+          acts_fit = fit_after wide_act stored_act act_only act_cmp (on_total (λ (w : WideAct). w.n) int_cmp_total) fits_act (λ w. named w.n) book.acts (batch.act ∷ []) was_fit.acts_fit (fit.act, tt);
+          records_fit = fit_after wide_record stored_record record_only record_cmp (on_total (λ (w : WideRecord). w.act) int_cmp_total) fits_record (λ w. named w.act) book.records (option_to_list batch.made) was_fit.records_fit fit.made;
+          lines_fit = fit_after wide_line line_values line_only line_cmp line_total fits_line (λ w. named w.act) book.lines batch.lines was_fit.lines_fit fit.lines;
+        });
+      }
 
 -- ---- a bad row
 

@@ -4,12 +4,13 @@ use Rattle.std.specs.List.{AllByRecursion, AllZip}
 use Rattle.std.specs.Option.{option_or}
 use Rattle.std.specs.Cmp.{IsTotalOrder}
 use Rattle.std.proofs.lemmas.Cmp.{on_total, then_total, int_cmp_total}
-use Rattle.std.proofs.lemmas.List.Sorted.{length_permutation}
+use Rattle.std.proofs.lemmas.List.{map-append}
+use Rattle.std.proofs.lemmas.List.Sorted.{length_permutation, IsPermutation-trans, IsPermutation-append_left}
 use Rattle.sqlite.specs.Tree.{Trees, IsAscending}
 use Rattle.sqlite.specs.Schema.{Schema}
 use Rattle.sqlite.specs.{Effect.Database, Effect.IsDatabase}
 use Rattle.sqlite_value.specs.Order.{Row}
-use Rattle.sqlite_keyed.proofs.ListLemmas.{ascending-map, ascending_from_map, all_map, all_unmap}
+use Rattle.sqlite_keyed.proofs.ListLemmas.{ascending-map, ascending-append, ascending_from_map, all_map, all_unmap, all-append}
 use Rattle.book_rows.specs.Book.{Book}
 use Rattle.book_texts.specs.declared.wide.{WideAct.WideAct, WideRecord.WideRecord, WideLine.WideLine}
 use Rattle.book_texts.specs.Wide.{wide_act, wide_record, wide_line}
@@ -69,6 +70,20 @@ module _ {W X : Type 0} (wide : X → W) (stored : W → Row) (only : (a b : X) 
   stands_once rows xs ys xs_are ys_are xs_rise ys_rise none =
       let it = was [] rows ys xs (subst (λ l. IsPermutation l rows) (both_wide ys) ys_are) xs_are xs_rise none in
       came [] ys xs (alone it.us ys xs it.are it.together) tt (up_of ys ys_rise) tt xs_rise
+
+  -- a table stands for the rows that it stood for and those that came to it, where these come after them
+  pub stands_after : (old new : List Row) (us bs : List X) → IsPermutation (map stored (map wide us)) old → IsPermutation (old ++ map (λ x. stored (wide x)) bs) new → IsPermutation (map stored (map wide (us ++ bs))) new
+  stands_after old new us bs are adds =
+      let parts = both_wide (us ++ bs) ∙ map-append (λ x. stored (wide x)) us bs ∙ ap (λ l. l ++ map (λ x. stored (wide x)) bs) (sym (both_wide us)) in
+      subst (λ l. IsPermutation l new) (sym parts) (IsPermutation-trans _ _ _ (IsPermutation-append_left (map (λ x. stored (wide x)) bs) (map stored (map wide us)) old are) adds)
+
+  pub rise_after : (us bs : List X) → Rises cmp (map wide us) → Up bs → AllByRecursion (λ a. AllByRecursion (λ b. cmp (wide a) (wide b) ≡ Less) bs) us → Rises cmp (map wide (us ++ bs))
+  rise_after us bs rise up across = ascending-map (λ a b. cmp a b ≡ Less) wide (us ++ bs) (ascending-append (λ a b. cmp (wide a) (wide b) ≡ Less) us bs (up_of us rise) up across)
+
+  pub fit_after : (us bs : List X) → option_map name (find (λ w. not (fits w)) (map wide us)) ≡ None → AllByRecursion (λ w. fits w ≡ true) (map wide bs)
+      → option_map name (find (λ w. not (fits w)) (map wide (us ++ bs))) ≡ None
+  fit_after us bs none fit =
+      none_bad fits name (map wide (us ++ bs)) (subst (AllByRecursion (λ w. fits w ≡ true)) (sym (map-append wide us bs)) (all-append (λ w. fits w ≡ true) (map wide us) (map wide bs) (fit_each fits name (map wide us) none) fit))
 
 pub line_total : IsTotalOrder line_cmp
 line_total = then_total (on_total (λ (l : WideLine). l.act) int_cmp_total) (on_total (λ (l : WideLine). l.place) int_cmp_total)

@@ -1,7 +1,8 @@
 -- What is told after a call of the keeper, and what a crash may leave then.
-use Rattle.std.proofs.Common.{◌≡◌, ◌⊎◌, inl, inr, suc, Bool, false, List, [], ◌∷◌, length, map, Option, Some, None, Result, Ok, Err, OnOk, OnErr, IsTrue, refl, sym, ap, subst, ◌∙◌, arith, IsPermutation}
+use Rattle.std.proofs.Common.{◌≡◌, ◌⊎◌, inl, inr, suc, Bool, true, false, List, [], ◌∷◌, length, map, Option, Some, None, Result, Ok, Err, OnOk, OnErr, IsTrue, refl, sym, ap, subst, ◌∙◌, arith, true≢false, IsPermutation}
 use Rattle.std.proofs.lemmas.List.Sorted.{length_permutation, IsPermutation-refl}
 use Rattle.sqlite.specs.Tree.{Trees}
+use Rattle.sqlite_disk.specs.Disk.{MoreFaults}
 use Rattle.sqlite_value.specs.Order.{Row}
 use Rattle.sqlite.specs.{Effect.Database, Effect.IsDatabase, State.State, State.HasCleanDisk, State.Survives}
 use Rattle.book_rows.specs.declared.{rows.Batch.Batch, tables.Tables.Tables}
@@ -11,16 +12,17 @@ use Rattle.keeper_core.specs.declared.keeper.{Loaded.Loaded, Committed.Committed
 use Rattle.book_texts.specs.declared.wide.{WideAct.WideAct, WideRecord.WideRecord, WideLine.WideLine}
 use Rattle.book_texts.specs.Wide.{wide_act, wide_record, wide_line}
 use Rattle.book_texts.specs.Rows.{line_values, stored_act, stored_record}
+use Rattle.sqlite_tied.specs.Compute.{everything}
 use Rattle.book_texts.specs.Schema.{no_schema, book_schema}
 use Rattle.book_texts.specs.Trees.{StandsFor, HoldsNone}
 use Rattle.book_statements.specs.Effects.{Undoes, IsMade, Makes, MadeTrees, Lands, BatchTrees}
 use Rattle.book_asking.specs.declared.asking.AskedRows.{AskedRows}
 use Rattle.book_asking.specs.Asking.{AreAsked}
 use Rattle.book_ranges.specs.Ranges.{Narrows, IsInRange, first_bad, row_of}
-use Rattle.keeper_sqlite.specs.Told.{IsBookIn, IsBadIn, IsReady, Holds, HoldsBad, TellsCrash, MayLeave, TellsNoMore, IsSettled, IsAnswer}
+use Rattle.keeper_sqlite.specs.Told.{IsBookIn, IsBadIn, IsReady, Holds, HoldsBad, TellsCrash, MayLeave, TellsNoMore, TellsOn, GoesOn, StaysOpen, IsFileOf, LeavesBooks, IsSettled, IsAnswer, are_alone, IsOwn, Notes}
 use Rattle.keeper_sqlite.proofs.Landing.{act_only, record_only, line_only}
 use Rattle.keeper_sqlite.proofs.Books.{book_once, schemas_differ, rows_once, exclusive}
-use Rattle.keeper_sqlite.proofs.Batches.{rows_before, bad_before}
+use Rattle.keeper_sqlite.proofs.Batches.{rows_before, book_after, bad_before}
 
 -- ---- what a call answered
 
@@ -40,7 +42,7 @@ module _ (old new : State) (P : Trees → Type 0) (lives : Survives old new P) w
 
   module _ (undone : HasCleanDisk new → Undoes old new) where
     ready_before : IsReady new → IsReady old
-    ready_before r = let was = undone r.clean r.is_open in record { clean = clean_before r.clean; is_open = was.0; alone = was.2 r.alone }
+    ready_before r = let was = undone r.clean r.is_open in record { clean = clean_before r.clean; is_open = was.0; alone = sym was.2 ∙ r.alone }
 
     same_before : IsReady new → new.now ≡ old.now
     same_before r = (undone r.clean r.is_open).1
@@ -51,8 +53,32 @@ module _ (old new : State) (P : Trees → Type 0) (lives : Survives old new P) w
     pub row_before : (b : Bool) → Keeps (HoldsBad old b) (HoldsBad new b)
     row_before b row h = record { ready = ready_before h.ready; own = h.own; it = subst (λ (d : Database). IsBadIn d row) (same_before h.ready) h.it }
 
+-- where nothing changed, what was told is told on
+pub undone_on : (old new : State) (b : Bool) → (HasCleanDisk new → Undoes old new) → GoesOn old b new b
+undone_on old new b undone clean lives =
+    let was = undone clean lives in
+    let ready : (r : IsReady old) → IsReady new = λ r. record { clean = clean; is_open = lives; alone = was.2 ∙ r.alone } in
+    record {
+      book = λ book h. record { ready = ready h.ready; own = h.own; it = subst (λ (d : Database). IsBookIn d book) (sym was.1) h.it };
+      row = λ row h. record { ready = ready h.ready; own = h.own; it = subst (λ (d : Database). IsBadIn d row) (sym was.1) h.it };
+    }
+
 pub told_before : (old new : State) (P : Trees → Type 0) (b : Bool) → Survives old new P → TellsCrash new b → TellsCrash old b
 told_before old new P b lives tells = (clean_before old new P lives tells.0, tells.1)
+
+pub stays_open : (old new : State) (P : Trees → Type 0) → Survives old new P → StaysOpen old new
+stays_open old new P lives = lives.closes
+
+-- a fault that was counted stays counted
+pub stays_then : (a b c : State) (P Q : Trees → Type 0) → Survives a b P → Survives b c Q → StaysOpen a c
+stays_then a b c P Q one two clean was_open = go (one.closes (clean_before b c Q two clean) was_open)
+  where
+    go : IsTrue b.is_open ⊎ MoreFaults a.faults b.faults → IsTrue c.is_open ⊎ MoreFaults a.faults c.faults
+    go (inr more) = inr (omega (arith, more, two.counts))
+    go (inl still) = elim (two.closes clean still) [
+      | inl lives ↦ inl lives
+      | inr more ↦ inr (omega (arith, more, one.counts))
+    ]
 
 pub quiet : (old new : State) (b : Bool) → Survives old new (λ _. ⊥) → (HasCleanDisk new → Undoes old new) → TellsNoMore old b new b
 quiet old new b lives undone = record {
@@ -73,6 +99,88 @@ then_no_more a b c p q r one two = record {
   told = λ tells. one.told (two.told tells);
   crash = λ tells book m. one.crash (two.told tells) book (two.crash tells book m);
 }
+
+-- ---- the flag
+
+three_alone : are_alone book_schema ≡ true
+unfolding everything
+three_alone = refl
+
+-- a book's file has the three tables alone
+pub book_own : (s : State) (book : Book) → IsBookIn s.now book → IsOwn s.now.schema
+book_own s book (inl p) = inr (ap are_alone p.schema ∙ three_alone)
+book_own s book (inr none) = inl none.0
+
+pub row_own : (s : State) (row : BadRow) → IsBadIn s.now row → IsOwn s.now.schema
+row_own s row bad = inr (ap are_alone bad.schema ∙ three_alone)
+
+-- a file whose flag is raised is told of no more, and what is told of is not flagged
+module _ (s : State) (was now : Bool) (notes : Notes s.now.schema was now) where
+  pub noted_no_more : TellsNoMore s was s now
+  noted_no_more = record {
+    kept = λ book h. record { ready = h.ready; own = (notes.0 h.own).0; it = h.it };
+    kept_row = λ row h. record { ready = h.ready; own = (notes.0 h.own).0; it = h.it };
+    told = λ tells. (tells.0, (notes.0 tells.1).0);
+    crash = λ tells book m. m;
+  }
+
+  pub noted_on : TellsOn s was s now
+  noted_on = record {
+    book = λ book h. record { ready = h.ready; own = notes.1 (h.own, book_own s book h.it); it = h.it };
+    row = λ row h. record { ready = h.ready; own = notes.1 (h.own, row_own s row h.it); it = h.it };
+  }
+
+  pub noted_left : LeavesBooks s was → LeavesBooks s now
+  noted_left left tells = left (tells.0, (notes.0 tells.1).0)
+
+pub on_then : (a b : State) (p q r : Bool) → TellsOn a p a q → GoesOn a q b r → GoesOn a p b r
+on_then a b p q r one two clean lives =
+    let later = two clean lives in
+    record { book = λ book h. later.book book (one.book book h); row = λ row h. later.row row (one.row row h) }
+
+-- of a flagged file nothing is told
+module _ (old new : State) (b : Bool) (is : b ≡ true) where
+  up : b ≡ false → ⊥
+  up down = absurd (true≢false (sym is ∙ down))
+
+  pub beside_no_more : TellsNoMore old b new b
+  beside_no_more = record {
+    kept = λ book h. absurd (up h.own);
+    kept_row = λ row h. absurd (up h.own);
+    told = λ tells. absurd (up tells.1);
+    crash = λ tells. absurd (up tells.1);
+  }
+
+  pub beside_on : GoesOn old b new b
+  beside_on clean lives = record { book = λ book h. absurd (up h.own); row = λ row h. absurd (up h.own) }
+
+  pub beside_left : LeavesBooks new b
+  beside_left tells = absurd (up tells.1)
+
+  pub beside_gives : (loaded : Loaded) → Gives (Holds new b) (HoldsBad new b) loaded
+  beside_gives (Loaded.Rows tables) = ((λ book h. absurd (up h.own)), (λ row h. up h.own))
+  beside_gives (Loaded.BadRow table act) = ((λ book h. up h.own), (λ row h. absurd (up h.own)))
+  beside_gives Loaded.Failed = tt
+  beside_gives Loaded.NoMemory = tt
+
+-- ---- what a crash leaves
+
+-- a crash leaves books where it left them before, and what was written is one
+pub left_on : (old new : State) (P : Trees → Type 0) (b : Bool) → Survives old new P → (TellsCrash new b → (trees : Trees) → P trees → (book : Book) × IsFileOf trees book) → LeavesBooks old b → LeavesBooks new b
+left_on old new P b lives written left tells trees may = go (lives.crash tells.0 trees may)
+  where
+    go : old.may_leave trees ⊎ P trees → (book : Book) × IsFileOf trees book
+    go (inl was) = left (told_before old new P b lives tells) trees was
+    go (inr w) = written tells trees w
+
+pub quiet_left : (old new : State) (b : Bool) → Survives old new (λ _. ⊥) → LeavesBooks old b → LeavesBooks new b
+quiet_left old new b lives = left_on old new (λ _. ⊥) b lives (λ tells trees none. absurd none)
+
+-- between two statements a crash leaves the file of the book that is told
+pub told_left : (s : State) (b : Bool) → IsSettled s → ((db : Trees) → IsTrue s.is_open → s.may_leave db → db ≡ s.committed.trees) → (book : Book) → Holds s b book → LeavesBooks s b
+told_left s b settled only book h tells trees may =
+    let same : trees ≡ s.now.trees = only trees h.ready.is_open may ∙ ap (λ (d : Database). d.trees) (sym (settled.settled h.ready.alone h.ready.is_open)) in
+    (book, record { db = s.now; same = sym same; live = (settled.live h.ready.is_open).0; it = h.it })
 
 -- ---- rows that were asked for
 
@@ -174,51 +282,65 @@ stands_empty trees none = record {
 empty_in : (db : Database) → IsMade db → IsBookIn db empty_book
 empty_in db made = inl (record { schema = made.schema; stands = stands_empty db.trees made.none; fits = refl })
 
-module _ (old new : State) (was now : Bool) (lives : Survives old new (MadeTrees old)) (settled : IsSettled old) (flag : now ≡ false → (was ≡ false) × (old.now.schema ≡ no_schema)) where
-  pub made_crash : TellsCrash new now → Keeps (MayLeave old) (MayLeave new)
+module _ (old new : State) (lives : Survives old new (MadeTrees old)) (settled : IsSettled old) (empty : old.now.schema ≡ no_schema) (b : Bool) where
+  made_crash : TellsCrash new b → Keeps (MayLeave old) (MayLeave new)
   made_crash tells book m = go (lives.crash tells.0 m.db.trees m.left)
     where
       go : old.may_leave m.db.trees ⊎ MadeTrees old m.db.trees → MayLeave old book
       go (inl left) = record { db = m.db; left = left; live = m.live; it = m.it }
       go (inr written) =
-          let made = written.made (flag tells.1).1 in
-          let empty : book ≡ empty_book = book_once m.db (record { schema = book_schema; trees = m.db.trees }) book empty_book refl m.live made.live m.it (empty_in _ made) in
+          let made = written.made empty in
+          let none : book ≡ empty_book = book_once m.db (record { schema = book_schema; trees = m.db.trees }) book empty_book refl m.live made.live m.it (empty_in _ made) in
           let same : old.now ≡ old.committed = settled.settled written.was_alone written.was_open in
           record {
             db = old.committed;
             left = settled.stays written.was_open;
             live = (settled.live written.was_open).1;
-            it = inr (ap (λ (d : Database). d.schema) (sym same) ∙ (flag tells.1).1, empty);
+            it = inr (ap (λ (d : Database). d.schema) (sym same) ∙ empty, none);
           }
 
-  made_told : TellsCrash new now → TellsCrash old was
-  made_told tells = (clean_before old new (MadeTrees old) lives tells.0, (flag tells.1).0)
+  -- the empty tables are a book's file
+  pub made_left : LeavesBooks old b → LeavesBooks new b
+  made_left = left_on old new (MadeTrees old) b lives (λ tells trees w.
+      let made = w.made empty in
+      (empty_book, record { db = record { schema = book_schema; trees = trees }; same = refl; live = made.live; it = empty_in _ made }))
 
-  pub made_fails : (HasCleanDisk new → Undoes old new) → TellsNoMore old was new now
+  pub made_fails : (HasCleanDisk new → Undoes old new) → TellsNoMore old b new b
   made_fails undone = record {
-    kept = λ book h. let before = book_before old new (MadeTrees old) lives undone now book h in record { ready = before.ready; own = (flag h.own).0; it = before.it };
-    kept_row = λ row h. let before = row_before old new (MadeTrees old) lives undone now row h in record { ready = before.ready; own = (flag h.own).0; it = before.it };
-    told = made_told;
+    kept = book_before old new (MadeTrees old) lives undone b;
+    kept_row = row_before old new (MadeTrees old) lives undone b;
+    told = told_before old new (MadeTrees old) b lives;
     crash = made_crash;
   }
 
   module _ (made : HasCleanDisk new → Makes old new) where
-    is_made : (clean : HasCleanDisk new) → now ≡ false → IsMade new.now
-    is_made clean own = (made clean).made (flag own).1
+    is_made : (clean : HasCleanDisk new) → IsMade new.now
+    is_made clean = (made clean).made empty
 
-    pub made_tells : TellsNoMore old was new now
+    pub made_tells : TellsNoMore old b new b
     made_tells = record {
       kept = λ book h.
           let it = made h.ready.clean in
-          let empty = made_empty new.now (is_made h.ready.clean h.own) book h.it in
-          record { ready = record { clean = clean_before old new (MadeTrees old) lives h.ready.clean; is_open = it.settles.was_open; alone = it.settles.was_alone }; own = (flag h.own).0; it = inr ((flag h.own).1, empty) };
-      kept_row = λ row h. absurd (made_good new.now (is_made h.ready.clean h.own) row h.it);
-      told = made_told;
+          let none = made_empty new.now (is_made h.ready.clean) book h.it in
+          record { ready = record { clean = clean_before old new (MadeTrees old) lives h.ready.clean; is_open = it.settles.was_open; alone = it.settles.was_alone }; own = h.own; it = inr (empty, none) };
+      kept_row = λ row h. absurd (made_good new.now (is_made h.ready.clean) row h.it);
+      told = told_before old new (MadeTrees old) b lives;
       crash = made_crash;
     }
 
-    pub made_gives : (tables : Tables) → book_of tables ≡ empty_book → Gives (Holds new now) (HoldsBad new now) (Loaded.Rows tables)
-    made_gives tables empty = ((λ book h. empty ∙ sym (made_empty new.now (is_made h.ready.clean h.own) book h.it)), (λ row h. made_good new.now (is_made h.ready.clean h.own) row h.it))
+    pub made_gives : (tables : Tables) → book_of tables ≡ empty_book → Gives (Holds new b) (HoldsBad new b) (Loaded.Rows tables)
+    made_gives tables none = ((λ book h. none ∙ sym (made_empty new.now (is_made h.ready.clean) book h.it)), (λ row h. made_good new.now (is_made h.ready.clean) row h.it))
+
+    -- the empty book that was told is told on
+    pub made_on : GoesOn old b new b
+    made_on clean lives_on =
+        let it = made clean in
+        let ready : IsReady new = record { clean = clean; is_open = it.settles.is_open; alone = it.settles.alone } in
+        record { book = λ book h. record { ready = ready; own = h.own; it = go book h.it }; row = λ row h. absurd (schemas_differ (sym h.it.schema ∙ empty)) }
+      where
+        go : (book : Book) → IsBookIn old.now book → IsBookIn new.now book
+        go book (inl p) = absurd (schemas_differ (sym p.schema ∙ empty))
+        go book (inr none) = subst (IsBookIn new.now) (sym none.1) (empty_in new.now (is_made clean))
 
 -- ---- a batch that was written
 
@@ -246,6 +368,17 @@ module _ (old new : State) (b : Bool) (batch : Batch) (it : IsBatch batch) (live
             let found = rows_before old.now new.now batch (l.rows has) has it book p (λ was w. next was (record { ready = ready_then h.ready; own = h.own; it = w })) in
             (found.0, (record { ready = ready_then h.ready; own = h.own; it = found.1.0 }, found.1.1))
 
+    -- the book that was told is told on, with the batch
+    pub landed_on : IsInRange batch → HasCleanDisk new → (book : Book) → Holds old b book → Holds new b (appended book batch)
+    landed_on fit clean book h = record { ready = record { clean = clean; is_open = l.settles.is_open; alone = l.settles.alone }; own = h.own; it = go h.it }
+      where
+        l : Lands old new batch
+        l = lands clean
+
+        go : IsBookIn old.now book → IsBookIn new.now (appended book batch)
+        go (inl p) = inl (book_after old.now new.now batch (l.rows p.schema) (l.schema ∙ p.schema) it fit book p (next book h))
+        go (inr none) = absurd (l.known none.0)
+
     pub landed_row : IsInRange batch → Keeps (HoldsBad old b) (HoldsBad new b)
     landed_row fit row h =
         let l = lands h.ready.clean in
@@ -258,7 +391,30 @@ module _ (old new : State) (b : Bool) (batch : Batch) (it : IsBatch batch) (live
         let same : m.db.trees ≡ new.now.trees = settled m.db.trees h.ready.is_open m.left ∙ ap (λ (d : Database). d.trees) l.settles.settled in
         book_once m.db new.now after book same m.live l.live m.it h.it
 
+    -- after Done a crash leaves the book's file
+    pub landed_left : ((db : Trees) → IsTrue new.is_open → new.may_leave db → db ≡ new.committed.trees) → (book : Book) → Holds new b book → LeavesBooks new b
+    landed_left settled book h tells trees may =
+        let l = lands tells.0 in
+        let same : trees ≡ new.now.trees = settled trees h.ready.is_open may ∙ ap (λ (d : Database). d.trees) l.settles.settled in
+        (book, record { db = new.now; same = sym same; live = l.live; it = h.it })
+
   module _ (next : (book : Book) → Holds old b book → IsBefore book batch.act.n) where
+    -- what the commit may have written is a book's file
+    pub not_landed_left : IsInRange batch → (book : Book) → Holds old b book → LeavesBooks old b → LeavesBooks new b
+    not_landed_left fit book h = left_on old new (BatchTrees old batch) b lives (λ tells trees w. go trees w h.it)
+      where
+        go : (trees : Trees) → BatchTrees old batch trees → IsBookIn old.now book → (after : Book) × IsFileOf trees after
+        go trees w (inl p) = (
+          appended book batch,
+          record {
+            db = record { schema = book_schema; trees = trees };
+            same = refl;
+            live = subst IsDatabase (λ i. record { schema = p.schema i; trees = trees }) w.live;
+            it = inl (book_after old.now (record { schema = book_schema; trees = trees }) batch (w.rows p.schema) refl it fit book p (next book h));
+          },
+        )
+        go trees w (inr none) = absurd (w.known none.0)
+
     pub not_landed_crash : TellsCrash new b → LeavesOrCommits (Holds old b) (MayLeave old) (MayLeave new) batch
     not_landed_crash tells book h after m = go (lives.crash tells.0 m.db.trees m.left)
       where

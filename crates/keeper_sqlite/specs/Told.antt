@@ -1,9 +1,11 @@
 -- What a file tells of its book, and what a crash may leave of it.
 use Rattle.std.specs.Coded.{Coded, code_by, coded×, coded_ℕ, coded_bool}
-use Rattle.std.specs.Prelude.{◌≡◌, ◌⊎◌, ℕ, ⊤, Bool, false, refl, List, map, None, Some, IsTrue}
-use Rattle.sqlite.specs.{Effect.Database, Effect.IsDatabase, State.State, State.HasCleanDisk, State.IsLive, Held.Held, Held.held_code}
-use Rattle.book_rows.specs.Book.{Book, empty_book}
-use Rattle.keeper_core.specs.{Keeping.BadRow, Keeping.Keeps, declared.keeper.Loaded.Loaded}
+use Rattle.std.specs.Prelude.{◌≡◌, ◌⊎◌, ◌↔◌, ◌==◌, ◌&&◌, ℕ, ⊤, Bool, true, false, codes, length, is_some, refl, List, map, None, Some, IsTrue}
+use Rattle.sqlite.specs.{Tree.Trees, Effect.Database, Effect.IsDatabase, State.State, State.HasCleanDisk, State.IsLive, Held.Held, Held.held_code}
+use Rattle.sqlite_schema.specs.{declared.schema.Schema.Schema, Names.table_named}
+use Rattle.sqlite_disk.specs.Disk.{MoreFaults}
+use Rattle.book_rows.specs.{declared.rows.Batch.Batch, Book.Book, Book.empty_book, Book.appended}
+use Rattle.keeper_core.specs.{Keeping.BadRow, Keeping.Keeps, declared.keeper.Loaded.Loaded, declared.keeper.Committed.Committed}
 use Rattle.book_texts.specs.declared.wide.{WideAct.WideAct, WideRecord.WideRecord, WideLine.WideLine}
 use Rattle.book_texts.specs.Wide.{wide_act, wide_record, wide_line}
 use Rattle.book_texts.specs.Schema.{no_schema, book_schema}
@@ -35,7 +37,7 @@ pub record IsReady (s : State) : Type 0 where
   pub is_open : IsTrue s.is_open
   pub alone : s.in_transaction ≡ false
 
--- A keeper that made its tables beside others tells nothing.
+-- A keeper whose flag is up tells nothing: something stands in its file beside the three tables.
 pub record Holds (s : State) (is_beside : Bool) (book : Book) : Type 0 where
   pub ready : IsReady s
   pub own : is_beside ≡ false
@@ -63,6 +65,61 @@ pub record TellsNoMore (old : State) (was_beside : Bool) (new : State) (is_besid
   pub told : TellsCrash new is_beside → TellsCrash old was_beside
   pub crash : TellsCrash new is_beside → Keeps (MayLeave old) (MayLeave new)
 
+-- what was told before a call is told after it: of the book, and of a bad row
+pub record TellsOn (old : State) (was_beside : Bool) (new : State) (is_beside : Bool) : Type 0 where
+  pub book : Keeps (Holds new is_beside) (Holds old was_beside)
+  pub row : Keeps (HoldsBad new is_beside) (HoldsBad old was_beside)
+
+-- while the disk is clean and the connection open, what was told is told on
+abbrev pub GoesOn : State → Bool → State → Bool → Type 0
+GoesOn old was_beside new is_beside = HasCleanDisk new → IsTrue new.is_open → TellsOn old was_beside new is_beside
+
+-- while the disk is clean only a fault of the store shuts the connection
+abbrev pub StaysOpen : State → State → Type 0
+StaysOpen old new = HasCleanDisk new → IsTrue old.is_open → IsTrue new.is_open ⊎ MoreFaults old.faults new.faults
+
+-- While the disk is clean, a book that was told is told with the batch after Done, and the connection is open. After
+-- another answer what was told is told on, while the connection is open.
+abbrev pub CommitsOn : State → Bool → State → Bool → Batch → Committed → Type 0
+CommitsOn old was_beside new is_beside batch Committed.Done =
+    HasCleanDisk new → (book : Book) → Holds old was_beside book → Holds new is_beside (appended book batch)
+CommitsOn old was_beside new is_beside batch Committed.Failed = GoesOn old was_beside new is_beside
+CommitsOn old was_beside new is_beside batch Committed.NoMemory = GoesOn old was_beside new is_beside
+
+-- these trees are a book's file: sound under a schema by which they hold the book
+pub record IsFileOf (trees : Trees) (book : Book) : Type 0 where
+  pub db : Database
+  pub same : db.trees ≡ trees
+  pub live : IsDatabase db
+  pub it : IsBookIn db book
+
+-- while the disk is clean and the flag down, whatever a crash now may leave is some book's file
+abbrev pub LeavesBooks : State → Bool → Type 0
+LeavesBooks s is_beside = TellsCrash s is_beside → (trees : Trees) → s.may_leave trees → (book : Book) × IsFileOf trees book
+
+-- After Done a crash leaves a book's file, where a book is told. After another answer it does so where a book was told
+-- and a crash before left one.
+abbrev pub CommitsBooks : State → Bool → State → Bool → Committed → Type 0
+CommitsBooks old was_beside new is_beside Committed.Done = (book : Book) → Holds new is_beside book → LeavesBooks new is_beside
+CommitsBooks old was_beside new is_beside Committed.Failed =
+    (book : Book) → Holds old was_beside book → LeavesBooks old was_beside → LeavesBooks new is_beside
+CommitsBooks old was_beside new is_beside Committed.NoMemory =
+    (book : Book) → Holds old was_beside book → LeavesBooks old was_beside → LeavesBooks new is_beside
+
+-- three tables, of the three names, and three indexes, one for each table's keys beside its rowid, and nothing else
+abbrev pub are_alone : Schema → Bool
+are_alone schema =
+    length schema.tables == 3 && (length schema.indexes == 3 && (length schema.views == 0
+    && (is_some (table_named schema (codes "acts")) && (is_some (table_named schema (codes "records")) && is_some (table_named schema (codes "lines"))))))
+
+-- nothing stands in the file, or the three tables and nothing beside them
+abbrev pub IsOwn : Schema → Type 0
+IsOwn schema = (schema ≡ no_schema) ⊎ (are_alone schema ≡ true)
+
+-- the flag is down after a load just where it was down before, and nothing stood in the file beside the three tables
+abbrev pub Notes : Schema → Bool → Bool → Type 0
+Notes schema was_beside is_beside = (is_beside ≡ false) ↔ ((was_beside ≡ false) × IsOwn schema)
+
 -- between two statements: what is committed is sound, and a crash may leave it
 pub record IsSettled (s : State) : Type 0 where
   pub live : IsLive s
@@ -74,7 +131,7 @@ abbrev pub IsAnswer : Loaded → Type 0
 IsAnswer Loaded.Failed = ⊥
 IsAnswer _ = ⊤
 
--- a keeper: its connection, whether its tables stand beside others, and the faults so far
+-- a keeper: its connection, whether something stands beside its tables, and the faults so far
 pub record Kept (S : Type 0) : Type 0 where
   pub file : Held S
   pub is_beside : Bool

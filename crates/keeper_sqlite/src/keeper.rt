@@ -1,4 +1,4 @@
-use crate::loading::{is_want_of_memory, load_or_make};
+use crate::loading::{is_want_of_memory, load_noting};
 use book_ranges::batch_fits;
 use book_rows::Batch;
 use book_statements::write_batch;
@@ -9,7 +9,7 @@ use std::marker::Model;
 
 /// A keeper of a book in a file.
 ///
-/// Contracts see the connection, whether the tables stand beside others, and the faults so far.
+/// Contracts see the connection, whether something stands beside the three tables, and the faults so far.
 #[derive(Drop)]
 pub struct SqliteKeeper<S: Alter> {
     conn: Connection<S>,
@@ -57,6 +57,13 @@ impl<S: Alter> SqliteKeeper<S> {
         self.faults
     }
 
+    /// Whether a load found something in the file beside the three tables. It is served all the same.
+    pub fn is_beside(&self) -> bool
+        ensures { result ≡ self.now.is_beside }
+    {
+        self.is_beside
+    }
+
     fn count_fault(&mut self)
         ensures kept { self.new ≡ record self.old { faults = self.new.faults } }
         ensures fault { Faulted self.old.faults self.new.faults }
@@ -66,8 +73,12 @@ impl<S: Alter> SqliteKeeper<S> {
 }
 
 impl<S: Alter> Keeper for SqliteKeeper<S> {
+    ghost use Rattle.std.specs.Prelude.{◌≡◌, IsTrue};
+    ghost use Rattle.std.specs.Str.{is_utf8};
     ghost use Rattle.sqlite.specs.Held.{state};
-    ghost use Rattle.keeper_sqlite.specs.Told.{Holds, HoldsBad, TellsCrash, MayLeave};
+    ghost use Rattle.book_rows.specs.Book.{Book, IsBatch, IsBefore};
+    ghost use Rattle.keeper_core.specs.Keeping.{Keeps, Gives, LoadCause, Commits, CommitCause, CommitCrash};
+    ghost use Rattle.keeper_sqlite.specs.Told.{Holds, HoldsBad, TellsCrash, MayLeave, Notes, GoesOn, CommitsOn, StaysOpen, LeavesBooks, CommitsBooks};
 
     ghost holds = { λ keeper. Holds (state S.Store keeper.file) keeper.is_beside };
 
@@ -79,8 +90,22 @@ impl<S: Alter> Keeper for SqliteKeeper<S> {
 
     ghost leaves = { λ keeper. MayLeave (state S.Store keeper.file) };
 
-    fn load(&mut self, alloc: Global) -> Loaded {
-        match load_or_make(&mut self.conn, &mut self.is_beside, alloc) {
+    // The first six clauses are the trait's. The others say when the flag is raised, and look forward: what is told is
+    // told on, only a fault shuts the connection, and a crash leaves a book's file.
+    fn load(&mut self, alloc: Global) -> Loaded
+        ensures gives { Gives (Holds (state S.Store self.new.file) self.new.is_beside) (HoldsBad (state S.Store self.new.file) self.new.is_beside) result }
+        ensures kept { Keeps (Holds (state S.Store self.old.file) self.old.is_beside) (Holds (state S.Store self.new.file) self.new.is_beside) }
+        ensures kept_row { Keeps (HoldsBad (state S.Store self.old.file) self.old.is_beside) (HoldsBad (state S.Store self.new.file) self.new.is_beside) }
+        ensures cause { LoadCause self.old.faults self.new.faults result }
+        ensures told { TellsCrash (state S.Store self.new.file) self.new.is_beside → TellsCrash (state S.Store self.old.file) self.old.is_beside }
+        ensures crash { TellsCrash (state S.Store self.new.file) self.new.is_beside → Keeps (MayLeave (state S.Store self.old.file)) (MayLeave (state S.Store self.new.file)) }
+        ensures notes { Notes (state S.Store self.old.file).now.schema self.old.is_beside self.new.is_beside }
+        ensures goes_on { GoesOn (state S.Store self.old.file) self.old.is_beside (state S.Store self.new.file) self.new.is_beside }
+        ensures stays_open { StaysOpen (state S.Store self.old.file) (state S.Store self.new.file) }
+        ensures left { LeavesBooks (state S.Store self.old.file) self.old.is_beside → LeavesBooks (state S.Store self.new.file) self.new.is_beside }
+        ensures found { (book : Book) → Holds (state S.Store self.new.file) self.new.is_beside book → LeavesBooks (state S.Store self.new.file) self.new.is_beside }
+    {
+        match load_noting(&mut self.conn, &mut self.is_beside, alloc) {
             Ok(loaded) => loaded,
             Err(error) => {
                 if is_want_of_memory(&error) {
@@ -92,7 +117,22 @@ impl<S: Alter> Keeper for SqliteKeeper<S> {
         }
     }
 
-    fn commit(&mut self, _alloc: Global, batch: &Batch) -> Committed {
+    // The first five clauses are the trait's. The others leave the flag, and look forward: what is told is told on, after
+    // Done with the batch, only a fault shuts the connection, and a crash leaves a book's file.
+    fn commit(&mut self, _alloc: Global, batch: &Batch) -> Committed
+        requires batch { IsBatch batch.now }
+        requires next { (book : Book) → Holds (state S.Store self.old.file) self.old.is_beside book → IsBefore book batch.now.act.n }
+        requires text { IsTrue (is_utf8 batch.now.act.body) }
+        ensures leaves { Commits (Holds (state S.Store self.old.file) self.old.is_beside) (Holds (state S.Store self.new.file) self.new.is_beside) batch.now result }
+        ensures kept_row { Keeps (HoldsBad (state S.Store self.old.file) self.old.is_beside) (HoldsBad (state S.Store self.new.file) self.new.is_beside) }
+        ensures cause { CommitCause self.old.faults self.new.faults result }
+        ensures told { TellsCrash (state S.Store self.new.file) self.new.is_beside → TellsCrash (state S.Store self.old.file) self.old.is_beside }
+        ensures crash { TellsCrash (state S.Store self.new.file) self.new.is_beside → CommitCrash (Holds (state S.Store self.old.file) self.old.is_beside) (MayLeave (state S.Store self.old.file)) (Holds (state S.Store self.new.file) self.new.is_beside) (MayLeave (state S.Store self.new.file)) batch.now result }
+        ensures notes { self.new.is_beside ≡ self.old.is_beside }
+        ensures goes_on { CommitsOn (state S.Store self.old.file) self.old.is_beside (state S.Store self.new.file) self.new.is_beside batch.now result }
+        ensures stays_open { StaysOpen (state S.Store self.old.file) (state S.Store self.new.file) }
+        ensures left { CommitsBooks (state S.Store self.old.file) self.old.is_beside (state S.Store self.new.file) self.new.is_beside result }
+    {
         batch_fits(batch);
         match write_batch(&mut self.conn, batch) {
             Ok(()) => Committed::Done,

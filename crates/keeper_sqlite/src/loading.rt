@@ -1,11 +1,11 @@
-ghost use Rattle.std.specs.Prelude.{◌≡◌, ◌↔◌, Bool, IsTrue, OnOk, IfOk};
-ghost use Rattle.sqlite.specs.Held.{state};
+ghost use Rattle.std.specs.Prelude.{◌≡◌, ◌↔◌, false, Bool, IsTrue, OnOk, IfOk};
+ghost use Rattle.sqlite.specs.{Held.state, State.Survives};
 ghost use Rattle.sqlite.specs.declared.error.{Error.TheVariants.SqliteFailure, ErrorCode.TheVariants.OutOfMemory};
 ghost use Rattle.book_texts.specs.Schema.{no_schema};
 ghost use Rattle.book_ranges.specs.Ranges.{Narrows};
-ghost use Rattle.book_rows.specs.Book.{book_of, empty_book};
+ghost use Rattle.book_rows.specs.Book.{Book, book_of, empty_book};
 ghost use Rattle.keeper_core.specs.{Keeping.Gives, declared.keeper.Loaded.TheVariants.Rows};
-ghost use Rattle.keeper_sqlite.specs.Told.{Holds, HoldsBad, TellsNoMore, IsSettled, IsAnswer};
+ghost use Rattle.keeper_sqlite.specs.Told.{Holds, HoldsBad, TellsNoMore, GoesOn, StaysOpen, LeavesBooks, IsSettled, IsAnswer, are_alone, Notes};
 
 use book_asking::{AskFault, AskedRows, ask_tables};
 use book_ranges::narrowed;
@@ -40,44 +40,70 @@ fn load_rows<S: Alter>(conn: &mut Connection<S>, alloc: Global) -> Result<Loaded
     ensures gives { IfOk result (λ loaded. (is_beside : Bool) → Gives (Holds (state S.Store conn.new) is_beside) (HoldsBad (state S.Store conn.new) is_beside) loaded) }
     ensures answer { IfOk result IsAnswer }
     ensures tells { (is_beside : Bool) → TellsNoMore (state S.Store conn.old) is_beside (state S.Store conn.new) is_beside }
+    ensures goes_on { (is_beside : Bool) → GoesOn (state S.Store conn.old) is_beside (state S.Store conn.new) is_beside }
+    ensures left { (is_beside : Bool) → LeavesBooks (state S.Store conn.old) is_beside → LeavesBooks (state S.Store conn.new) is_beside }
+    ensures survives { Survives (state S.Store conn.old) (state S.Store conn.new) (λ _. ⊥) }
 {
     let rows = ask_tables(conn, alloc)?;
     Ok(loaded_of(rows))
 }
 
+/// What holds between two statements.
+fn settle<S: Alter>(conn: &Connection<S>)
+    ensures { IsSettled (state S.Store conn.now) }
+{
+    // Asked for their contracts: outside a transaction what is seen is what is committed, and it is sound.
+    let _is_alone = conn.is_autocommit();
+    let _schema = conn.schema();
+}
+
 /// Whether nothing stands in the file.
 fn is_empty<S: Alter>(conn: &Connection<S>) -> bool
-    ensures empty { IsTrue result → (state S.Store conn.now).now.schema ≡ no_schema }
-    ensures settled { IsSettled (state S.Store conn.now) }
+    ensures { IsTrue result ↔ ((state S.Store conn.now).now.schema ≡ no_schema) }
 {
-    // Asked for its contract: outside a transaction what is seen is what is committed.
-    let _is_alone = conn.is_autocommit();
     let schema = conn.schema();
     schema.tables.as_slice().is_empty()
         && schema.indexes.as_slice().is_empty()
         && schema.views.as_slice().is_empty()
 }
 
-/// Makes the three tables, and takes note where they come to stand beside others.
-fn make<S: Alter>(conn: &mut Connection<S>, is_beside: &mut bool) -> Result<(), Error>
-    ensures gives { OnOk result ((tables : Tables) → book_of tables ≡ empty_book → Gives (Holds (state S.Store conn.new) is_beside.new) (HoldsBad (state S.Store conn.new) is_beside.new) (Rows tables)) }
-    ensures tells { TellsNoMore (state S.Store conn.old) is_beside.old (state S.Store conn.new) is_beside.new }
+/// Whether the three tables stand in the file with an index each, which guards their keys, and nothing beside them.
+fn are_alone<S: Alter>(conn: &Connection<S>) -> bool
+    ensures { result ≡ are_alone (state S.Store conn.now).now.schema }
 {
-    if !is_empty(conn) {
-        *is_beside = true;
-    }
+    let schema = conn.schema();
+    schema.tables.len() == 3
+        && schema.indexes.len() == 3
+        && schema.views.len() == 0
+        && schema.table_named(b"acts").is_some()
+        && schema.table_named(b"records").is_some()
+        && schema.table_named(b"lines").is_some()
+}
+
+/// Whether something stands in the file beside the three tables, now or when it was loaded before.
+fn is_beside<S: Alter>(conn: &Connection<S>, was_beside: bool) -> bool
+    ensures { Notes (state S.Store conn.now).now.schema was_beside result }
+{
+    was_beside || !is_empty(conn) && !are_alone(conn)
+}
+
+/// Makes the three tables in an empty file.
+fn make<S: Alter>(conn: &mut Connection<S>) -> Result<(), Error>
+    requires empty { (state S.Store conn.old).now.schema ≡ no_schema }
+    ensures gives { OnOk result ((is_beside : Bool) (tables : Tables) → book_of tables ≡ empty_book → Gives (Holds (state S.Store conn.new) is_beside) (HoldsBad (state S.Store conn.new) is_beside) (Rows tables)) }
+    ensures tells { (is_beside : Bool) → TellsNoMore (state S.Store conn.old) is_beside (state S.Store conn.new) is_beside }
+    ensures goes_on { (is_beside : Bool) → GoesOn (state S.Store conn.old) is_beside (state S.Store conn.new) is_beside }
+    ensures stays_open { StaysOpen (state S.Store conn.old) (state S.Store conn.new) }
+    ensures left { (is_beside : Bool) → LeavesBooks (state S.Store conn.old) is_beside → LeavesBooks (state S.Store conn.new) is_beside }
+{
+    settle(conn);
     make_tables(conn)
 }
 
-/// Loads the rows of the three tables, or makes these where there are none.
-pub(crate) fn load_or_make<S: Alter>(
-    conn: &mut Connection<S>,
-    is_beside: &mut bool,
-    alloc: Global,
-) -> Result<Loaded, Error>
-    ensures gives { IfOk result (Gives (Holds (state S.Store conn.new) is_beside.new) (HoldsBad (state S.Store conn.new) is_beside.new)) }
+/// Loads the rows of a file with something beside the three tables, or makes these where there are none.
+fn load_beside<S: Alter>(conn: &mut Connection<S>, alloc: Global) -> Result<Loaded, Error>
     ensures answer { IfOk result IsAnswer }
-    ensures tells { TellsNoMore (state S.Store conn.old) is_beside.old (state S.Store conn.new) is_beside.new }
+    ensures stays_open { StaysOpen (state S.Store conn.old) (state S.Store conn.new) }
 {
     match load_rows(conn, alloc) {
         Ok(loaded) => Ok(loaded),
@@ -86,8 +112,56 @@ pub(crate) fn load_or_make<S: Alter>(
             if is_want_of_memory(&error) {
                 return Err(error);
             }
-            make(conn, is_beside)?;
+            make_tables(conn)?;
             Ok(Loaded::Rows(Tables::new(alloc)))
         }
     }
+}
+
+/// Loads the rows of the three tables, or makes these where there are none.
+fn load_or_make<S: Alter>(
+    conn: &mut Connection<S>,
+    is_beside: bool,
+    alloc: Global,
+) -> Result<Loaded, Error>
+    ensures gives { IfOk result (Gives (Holds (state S.Store conn.new) is_beside) (HoldsBad (state S.Store conn.new) is_beside)) }
+    ensures answer { IfOk result IsAnswer }
+    ensures tells { TellsNoMore (state S.Store conn.old) is_beside (state S.Store conn.new) is_beside }
+    ensures goes_on { GoesOn (state S.Store conn.old) is_beside (state S.Store conn.new) is_beside }
+    ensures stays_open { StaysOpen (state S.Store conn.old) (state S.Store conn.new) }
+    ensures left { LeavesBooks (state S.Store conn.old) is_beside → LeavesBooks (state S.Store conn.new) is_beside }
+{
+    if is_beside {
+        return load_beside(conn, alloc);
+    }
+    if is_empty(conn) {
+        make(conn)?;
+        return Ok(Loaded::Rows(Tables::new(alloc)));
+    }
+    match load_rows(conn, alloc) {
+        Ok(loaded) => Ok(loaded),
+        Err(AskFault::Acts(error)) => Err(error),
+        Err(AskFault::Others(error)) => Err(error),
+    }
+}
+
+/// Takes note of what stands in the file, and loads it.
+pub(crate) fn load_noting<S: Alter>(
+    conn: &mut Connection<S>,
+    is_beside: &mut bool,
+    alloc: Global,
+) -> Result<Loaded, Error>
+    ensures gives { IfOk result (Gives (Holds (state S.Store conn.new) is_beside.new) (HoldsBad (state S.Store conn.new) is_beside.new)) }
+    ensures answer { IfOk result IsAnswer }
+    ensures notes { Notes (state S.Store conn.old).now.schema is_beside.old is_beside.new }
+    ensures tells { TellsNoMore (state S.Store conn.old) is_beside.old (state S.Store conn.new) is_beside.new }
+    ensures goes_on { GoesOn (state S.Store conn.old) is_beside.old (state S.Store conn.new) is_beside.new }
+    ensures stays_open { StaysOpen (state S.Store conn.old) (state S.Store conn.new) }
+    ensures left { LeavesBooks (state S.Store conn.old) is_beside.old → LeavesBooks (state S.Store conn.new) is_beside.new }
+    ensures found { (book : Book) → Holds (state S.Store conn.new) is_beside.new book → LeavesBooks (state S.Store conn.new) is_beside.new }
+{
+    *is_beside = self::is_beside(conn, *is_beside);
+    let loaded = load_or_make(conn, *is_beside, alloc);
+    settle(conn);
+    loaded
 }

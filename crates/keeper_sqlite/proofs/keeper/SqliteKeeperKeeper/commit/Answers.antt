@@ -3,8 +3,8 @@ use Rattle.sqlite.specs.Held.{state}
 use Rattle.book_rows.specs.Book.{Book, IsBefore}
 use Rattle.keeper_core.specs.declared.keeper.Committed.{Committed}
 use Rattle.keeper_core.specs.Keeping.{Keeps, Commits, LeavesOrCommits}
-use Rattle.keeper_sqlite.specs.Told.{Kept, Holds, HoldsBad, MayLeave, TellsCrash}
-use Rattle.keeper_sqlite.proofs.Calls.{landed, landed_row, landed_crash, not_landed_crash}
+use Rattle.keeper_sqlite.specs.Told.{Kept, Holds, HoldsBad, MayLeave, TellsCrash, GoesOn, CommitsOn, LeavesBooks}
+use Rattle.keeper_sqlite.proofs.Calls.{landed, landed_on, landed_row, landed_crash, landed_left, not_landed_crash, not_landed_left, undone_on}
 use Rattle.keeper_sqlite.proofs.keeper.SqliteKeeperKeeper.commit.Goals as goal
 
 pub returns-in-Ok-clause-leaves : goal.returns-in-Ok-clause-leaves
@@ -13,10 +13,22 @@ returns-in-Ok-clause-leaves g c =
     subst (λ (k : Kept _). Commits (Holds (state g.S.Store k.file) k.is_beside) (Holds (state g.S.Store c.write_batch.new.conn) c.self.inside.is_beside) c.args.batch.now Committed.Done) c.self.view_is
     (landed (state g.S.Store c.self.inside.conn) (state g.S.Store c.write_batch.new.conn) c.self.inside.is_beside c.args.batch.now c.requires.batch c.write_batch.ensures.survives next c.in-Ok.ensures.done)
 
+pub returns-in-Ok-clause-goes_on : goal.returns-in-Ok-clause-goes_on
+returns-in-Ok-clause-goes_on g c =
+    let next = subst (λ (k : Kept _). (book : Book) → Holds (state g.S.Store k.file) k.is_beside book → IsBefore book c.args.batch.now.act.n) (sym c.self.view_is) c.requires.next in
+    subst (λ (k : Kept _). CommitsOn (state g.S.Store k.file) k.is_beside (state g.S.Store c.write_batch.new.conn) c.self.inside.is_beside c.args.batch.now Committed.Done) c.self.view_is
+    (landed_on (state g.S.Store c.self.inside.conn) (state g.S.Store c.write_batch.new.conn) c.self.inside.is_beside c.args.batch.now c.requires.batch c.write_batch.ensures.survives next c.in-Ok.ensures.done c.batch_fits.ensures)
+
 pub returns-in-Ok-clause-crash : goal.returns-in-Ok-clause-crash
 returns-in-Ok-clause-crash g c =
     let next = subst (λ (k : Kept _). (book : Book) → Holds (state g.S.Store k.file) k.is_beside book → IsBefore book c.args.batch.now.act.n) (sym c.self.view_is) c.requires.next in
     λ _. landed_crash (state g.S.Store c.self.inside.conn) (state g.S.Store c.write_batch.new.conn) c.self.inside.is_beside c.args.batch.now c.requires.batch c.write_batch.ensures.survives next c.in-Ok.ensures.done
+    (g.met.S.Store.settled c.write_batch.new.conn.store)
+
+pub returns-in-Ok-clause-left : goal.returns-in-Ok-clause-left
+returns-in-Ok-clause-left g c =
+    let next = subst (λ (k : Kept _). (book : Book) → Holds (state g.S.Store k.file) k.is_beside book → IsBefore book c.args.batch.now.act.n) (sym c.self.view_is) c.requires.next in
+    landed_left (state g.S.Store c.self.inside.conn) (state g.S.Store c.write_batch.new.conn) c.self.inside.is_beside c.args.batch.now c.requires.batch c.write_batch.ensures.survives next c.in-Ok.ensures.done
     (g.met.S.Store.settled c.write_batch.new.conn.store)
 
 pub returns-in-Ok-clause-kept_row : goal.returns-in-Ok-clause-kept_row
@@ -31,9 +43,33 @@ returns-then-is_want_of_memory-clause-crash g c =
     subst (λ (k : Kept _). TellsCrash (state g.S.Store c.write_batch.new.conn) c.self.inside.is_beside → LeavesOrCommits (Holds (state g.S.Store k.file) k.is_beside) (MayLeave (state g.S.Store k.file)) (MayLeave (state g.S.Store c.write_batch.new.conn)) c.args.batch.now) c.self.view_is
     (not_landed_crash (state g.S.Store c.self.inside.conn) (state g.S.Store c.write_batch.new.conn) c.self.inside.is_beside c.args.batch.now c.requires.batch c.write_batch.ensures.survives next)
 
+pub returns-then-is_want_of_memory-clause-goes_on : goal.returns-then-is_want_of_memory-clause-goes_on
+returns-then-is_want_of_memory-clause-goes_on g c =
+    subst (λ (k : Kept _). GoesOn (state g.S.Store k.file) k.is_beside (state g.S.Store c.write_batch.new.conn) c.self.inside.is_beside) c.self.view_is
+    (undone_on (state g.S.Store c.self.inside.conn) (state g.S.Store c.write_batch.new.conn) c.self.inside.is_beside c.in-Err.ensures.undone)
+
+pub returns-then-is_want_of_memory-clause-left : goal.returns-then-is_want_of_memory-clause-left
+returns-then-is_want_of_memory-clause-left g c =
+    let next = subst (λ (k : Kept _). (book : Book) → Holds (state g.S.Store k.file) k.is_beside book → IsBefore book c.args.batch.now.act.n) (sym c.self.view_is) c.requires.next in
+    subst (λ (k : Kept _). (book : Book) → Holds (state g.S.Store k.file) k.is_beside book → LeavesBooks (state g.S.Store k.file) k.is_beside → LeavesBooks (state g.S.Store c.write_batch.new.conn) c.self.inside.is_beside) c.self.view_is
+    (not_landed_left (state g.S.Store c.self.inside.conn) (state g.S.Store c.write_batch.new.conn) c.self.inside.is_beside c.args.batch.now c.requires.batch c.write_batch.ensures.survives next c.batch_fits.ensures)
+
 pub returns-else-is_want_of_memory-clause-crash : goal.returns-else-is_want_of_memory-clause-crash
 returns-else-is_want_of_memory-clause-crash g c =
     let next = subst (λ (k : Kept _). (book : Book) → Holds (state g.S.Store k.file) k.is_beside book → IsBefore book c.args.batch.now.act.n) (sym c.self.view_is) c.requires.next in
-    let all = not_landed_crash (state g.S.Store c.self.inside.conn) (state g.S.Store c.write_batch.new.conn) c.self.inside.is_beside c.args.batch.now c.requires.batch c.write_batch.ensures.survives next in
     subst (λ (n : Kept _). TellsCrash (state g.S.Store n.file) n.is_beside → LeavesOrCommits (Holds (state g.S.Store c.args.self.now.file) c.args.self.now.is_beside) (MayLeave (state g.S.Store c.args.self.now.file)) (MayLeave (state g.S.Store n.file)) c.args.batch.now) (sym c.count_fault.ensures.kept)
-    (subst (λ (k : Kept _). TellsCrash (state g.S.Store c.write_batch.new.conn) c.self.inside.is_beside → LeavesOrCommits (Holds (state g.S.Store k.file) k.is_beside) (MayLeave (state g.S.Store k.file)) (MayLeave (state g.S.Store c.write_batch.new.conn)) c.args.batch.now) c.self.view_is all)
+    (subst (λ (k : Kept _). TellsCrash (state g.S.Store c.write_batch.new.conn) c.self.inside.is_beside → LeavesOrCommits (Holds (state g.S.Store k.file) k.is_beside) (MayLeave (state g.S.Store k.file)) (MayLeave (state g.S.Store c.write_batch.new.conn)) c.args.batch.now) c.self.view_is
+    (not_landed_crash (state g.S.Store c.self.inside.conn) (state g.S.Store c.write_batch.new.conn) c.self.inside.is_beside c.args.batch.now c.requires.batch c.write_batch.ensures.survives next))
+
+pub returns-else-is_want_of_memory-clause-goes_on : goal.returns-else-is_want_of_memory-clause-goes_on
+returns-else-is_want_of_memory-clause-goes_on g c =
+    subst (λ (n : Kept _). GoesOn (state g.S.Store c.args.self.now.file) c.args.self.now.is_beside (state g.S.Store n.file) n.is_beside) (sym c.count_fault.ensures.kept)
+    (subst (λ (k : Kept _). GoesOn (state g.S.Store k.file) k.is_beside (state g.S.Store c.write_batch.new.conn) c.self.inside.is_beside) c.self.view_is
+    (undone_on (state g.S.Store c.self.inside.conn) (state g.S.Store c.write_batch.new.conn) c.self.inside.is_beside c.in-Err.ensures.undone))
+
+pub returns-else-is_want_of_memory-clause-left : goal.returns-else-is_want_of_memory-clause-left
+returns-else-is_want_of_memory-clause-left g c =
+    let next = subst (λ (k : Kept _). (book : Book) → Holds (state g.S.Store k.file) k.is_beside book → IsBefore book c.args.batch.now.act.n) (sym c.self.view_is) c.requires.next in
+    subst (λ (n : Kept _). (book : Book) → Holds (state g.S.Store c.args.self.now.file) c.args.self.now.is_beside book → LeavesBooks (state g.S.Store c.args.self.now.file) c.args.self.now.is_beside → LeavesBooks (state g.S.Store n.file) n.is_beside) (sym c.count_fault.ensures.kept)
+    (subst (λ (k : Kept _). (book : Book) → Holds (state g.S.Store k.file) k.is_beside book → LeavesBooks (state g.S.Store k.file) k.is_beside → LeavesBooks (state g.S.Store c.write_batch.new.conn) c.self.inside.is_beside) c.self.view_is
+    (not_landed_left (state g.S.Store c.self.inside.conn) (state g.S.Store c.write_batch.new.conn) c.self.inside.is_beside c.args.batch.now c.requires.batch c.write_batch.ensures.survives next c.batch_fits.ensures))

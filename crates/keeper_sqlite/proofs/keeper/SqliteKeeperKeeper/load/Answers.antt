@@ -1,31 +1,49 @@
 use Rattle.std.proofs.Common.{sym, subst}
 use Rattle.sqlite.specs.Held.{state}
+use Rattle.book_rows.specs.Book.{Book}
 use Rattle.keeper_core.specs.Keeping.{Keeps}
-use Rattle.keeper_sqlite.specs.Told.{Kept, Holds, HoldsBad, TellsNoMore}
+use Rattle.keeper_sqlite.specs.Told.{Kept, Holds, HoldsBad, TellsNoMore, GoesOn, LeavesBooks}
 use Rattle.keeper_sqlite.proofs.keeper.SqliteKeeperKeeper.load.Goals as goal
 
 pub returns-then-is_want_of_memory-clause-kept : goal.returns-then-is_want_of_memory-clause-kept
 returns-then-is_want_of_memory-clause-kept g c =
-    (subst (λ (k : Kept _). TellsNoMore (state g.S.Store k.file) k.is_beside (state g.S.Store c.load_or_make.new.conn) c.load_or_make.new.is_beside) c.self.view_is c.load_or_make.ensures.tells).kept
+    (subst (λ (k : Kept _). TellsNoMore (state g.S.Store k.file) k.is_beside (state g.S.Store c.load_noting.new.conn) c.load_noting.new.is_beside) c.self.view_is c.load_noting.ensures.tells).kept
 
 pub returns-then-is_want_of_memory-clause-kept_row : goal.returns-then-is_want_of_memory-clause-kept_row
 returns-then-is_want_of_memory-clause-kept_row g c =
-    (subst (λ (k : Kept _). TellsNoMore (state g.S.Store k.file) k.is_beside (state g.S.Store c.load_or_make.new.conn) c.load_or_make.new.is_beside) c.self.view_is c.load_or_make.ensures.tells).kept_row
+    (subst (λ (k : Kept _). TellsNoMore (state g.S.Store k.file) k.is_beside (state g.S.Store c.load_noting.new.conn) c.load_noting.new.is_beside) c.self.view_is c.load_noting.ensures.tells).kept_row
+
+pub returns-then-is_want_of_memory-clause-goes_on : goal.returns-then-is_want_of_memory-clause-goes_on
+returns-then-is_want_of_memory-clause-goes_on g c =
+    subst (λ (k : Kept _). GoesOn (state g.S.Store k.file) k.is_beside (state g.S.Store c.load_noting.new.conn) c.load_noting.new.is_beside) c.self.view_is c.load_noting.ensures.goes_on
 
 pub returns-in-Ok-clause-kept : goal.returns-in-Ok-clause-kept
 returns-in-Ok-clause-kept g c =
-    (subst (λ (k : Kept _). TellsNoMore (state g.S.Store k.file) k.is_beside (state g.S.Store c.load_or_make.new.conn) c.load_or_make.new.is_beside) c.self.view_is c.load_or_make.ensures.tells).kept
+    (subst (λ (k : Kept _). TellsNoMore (state g.S.Store k.file) k.is_beside (state g.S.Store c.load_noting.new.conn) c.load_noting.new.is_beside) c.self.view_is c.load_noting.ensures.tells).kept
 
 pub returns-in-Ok-clause-kept_row : goal.returns-in-Ok-clause-kept_row
 returns-in-Ok-clause-kept_row g c =
-    (subst (λ (k : Kept _). TellsNoMore (state g.S.Store k.file) k.is_beside (state g.S.Store c.load_or_make.new.conn) c.load_or_make.new.is_beside) c.self.view_is c.load_or_make.ensures.tells).kept_row
+    (subst (λ (k : Kept _). TellsNoMore (state g.S.Store k.file) k.is_beside (state g.S.Store c.load_noting.new.conn) c.load_noting.new.is_beside) c.self.view_is c.load_noting.ensures.tells).kept_row
+
+pub returns-in-Ok-clause-goes_on : goal.returns-in-Ok-clause-goes_on
+returns-in-Ok-clause-goes_on g c =
+    subst (λ (k : Kept _). GoesOn (state g.S.Store k.file) k.is_beside (state g.S.Store c.load_noting.new.conn) c.load_noting.new.is_beside) c.self.view_is c.load_noting.ensures.goes_on
 
 pub returns-else-is_want_of_memory-clause-kept : goal.returns-else-is_want_of_memory-clause-kept
 returns-else-is_want_of_memory-clause-kept g c =
-    let all = subst (λ (k : Kept _). TellsNoMore (state g.S.Store k.file) k.is_beside (state g.S.Store c.load_or_make.new.conn) c.load_or_make.new.is_beside) c.self.view_is c.load_or_make.ensures.tells in
-    subst (λ (k : Kept _). Keeps (Holds (state g.S.Store c.args.self.now.file) c.args.self.now.is_beside) (Holds (state g.S.Store k.file) k.is_beside)) (sym c.count_fault.ensures.kept) all.kept
+    subst (λ (n : Kept _). Keeps (Holds (state g.S.Store c.args.self.now.file) c.args.self.now.is_beside) (Holds (state g.S.Store n.file) n.is_beside)) (sym c.count_fault.ensures.kept)
+    ((subst (λ (k : Kept _). TellsNoMore (state g.S.Store k.file) k.is_beside (state g.S.Store c.load_noting.new.conn) c.load_noting.new.is_beside) c.self.view_is c.load_noting.ensures.tells).kept)
 
 pub returns-else-is_want_of_memory-clause-kept_row : goal.returns-else-is_want_of_memory-clause-kept_row
 returns-else-is_want_of_memory-clause-kept_row g c =
-    let all = subst (λ (k : Kept _). TellsNoMore (state g.S.Store k.file) k.is_beside (state g.S.Store c.load_or_make.new.conn) c.load_or_make.new.is_beside) c.self.view_is c.load_or_make.ensures.tells in
-    subst (λ (k : Kept _). Keeps (HoldsBad (state g.S.Store c.args.self.now.file) c.args.self.now.is_beside) (HoldsBad (state g.S.Store k.file) k.is_beside)) (sym c.count_fault.ensures.kept) all.kept_row
+    subst (λ (n : Kept _). Keeps (HoldsBad (state g.S.Store c.args.self.now.file) c.args.self.now.is_beside) (HoldsBad (state g.S.Store n.file) n.is_beside)) (sym c.count_fault.ensures.kept)
+    ((subst (λ (k : Kept _). TellsNoMore (state g.S.Store k.file) k.is_beside (state g.S.Store c.load_noting.new.conn) c.load_noting.new.is_beside) c.self.view_is c.load_noting.ensures.tells).kept_row)
+
+pub returns-else-is_want_of_memory-clause-goes_on : goal.returns-else-is_want_of_memory-clause-goes_on
+returns-else-is_want_of_memory-clause-goes_on g c =
+    subst (λ (n : Kept _). GoesOn (state g.S.Store c.args.self.now.file) c.args.self.now.is_beside (state g.S.Store n.file) n.is_beside) (sym c.count_fault.ensures.kept)
+    (subst (λ (k : Kept _). GoesOn (state g.S.Store k.file) k.is_beside (state g.S.Store c.load_noting.new.conn) c.load_noting.new.is_beside) c.self.view_is c.load_noting.ensures.goes_on)
+
+pub returns-else-is_want_of_memory-clause-found : goal.returns-else-is_want_of_memory-clause-found
+returns-else-is_want_of_memory-clause-found g c =
+    subst (λ (n : Kept _). (book : Book) → Holds (state g.S.Store n.file) n.is_beside book → LeavesBooks (state g.S.Store n.file) n.is_beside) (sym c.count_fault.ensures.kept) c.load_noting.ensures.found
