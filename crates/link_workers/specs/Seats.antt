@@ -1,7 +1,7 @@
 -- The seats of several workers before and after they served.
 use Rattle.std.specs.Prelude.{◌≡◌, ℕ, ◌<◌, List, [], ◌∷◌, length, Option, slice_index_or}
 use Rattle.office_links.specs.Links.{Links}
-use Rattle.link_workers.specs.Links.{Served, ServesLinks}
+use Rattle.link_workers.specs.Links.{Served, ServesLinks, IsServedFrom}
 
 module _ {Seat : Type 0} where
   -- as many seats as before, and each follows what it was
@@ -14,3 +14,7 @@ module _ {Seat : Type 0} where
   ServesAlone serves seats seats_now left left_now links links_now =
       (seat : Seat) → seats ≡ seat ∷ []
       → (seat_now : Seat) × (seats_now ≡ seat_now ∷ []) × ServesLinks serves seat seat_now left left_now links links_now
+
+  -- whatever this seat makes of a link from now on, is such
+  abbrev pub MakesOnly : (Seat → Served → Seat → Type 0) → (Seat → Seat → Type 0) → (Served → Type 0) → Seat → Type 0
+  MakesOnly serves follows IsMade seat = (link : Served) → IsServedFrom serves follows seat link → IsMade link

@@ -1,7 +1,7 @@
 ghost use Rattle.std.specs.Prelude.{◌≡◌, ◌<◌, true, false, IfSome, Some};
 ghost use Rattle.office_io.specs.Outside.{Faulted};
 ghost use Rattle.office_links.specs.Links.{Standing, after_giving_back, standing_by};
-ghost use Rattle.link_workers.specs.Links.{ServesLinks};
+ghost use Rattle.link_workers.specs.Links.{IsServedFrom, ServesLinks, TellsBack};
 
 use crate::Seat;
 use office_links::{Accepted, Listener};
@@ -19,6 +19,7 @@ pub(crate) fn serve_links<L: Listener, T: Seat>(
     ensures follows { T.follows seat.old seat.new }
     ensures served { ServesLinks T.serves seat.old seat.new (L.left listener.old) (L.left listener.new)
         (L.links listener.old) (L.links listener.new) }
+    ensures given_back { TellsBack (IsServedFrom T.serves T.follows seat.old) (L.links listener.old) (L.links listener.new) }
     ensures all { result ≡ true → (L.left listener.new ≡ 0) × (L.faults listener.new ≡ L.faults listener.old) }
     ensures failed { result ≡ false → (0 < L.left listener.new) × Faulted (L.faults listener.old) (L.faults listener.new) }
 {

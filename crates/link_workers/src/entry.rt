@@ -1,38 +1,68 @@
-ghost use Rattle.std.specs.Prelude.{◌≡◌, ◌<◌, ◌≤◌, true, false};
+ghost use Rattle.std.specs.Prelude.{◌≡◌, ◌<◌, ◌≤◌, true, false, IfSome, Contains, map};
 ghost use Rattle.office_io.specs.Outside.{Faulted};
+ghost use Rattle.office_links.specs.Links.{Standing, standing_by, unused};
+ghost use Rattle.link_workers.specs.Links.{TellsBack};
 
 use office_links::{Accepted, Listener};
-use std::marker::{Brand, PhantomData};
+use std::marker::{Brand, Model, PhantomData};
 
-/// How a listener was when its workers began.
+/// How a listener was when its workers began, and what they may make of its links.
 pub(crate) trait Start {
     ghost use Rattle.std.specs.Prelude.{ℕ};
+    ghost use Rattle.std.specs.declared.option.Option.{Option};
+    ghost use Rattle.office_links.specs.Links.{Links};
+    ghost use Rattle.link_workers.specs.Links.{Served};
 
     ghost left: { ℕ };
 
     ghost faults: { ℕ };
+
+    ghost links: { Option Links };
+
+    // What was made of a link that is given back.
+    ghost is_made: { Served → Type 0 };
 }
 
 impl Start for Brand {
+    ghost use Rattle.std.specs.Prelude.{⊤, None};
+
     ghost left = { 0 };
 
     ghost faults = { 0 };
+
+    ghost links = { None };
+
+    ghost is_made = { λ link. ⊤ };
 }
 
-/// What lies behind the lock: the listener, and whether an accept has failed.
+/// What lies behind the lock: the listener, and whether an accept has failed. Contracts see whether one has.
 pub(crate) struct Entry<L: Listener, B: Start> {
     listener: L,
     failed: bool,
     start: PhantomData<B>,
-    ghost fewer: { L.left listener ≤ B.left },
-    ghost unfailed: { failed ≡ false → L.faults listener ≡ B.faults },
-    ghost fails: { failed ≡ true → (0 < L.left listener) × Faulted B.faults (L.faults listener) },
+}
+
+impl<L: Listener, B: Start> Model for Entry<L, B> {
+    ghost use Rattle.std.specs.Prelude.{◌≡◌, ◌<◌, ◌≤◌, true, false, Bool};
+    ghost use Rattle.office_io.specs.Outside.{Faulted};
+    ghost use Rattle.link_workers.specs.Links.{TellsBack};
+
+    ghost Value = { Bool };
+
+    ghost view = { λ entry. entry.failed };
+
+    // Each link that was given back so far was served in one of the ways that the start allows.
+    ghost invariant = { λ entry. (L.left entry.listener ≤ B.left)
+        × (entry.failed ≡ false → L.faults entry.listener ≡ B.faults)
+        × (entry.failed ≡ true → (0 < L.left entry.listener) × Faulted B.faults (L.faults entry.listener))
+        × TellsBack B.is_made B.links (L.links entry.listener) };
 }
 
 impl<L: Listener, B: Start> Entry<L, B> {
     pub(crate) fn new(listener: L) -> Entry<L, B>
         requires left { L.left listener ≤ B.left }
         requires faults { L.faults listener ≡ B.faults }
+        requires links { L.links listener ≡ B.links }
     {
         Entry {
             listener,
@@ -42,7 +72,10 @@ impl<L: Listener, B: Start> Entry<L, B> {
     }
 
     /// The next link, but after a failed accept none.
-    pub(crate) fn next(&mut self) -> Option<(L::In, L::Out)> {
+    pub(crate) fn next(&mut self) -> Option<(L::In, L::Out)>
+        ensures came { IfSome result (λ link. IfSome B.links (λ told. Contains (map unused told.left)
+            (standing_by L.In.left L.In.faults L.Out.held L.Out.faults link.0 link.1))) }
+    {
         if self.failed {
             return None;
         }
@@ -56,8 +89,11 @@ impl<L: Listener, B: Start> Entry<L, B> {
         }
     }
 
-    /// Gives a served link back.
-    pub(crate) fn done(&mut self, source: L::In, sink: L::Out) {
+    /// Gives a served link back: one that came from here, and of which that was made.
+    pub(crate) fn done(&mut self, source: L::In, sink: L::Out)
+        requires served { (came : Standing) × IfSome B.links (λ told. Contains (map unused told.left) came)
+            × B.is_made (record { came = came; given_back = standing_by L.In.left L.In.faults L.Out.held L.Out.faults source sink }) }
+    {
         self.listener.done(source, sink);
     }
 
@@ -66,6 +102,7 @@ impl<L: Listener, B: Start> Entry<L, B> {
         ensures fewer { L.left result.0 ≤ B.left }
         ensures unfailed { result.1 ≡ false → L.faults result.0 ≡ B.faults }
         ensures fails { result.1 ≡ true → (0 < L.left result.0) × Faulted B.faults (L.faults result.0) }
+        ensures given_back { TellsBack B.is_made B.links (L.links result.0) }
     {
         let Entry {
             listener,

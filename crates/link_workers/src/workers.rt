@@ -1,8 +1,8 @@
 ghost use Rattle.std.specs.Prelude.{◌≡◌, ◌<◌, ◌≤◌, true, false, List, length};
 ghost use Rattle.std.specs.List.{All};
 ghost use Rattle.office_io.specs.Outside.{Faulted};
-ghost use Rattle.link_workers.specs.Links.{ServesLinks};
-ghost use Rattle.link_workers.specs.Seats.{FollowsEach, ServesAlone};
+ghost use Rattle.link_workers.specs.Links.{IsServedByOne, IsServedFrom, ServesLinks, TellsBack};
+ghost use Rattle.link_workers.specs.Seats.{FollowsEach, MakesOnly, ServesAlone};
 
 use crate::Seat;
 use crate::alone::serve_links;
@@ -43,6 +43,9 @@ where
     ensures all { result.failed ≡ false → (L.left result.listener ≡ 0) × (L.faults result.listener ≡ L.faults listener) }
     ensures failed { result.failed ≡ true → (0 < L.left result.listener) × Faulted (L.faults listener) (L.faults result.listener) }
 
+    // However many workers there are, each link that is given back was served by one of them.
+    ensures given_back { TellsBack (IsServedByOne T.serves T.follows seats.old) (L.links listener) (L.links result.listener) }
+
     // One worker alone serves, in order, the very links that are given back.
     ensures alone { ServesAlone T.serves seats.old seats.new (L.left listener) (L.left result.listener)
         (L.links listener) (L.links result.listener) }
@@ -68,11 +71,14 @@ where
     requires in_order { All T.in_order seats.old }
     requires left { L.left listener ≡ B.left }
     requires faults { L.faults listener ≡ B.faults }
+    requires links { L.links listener ≡ B.links }
+    requires makes { All (MakesOnly T.serves T.follows B.is_made) seats.old }
     ensures in_order { All T.in_order seats.new }
     ensures follows { FollowsEach T.follows seats.old seats.new }
     ensures fewer { L.left result.listener ≤ B.left }
     ensures all { result.failed ≡ false → (L.left result.listener ≡ 0) × (L.faults result.listener ≡ B.faults) }
     ensures failed { result.failed ≡ true → (0 < L.left result.listener) × Faulted B.faults (L.faults result.listener) }
+    ensures given_back { TellsBack B.is_made B.links (L.links result.listener) }
 {
     let entry = Mutex::new(Entry::<L, B>::new(listener));
     serve_each(rt, alloc, &entry, seats);
@@ -92,6 +98,8 @@ fn finish<L: Listener, T: Seat, B: Start>(
     ensures fewer { L.left result.listener ≤ B.left }
     ensures all { result.failed ≡ false → (L.left result.listener ≡ 0) × (L.faults result.listener ≡ B.faults) }
     ensures failed { result.failed ≡ true → (0 < L.left result.listener) × Faulted B.faults (L.faults result.listener) }
+    ensures given_back { (first : List T) → All (MakesOnly T.serves T.follows B.is_made) first → FollowsEach T.follows first seats.old
+        → TellsBack B.is_made B.links (L.links result.listener) }
 {
     let last = seats.len() - 1;
     match entry.into_parts() {
@@ -115,6 +123,7 @@ where
     L::Out: Send,
     requires some { 0 < length seats.old }
     requires in_order { All T.in_order seats.old }
+    requires makes { All (MakesOnly T.serves T.follows B.is_made) seats.old }
     ensures in_order { All T.in_order seats.new }
     ensures follows { FollowsEach T.follows seats.old seats.new }
 {
@@ -124,7 +133,7 @@ where
         seats,
         workers,
         &|_: usize, seat: &mut T|
-            requires { T.in_order seat.old }
+            requires { T.in_order seat.old × MakesOnly T.serves T.follows B.is_made seat.old }
             ensures { T.in_order seat.new × T.follows seat.old seat.new }
         { serve_in_turn(rt, alloc, entry, seat) },
     );
@@ -138,6 +147,7 @@ fn serve_in_turn<R: Wait, L: Listener, T: Seat, B: Start>(
     seat: &mut T,
 )
     requires in_order { T.in_order seat.old }
+    requires makes { MakesOnly T.serves T.follows B.is_made seat.old }
     ensures in_order { T.in_order seat.new }
     ensures follows { T.follows seat.old seat.new }
 {
@@ -160,6 +170,7 @@ fn go_on<L: Listener, T: Seat>(alloc: Global, mut listener: L, seat: &mut T) -> 
     ensures follows { T.follows seat.old seat.new }
     ensures served { ServesLinks T.serves seat.old seat.new (L.left listener) (L.left result.listener)
         (L.links listener) (L.links result.listener) }
+    ensures given_back { TellsBack (IsServedFrom T.serves T.follows seat.old) (L.links listener) (L.links result.listener) }
     ensures all { result.failed ≡ false → (L.left result.listener ≡ 0) × (L.faults result.listener ≡ L.faults listener) }
     ensures failed { result.failed ≡ true → (0 < L.left result.listener) × Faulted (L.faults listener) (L.faults result.listener) }
 {

@@ -1,4 +1,5 @@
 use Rattle.std.proofs.Common.{◌≡◌}
+use Rattle.link_workers.specs.Links.{IsServedFrom, TellsBack}
 use Rattle.link_workers.proofs.SoFar.{SoFar}
 use Rattle.link_workers.proofs.alone.serve_links.Given as goal
 
@@ -6,6 +7,7 @@ abbrev pub invariant-loop-source : goal.invariant-loop-source
 invariant-loop-source g l = record {
   served : SoFar g.T.Seat.serves l.fn.seat l.seat
       (g.L.Listener.left l.fn.listener) (g.L.Listener.left l.listener) (g.L.Listener.links l.fn.listener) (g.L.Listener.links l.listener);
+  given_back : TellsBack (IsServedFrom g.T.Seat.serves g.T.Seat.follows l.fn.seat) (g.L.Listener.links l.fn.listener) (g.L.Listener.links l.listener);
   unfaulted : g.L.Listener.faults l.listener ≡ g.L.Listener.faults l.fn.listener;
   in_order : g.T.Seat.in_order l.seat;
   follows : g.T.Seat.follows l.fn.seat l.seat;
