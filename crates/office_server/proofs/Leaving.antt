@@ -1,5 +1,5 @@
 -- What a desk leaves that ends with a pass.
-use Rattle.std.proofs.Common.{◌≡◌, ◌∙◌, ◌⊎◌, ◌<◌, inl, inr, refl, ℕ, List, sym, subst}
+use Rattle.std.proofs.Common.{◌≡◌, ◌∙◌, ◌⊎◌, ◌<◌, inl, inr, refl, ℕ, List, length, sym, subst}
 use Rattle.std.specs.{Prelude.Option, Prelude.None, Io.KnownBytes.Keeps as KeepsBytes}
 use Rattle.office_io.specs.Outside.{Faulted}
 use Rattle.book_rows.specs.{Book.Book}
@@ -7,9 +7,16 @@ use Rattle.desk_history.specs.declared.views.{PassView.PassView, Start.Start}
 use Rattle.link_workers.specs.Links.{ServesLinks}
 use Rattle.office_links.specs.Links.{Links}
 use Rattle.program_answers.specs.Opening.{Door, door, largest}
-use Rattle.shared_desk.specs.{Deciding.IsLeft, Deciding.Survives, Desk.IsFinished, History.IsLegalHistory, History.capacity_of, History.tables_at, Passes.IsFresh}
+use Rattle.shared_desk.specs.{Deciding.IsLeft, Deciding.Survives, Desk.IsFinished, History.IsLegalHistory, History.capacity_of, History.tables_at, Passes.AreFresh, Passes.IsFresh}
+use mathlib.Core.List.{IsPrefix}
+use Rattle.book_rows.specs.declared.rows.ActRow.{ActRow}
+use Rattle.desk_history.proofs.Fronts.{prefix_more}
 use Rattle.keeper_core.specs.Keeping.{LeavesTold}
-use Rattle.office_server.specs.{Links.IsServed, Links.LeavesDesk, Links.OutlivesStops, Links.ServesInTurn, Server.EndsBy, Server.IsUnserved, Server.Writes, Server.book_line, declared.desk.How.How}
+use Rattle.office_server.specs.{Links.IsServed, Links.LeavesDesk, Links.OutlivesStops, Links.ServesInTurn, Links.ServesTogether, Links.WorksBy, Server.EndsBy, Server.IsUnserved, Server.Writes, Server.book_line, declared.desk.How.How}
+
+-- a beginning of a beginning
+pub prefix_joins : (a b c : List ActRow) → IsPrefix a b → IsPrefix b c → IsPrefix a c
+prefix_joins a b c first (rest, is) = subst (λ (l : List ActRow). IsPrefix a l) is (prefix_more a b rest first)
 
 module _ (start : Start) (pass : PassView) (tables : Book) (told holds : Book → Type 0) (sound tells : Type 0) (leaves : Book → Type 0) (same : pass.start ≡ start)
     (finished : IsFinished pass tables told holds sound tells leaves) where
@@ -42,6 +49,23 @@ module _ (start : Start) (pass : PassView) (tables : Book) (told holds : Book �
     whole = subst (λ (s : Start). tables ≡ tables_at s finished.history) same finished.whole;
   }
 
+  -- and together, where the pass knows what each of those that served knows
+  pub together : (shows : ℕ → Type 0) (workers : ℕ) (passes : List PassView) (links links_now : Option Links) → length passes ≡ workers → AreFresh start 1 passes
+      → WorksBy shows passes pass links links_now → ServesTogether shows workers links links_now tables
+  together shows workers passes links links_now many fresh works = record {
+    start = start;
+    passes = passes;
+    many = many;
+    fresh = fresh;
+    passes_now = works.passes_now;
+    follows = works.follows;
+    given_back = works.given_back;
+    history = finished.history;
+    legal = subst (λ (s : Start). IsLegalHistory s finished.history) same finished.legal;
+    fronts = λ k d within. prefix_joins _ _ _ (works.fronts k d within) finished.front;
+    whole = subst (λ (s : Start). tables ≡ tables_at s finished.history) same finished.whole;
+  }
+
 -- the book that the desk was told of, said otherwise
 pub told_otherwise : (told other holds : Book → Type 0) (tables : Book) → ((book : Book) → told book → other book) → LeavesDesk told holds tables → LeavesDesk other holds tables
 told_otherwise told other holds tables means leaves = record {
@@ -68,34 +92,35 @@ turned Served InTurn how how_now same turns (inl is) = inl (same ∙ is)
 turned Served InTurn how how_now same turns (inr served) = inr (turns served)
 
 module _
-    (left_now : ℕ) (tables : Book) (held held_now : Option (List ℕ)) (listener listener_now sink sink_now keeper keeper_now status : ℕ) where
+    {L : Type 0} (at at_now : L) (left_now : ℕ) (tables : Book) (held held_now : Option (List ℕ)) (listener listener_now sink sink_now keeper keeper_now status : ℕ) where
   abbrev old : Door
   old = door None held listener sink keeper
 
   abbrev new : Door
   new = door None held_now listener_now sink_now keeper_now
 
-  unserved : (how : How) → (how ≡ How.Unserved → listener_now ≡ listener) → (how ≡ How.Unserved → (status ≡ 7) × KeepsBytes held held_now × (sink_now ≡ sink))
-      → how ≡ How.Unserved → IsUnserved old new status
-  unserved how stays told is = let t = told is in record { source = stays is; held = t.1; sink = t.2; status_is = t.0 }
+  unserved : (how : How) → (how ≡ How.Unserved → at_now ≡ at) → (how ≡ How.Unserved → listener_now ≡ listener) → (how ≡ How.Unserved → (status ≡ 7) × KeepsBytes held held_now × (sink_now ≡ sink))
+      → how ≡ How.Unserved → IsUnserved at at_now old new status
+  unserved how same stays told is = let t = told is in record { same = same is; source = stays is; held = t.1; sink = t.2; status_is = t.0 }
 
   pub ends_by : (how : How)
       → (how ≡ How.Whole → (left_now ≡ 0) × (listener_now ≡ listener))
       → (how ≡ How.AcceptFailed → (0 < left_now) × Faulted listener listener_now)
+      → (how ≡ How.Unserved → at_now ≡ at)
       → (how ≡ How.Unserved → listener_now ≡ listener)
       → (how ≡ How.Whole → Writes (book_line tables) held held_now sink sink_now status)
       → (how ≡ How.AcceptFailed → (status ≡ 3) × KeepsBytes held held_now × (sink_now ≡ sink))
       → (how ≡ How.Unserved → (status ≡ 7) × KeepsBytes held held_now × (sink_now ≡ sink))
-      → EndsBy left_now tables old new status
-  ends_by How.Whole whole failed stays told_whole told_failed told_unserved =
+      → EndsBy at at_now left_now tables old new status
+  ends_by How.Whole whole failed same stays told_whole told_failed told_unserved =
       let w = whole refl in inl (record { none_left = w.0; source = w.1; written = told_whole refl })
-  ends_by How.AcceptFailed whole failed stays told_whole told_failed told_unserved =
+  ends_by How.AcceptFailed whole failed same stays told_whole told_failed told_unserved =
       let f = failed refl in let t = told_failed refl in
       inr (inl (record { some_left = f.0; source = f.1; held = t.1; sink = t.2; status_is = t.0 }))
-  ends_by How.Unserved whole failed stays told_whole told_failed told_unserved =
-      inr (inr (unserved How.Unserved stays told_unserved refl))
+  ends_by How.Unserved whole failed same stays told_whole told_failed told_unserved =
+      inr (inr (unserved How.Unserved same stays told_unserved refl))
 
-  pub turn_by : (how : How) (InTurn : Type 0) → (how ≡ How.Unserved → listener_now ≡ listener)
-      → (how ≡ How.Unserved → (status ≡ 7) × KeepsBytes held held_now × (sink_now ≡ sink)) → (how ≡ How.Unserved) ⊎ InTurn → IsUnserved old new status ⊎ InTurn
-  turn_by how InTurn stays told (inl is) = inl (unserved how stays told is)
-  turn_by how InTurn stays told (inr turn) = inr turn
+  pub turn_by : (how : How) (InTurn : Type 0) → (how ≡ How.Unserved → at_now ≡ at) → (how ≡ How.Unserved → listener_now ≡ listener)
+      → (how ≡ How.Unserved → (status ≡ 7) × KeepsBytes held held_now × (sink_now ≡ sink)) → (how ≡ How.Unserved) ⊎ InTurn → IsUnserved at at_now old new status ⊎ InTurn
+  turn_by how InTurn same stays told (inl is) = inl (unserved how same stays told is)
+  turn_by how InTurn same stays told (inr turn) = inr turn

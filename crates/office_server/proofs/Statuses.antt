@@ -82,7 +82,7 @@ module _
   Came = Comes shows workers listener listener_now left links holds holds_now bad_now old new status
 
   abbrev Desk : Type 0
-  Desk = DeskServed shows workers (left listener) (left listener_now) (links listener) (links listener_now) holds holds_now old new status
+  Desk = DeskServed shows workers listener listener_now left links holds holds_now old new status
 
   -- links were served until none was left, and the line was written
   record Whole (d : Desk) : Type 0 where
@@ -99,7 +99,7 @@ module _
     by_text all (inl (inr ends)) = let is = ends.0 in absurd (omega (arith, is, zero))
     by_text all (inr ends) = let is = ends.0 in absurd (omega (arith, is, zero))
 
-    by_end : EndsBy (left listener_now) d.tables old new status → Whole d
+    by_end : EndsBy listener listener_now (left listener_now) d.tables old new status → Whole d
     by_end (inl all) = by_text all all.written
     by_end (inr (inl broken)) = let is = broken.status_is in absurd (omega (arith, is, zero))
     by_end (inr (inr unserved)) = let is = unserved.status_is in absurd (omega (arith, is, zero))
@@ -115,7 +115,7 @@ module _
   given_back came one zero = let w = whole came zero in by_turn w.1.none_left (w.0.in_turn one)
     where
       by_turn : {tables : Book} → left listener_now ≡ 0
-          → IsUnserved old new status ⊎ ServesInTurn shows (left listener) (left listener_now) (links listener) (links listener_now) tables
+          → IsUnserved listener listener_now old new status ⊎ ServesInTurn shows (left listener) (left listener_now) (links listener) (links listener_now) tables
           → IfSome (links listener) (λ told. GivesAllBack told (links listener_now))
       by_turn none (inl unserved) = let is = unserved.status_is in absurd (omega (arith, is, zero))
       by_turn none (inr turn) = given_all turn.served.served (links listener) (links listener_now) (left listener_now) none turn.served.told
@@ -135,7 +135,7 @@ module _
     by_text (inl (inr ends)) = let is = ends.0 in absurd (omega (arith, is, three))
     by_text (inr ends) = let is = ends.0 in absurd (omega (arith, is, three))
 
-    by_end : EndsBy (left listener_now) d.tables old new status → (0 < left listener_now) × Faulted old.counts.source new.counts.source
+    by_end : EndsBy listener listener_now (left listener_now) d.tables old new status → (0 < left listener_now) × Faulted old.counts.source new.counts.source
     by_end (inl all) = by_text all.written
     by_end (inr (inl broken)) = (broken.some_left, broken.source)
     by_end (inr (inr unserved)) = let is = unserved.status_is in absurd (omega (arith, is, three))
@@ -147,7 +147,7 @@ module _
     by_text (inl ends) = ends_four (book_line d.tables) _ _ _ _ status (λ is. omega (arith, is)) four ends
     by_text (inr ends) = let is = ends.0 in absurd (omega (arith, is, four))
 
-    by_end : EndsBy (left listener_now) d.tables old new status → Faulted old.counts.sink new.counts.sink
+    by_end : EndsBy listener listener_now (left listener_now) d.tables old new status → Faulted old.counts.sink new.counts.sink
     by_end (inl all) = by_text all.written
     by_end (inr (inl broken)) = let is = broken.status_is in absurd (omega (arith, is, four))
     by_end (inr (inr unserved)) = let is = unserved.status_is in absurd (omega (arith, is, four))
@@ -164,7 +164,7 @@ module _
     by_text (inr ends) (inl five) = let own = ends.0 in omega (arith, own, five)
     by_text (inr ends) (inr six) = let own = ends.0 in omega (arith, own, six)
 
-    by_end : EndsBy (left listener_now) d.tables old new status → (status ≡ 5) ⊎ (status ≡ 6) → ⊥
+    by_end : EndsBy listener listener_now (left listener_now) d.tables old new status → (status ≡ 5) ⊎ (status ≡ 6) → ⊥
     by_end (inl all) five_or_six = by_text all.written five_or_six
     by_end (inr (inl broken)) (inl five) = let own = broken.status_is in omega (arith, own, five)
     by_end (inr (inl broken)) (inr six) = let own = broken.status_is in omega (arith, own, six)

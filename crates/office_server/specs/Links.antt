@@ -1,15 +1,15 @@
 -- How a worker's seat at a desk serves links.
-use Rattle.std.specs.Prelude.{◌≡◌, ℕ, Option, IfSome, List}
+use Rattle.std.specs.Prelude.{◌≡◌, ℕ, Option, IfSome, List, All, length}
 use mathlib.Core.List.{IsPrefix}
 use Rattle.office_links.specs.Links.{Links}
 use Rattle.book_rows.specs.{declared.rows.ActRow.ActRow, Book.Book}
 use Rattle.desk_history.specs.{declared.views.PassView.PassView, declared.views.Start.Start, Seen.point_of}
 use Rattle.keeper_core.specs.Keeping.{LeavesTold}
-use Rattle.shared_desk.specs.{Deciding.IsLeft, History.IsLegalHistory, History.book_in, History.capacity_of, History.tables_at, Passes.IsFresh}
+use Rattle.shared_desk.specs.{Deciding.IsLeft, History.IsLegalHistory, History.book_in, History.capacity_of, History.tables_at, Calls.Further, Passes.AreFresh, Passes.IsFresh}
 use Rattle.program_answers.specs.Opening.{largest}
 use Rattle.http_front.specs.Below.http_session.{Completeness.Completes, Sessions.EndCause, Sessions.Ends, declared.end.SessionEnd.SessionEnd}
 use Rattle.http_front.specs.Passes.{AnswersPass, NeverSilent}
-use Rattle.link_workers.specs.Links.{Served, ServesLinks}
+use Rattle.link_workers.specs.{Links.IsServedByOne, Links.Served, Links.ServesLinks, Links.TellsBack, Seats.FollowsEach}
 
 -- A session made this of a link, and left the pass so.
 pub record IsServed (shows : ℕ → Type 0) (old new : PassView) (link : Served) : Type 0 where
@@ -29,6 +29,29 @@ pub record ServesInTurn (shows : ℕ → Type 0) (left left_now : ℕ) (links li
   pub history : List ActRow
   pub legal : IsLegalHistory start history
   pub front : IsPrefix pass_now.list history
+  pub whole : tables ≡ tables_at start history
+
+-- However many workers served: each link that was given back is a session's, by a pass to which one of these had come. Each of
+-- them has gone on, and now begins what that pass knows.
+pub record WorksBy (shows : ℕ → Type 0) (passes : List PassView) (last : PassView) (links links_now : Option Links) : Type 0 where
+  pub passes_now : List PassView
+  pub follows : FollowsEach Further passes passes_now
+  pub fronts : All (λ pass. IsPrefix pass.list last.list) passes_now
+  pub given_back : TellsBack (IsServedByOne (λ pass link pass_now. IsServed shows pass pass_now link) Further passes) links links_now
+
+-- So many workers served the links, each by a pass of its own, which was new. What each pass knows now, its own entries among
+-- it, is the beginning of one legal history, and the tables that are left are those after that.
+pub record ServesTogether (shows : ℕ → Type 0) (workers : ℕ) (links links_now : Option Links) (tables : Book) : Type 0 where
+  pub start : Start
+  pub passes : List PassView
+  pub many : length passes ≡ workers
+  pub fresh : AreFresh start 1 passes
+  pub passes_now : List PassView
+  pub follows : FollowsEach Further passes passes_now
+  pub given_back : TellsBack (IsServedByOne (λ pass link pass_now. IsServed shows pass pass_now link) Further passes) links links_now
+  pub history : List ActRow
+  pub legal : IsLegalHistory start history
+  pub fronts : All (λ pass. IsPrefix pass.list history) passes_now
   pub whole : tables ≡ tables_at start history
 
 -- What a desk leaves that was opened on a book of the program's capacity: the tables after a legal history from there. The

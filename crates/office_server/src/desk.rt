@@ -5,7 +5,7 @@ ghost use Rattle.program_answers.specs.Opening.{largest};
 ghost use Rattle.desk_history.specs.declared.views.{PassView.PassView, Start.Start};
 ghost use Rattle.link_workers.specs.Links.{ServesLinks};
 ghost use Rattle.shared_desk.specs.{Deciding.Survives, Desk.IsFinished, History.capacity_of};
-ghost use Rattle.office_server.specs.Links.{IsServed, LeavesDesk, ServesInTurn};
+ghost use Rattle.office_server.specs.Links.{IsServed, LeavesDesk, ServesInTurn, ServesTogether, WorksBy};
 ghost use Rattle.office_server.specs.declared.desk.How.TheVariants as how;
 
 use crate::seats::{gathered, passes_of, seats_by};
@@ -57,6 +57,8 @@ where
     ensures whole { result.how ≡ how.Whole → (L.left result.listener ≡ 0) × (L.faults result.listener ≡ L.faults listener) }
     ensures failed { result.how ≡ how.AcceptFailed → (0 < L.left result.listener) × Faulted (L.faults listener) (L.faults result.listener) }
     ensures unserved { result.how ≡ how.Unserved → result.listener ≡ listener }
+    ensures together { (result.how ≡ how.Unserved) ⊎ ServesTogether (C.may_show clock.now) workers
+        (L.links listener) (L.links result.listener) (rows_of result.finished.tables) }
     ensures in_turn { workers ≡ 1 → (result.how ≡ how.Unserved) ⊎ ServesInTurn (C.may_show clock.now)
         (L.left listener) (L.left result.listener) (L.links listener) (L.links result.listener) (rows_of result.finished.tables) }
 {
@@ -126,6 +128,7 @@ where
     ensures whole { result.how ≡ how.Whole → (L.left result.listener ≡ 0) × (L.faults result.listener ≡ L.faults listener) }
     ensures failed { result.how ≡ how.AcceptFailed → (0 < L.left result.listener) × Faulted (L.faults listener) (L.faults result.listener) }
     ensures unserved { result.how ≡ how.Unserved → result.listener ≡ listener }
+    ensures works { (result.how ≡ how.Unserved) ⊎ WorksBy (C.may_show clock.now) passes.items result.pass (L.links listener) (L.links result.listener) }
     ensures alone { (pass : PassView) → passes.items ≡ pass ∷ [] → (result.how ≡ how.Unserved)
         ⊎ ServesLinks (λ old link new. IsServed (C.may_show clock.now) old new link) pass result.pass
         (L.left listener) (L.left result.listener) (L.links listener) (L.links result.listener) }

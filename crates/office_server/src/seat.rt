@@ -26,7 +26,7 @@ impl<'a, R: Wait, K: Keeper + Drop, B: Naming, C: Clock> Seat for ClerkSeat<'a, 
 
     ghost serves = { λ seat link seat_now. IsServed (C.may_show seat.clock.now) seat.pass seat_now.pass link × (seat_now.clock.now ≡ seat.clock.now) };
 
-    ghost follows = { λ seat seat_now. Further seat.pass seat_now.pass };
+    ghost follows = { λ seat seat_now. Further seat.pass seat_now.pass × (seat_now.clock.now ≡ seat.clock.now) };
 
     fn serve<S: Source, W: Sink>(&mut self, alloc: Global, source: &mut S, sink: &mut W) {
         session(
@@ -40,7 +40,7 @@ impl<'a, R: Wait, K: Keeper + Drop, B: Naming, C: Clock> Seat for ClerkSeat<'a, 
         );
     }
 
-    ghost stays = { λ seat. further_stays seat.pass };
+    ghost stays = { λ seat. (further_stays seat.pass, refl) };
 
-    ghost joins = { λ seat mid seat_now before after. further_joins seat.pass mid.pass seat_now.pass before after };
+    ghost joins = { λ seat mid seat_now before after. (further_joins seat.pass mid.pass seat_now.pass before.0 after.0, after.1 ∙ before.1) };
 }

@@ -1,6 +1,7 @@
 ghost use Rattle.std.specs.Prelude.{◌≡◌, ◌<◌, ◌≤◌, ◌+◌, [], ◌∷◌, All, Contains, List, map, length, IfOk, IfErr};
 ghost use Rattle.desk_history.specs.declared.views.{PassView.PassView, Start.Start};
 ghost use Rattle.shared_desk.specs.Passes.{AreFresh, IsFresh};
+ghost use mathlib.Core.List.{IsPrefix};
 
 use crate::seat::ClerkSeat;
 use http_front::shared_desk::{Desk, Naming, Pass, SharedDesk};
@@ -76,6 +77,7 @@ pub(crate) fn gathered<R, K: Keeper + Drop, B: Naming, C>(
     requires some { 0 < length seats.items }
     ensures start { (start : Start) → All (λ pass. pass.start ≡ start) (map (λ seat. seat.pass) seats.entry.items) → result.start ≡ start }
     ensures alone { (pass : PassView) → map (λ seat. seat.pass) seats.entry.items ≡ pass ∷ [] → result ≡ pass }
+    ensures fronts { All (λ pass. IsPrefix pass.list result.list) (map (λ seat. seat.pass) seats.entry.items) }
 {
     let ClerkSeat {
         desk,
@@ -95,6 +97,8 @@ fn learn_all<R, K: Keeper + Drop, B: Naming, C>(
 )
     ensures start { pass.new.start ≡ pass.old.start }
     ensures none { length seats.old ≡ 0 → pass.new ≡ pass.old }
+    ensures front { IsPrefix pass.old.list pass.new.list }
+    ensures told { All (λ seen. IsPrefix seen.list pass.new.list) (map (λ seat. seat.pass) seats.old) }
 {
     for seat in seats {
         let note = desk.note(&mut seat.pass);

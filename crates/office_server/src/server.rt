@@ -57,7 +57,8 @@ where
     L::Out: Send,
     requires workers { (1 ≤ workers) × (workers ≤ 32) }
 
-    // The links are served at a desk on the book that the keeper told; or the book isn't opened, and the listener is as it was.
+    // The links are served at a desk on the book that the keeper told, and each that is given back is a session's, by a
+    // worker's pass; or the book isn't opened, and the listener is as it was.
     ensures comes { Comes (C.may_show clock.now) workers listener result.listener L.left L.links
         (K.holds keeper) (K.holds result.keeper) (K.bad result.keeper)
         (door None (W.held sink.old) (L.faults listener) (W.faults sink.old) (K.faults keeper))

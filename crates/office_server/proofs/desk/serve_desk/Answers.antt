@@ -1,8 +1,8 @@
 use Rattle.std.proofs.Common.{◌∙◌, sym, subst}
 use Rattle.book_rows.specs.Book.{book_of}
 use Rattle.shared_desk.specs.Passes.{AreFresh}
-use Rattle.office_server.specs.Links.{ServesInTurn}
-use Rattle.office_server.proofs.{Leaving.in_turn, Leaving.leaves_desk, Leaving.survives, Leaving.turned, SeatLemmas.fresh_starts, SeatLemmas.one_long}
+use Rattle.office_server.specs.Links.{ServesInTurn, ServesTogether}
+use Rattle.office_server.proofs.{Leaving.in_turn, Leaving.leaves_desk, Leaving.survives, Leaving.together, Leaving.turned, SeatLemmas.fresh_starts, SeatLemmas.one_long}
 use Rattle.office_server.proofs.desk.serve_desk.Goals as goal
 
 pub returns-in-Ok-clause-leaves : goal.returns-in-Ok-clause-leaves
@@ -26,3 +26,13 @@ returns-in-Ok-clause-in_turn g c = λ one.
     (sym c.left_by.ensures.listener)
     (in_turn c.args.desk.start c.serve_by-worked.result.pass _ _ _ _ _ _ same c.left_by.ensures.finished (g.C.Clock.may_show c.args.clock.now) first.0 _ _ _ _ fresh served))
     (c.serve_by-worked.ensures.alone first.0 first.1)
+
+pub returns-in-Ok-clause-together : goal.returns-in-Ok-clause-together
+returns-in-Ok-clause-together g c =
+    let same = c.serve_by-worked.ensures.start c.args.desk.start (fresh_starts c.args.desk.start 1 c.in-Ok.passes.items c.in-Ok.ensures.fresh) in
+    turned _ _ _ _ c.left_by.ensures.how (λ works. subst (λ listener.
+    ServesTogether (g.C.Clock.may_show c.args.clock.now) c.args.workers (g.L.Listener.links c.args.listener) (g.L.Listener.links listener) (book_of c.left_by.result.finished.tables))
+    (sym c.left_by.ensures.listener)
+    (together c.args.desk.start c.serve_by-worked.result.pass _ _ _ _ _ _ same c.left_by.ensures.finished (g.C.Clock.may_show c.args.clock.now) c.args.workers c.in-Ok.passes.items _ _
+    c.in-Ok.ensures.many c.in-Ok.ensures.fresh works))
+    c.serve_by-worked.ensures.works

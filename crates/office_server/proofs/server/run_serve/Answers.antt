@@ -1,3 +1,6 @@
+use Rattle.std.proofs.Common.{inr, refl}
+use Rattle.std.proofs.KnownBytes.{Keeps-refl}
+use Rattle.http_front.specs.Below.clerk_desk.declared.opening.DeskFault.{DeskFault}
 use Rattle.office_server.proofs.Statuses.{accept_fault, bad_book_told, given_back, none_left, quiet, store_fault, write_fault, written}
 use Rattle.office_server.proofs.server.run_serve.Goals as goal
 
@@ -24,3 +27,16 @@ returns-in-Ok-clause-store_fault g c = store_fault _ _ _ _ g.L.Listener.left g.L
 
 pub returns-in-Ok-clause-bad_book : goal.returns-in-Ok-clause-bad_book
 returns-in-Ok-clause-bad_book g c = bad_book_told _ _ _ _ g.L.Listener.left g.L.Listener.links _ _ _ _ _ _ c.serve_on.ensures.comes
+
+pub returns-in-Err-clause-comes : goal.returns-in-Err-clause-comes
+returns-in-Err-clause-comes g c = inr (
+  refl,
+  record {
+    why = DeskFault.NoMemory;
+    is_why = tt;
+    kept = λ book holds. holds;
+    unread = refl;
+    unfaulted = refl;
+    told = (refl, record { held = Keeps-refl (g.W.Sink.held c.args.sink.now); counts = refl });
+  },
+)

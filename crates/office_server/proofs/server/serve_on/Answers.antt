@@ -11,9 +11,10 @@ returns-in-Ok-clause-comes g c =
     inl (record {
       tables = book_of c.serve_desk-finished.result.finished.tables;
       leaves = told_otherwise g.B.Naming.told (g.K.Keeper.holds c.args.keeper) _ _ c.requires.told_by served.leaves;
-      ended = ends_by _ _ _ _ _ _ _ _ _ _ _ c.serve_desk-finished.result.how served.whole served.failed (λ is. ap g.L.Listener.faults (served.unserved is))
+      ended = ends_by _ _ _ _ _ _ _ _ _ _ _ _ _ c.serve_desk-finished.result.how served.whole served.failed served.unserved (λ is. ap g.L.Listener.faults (served.unserved is))
           told.whole told.failed told.unserved;
-      in_turn = λ one. turn_by (g.L.Listener.left c.serve_desk-finished.result.listener) (book_of c.serve_desk-finished.result.finished.tables) _ _ _ _ _ _ _ _ _ c.serve_desk-finished.result.how _ (λ is. ap g.L.Listener.faults (served.unserved is)) told.unserved (served.in_turn one);
+      together = turn_by c.args.listener c.serve_desk-finished.result.listener (g.L.Listener.left c.serve_desk-finished.result.listener) (book_of c.serve_desk-finished.result.finished.tables) _ _ _ _ _ _ _ _ _ c.serve_desk-finished.result.how _ served.unserved (λ is. ap g.L.Listener.faults (served.unserved is)) told.unserved served.together;
+      in_turn = λ one. turn_by c.args.listener c.serve_desk-finished.result.listener (g.L.Listener.left c.serve_desk-finished.result.listener) (book_of c.serve_desk-finished.result.finished.tables) _ _ _ _ _ _ _ _ _ c.serve_desk-finished.result.how _ served.unserved (λ is. ap g.L.Listener.faults (served.unserved is)) told.unserved (served.in_turn one);
     })
 
 pub returns-in-Ok-clause-stopped : goal.returns-in-Ok-clause-stopped
