@@ -1,7 +1,8 @@
 -- What a keeper tells of its book, what one load and one commit do to it, and why they answer as they do.
 --
--- A keeper may stop telling at any call, so these look back from the end: what is told after a call was told before it.
-use Rattle.std.specs.Prelude.{◌≡◌, ◌⊎◌, ℕ, ⊤}
+-- A keeper may stop telling at any call, so most of these look back from the end: what is told after a call was told
+-- before it. Those of a keeper that nothing has stopped for good look forward.
+use Rattle.std.specs.Prelude.{◌≡◌, ◌⊎◌, ℕ, ⊤, Option, Some}
 use Rattle.office_io.specs.Outside.{Faulted}
 use Rattle.book_rows.specs.{declared.rows.Table.Table, declared.rows.Batch.Batch, Book.Book, Book.book_of, Book.appended}
 use Rattle.keeper_core.specs.declared.keeper.{Loaded.Loaded, Committed.Committed}
@@ -41,23 +42,32 @@ Commits old new batch Committed.Done =
 Commits old new batch Committed.Failed = Keeps old new
 Commits old new batch Committed.NoMemory = Keeps old new
 
+-- while nothing stops the keeper for good, a book that was told is told with the batch after Done, and as it was after
+-- every other answer
+abbrev pub CommitsOn : (Book → Type 0) → (Book → Type 0) → Batch → Committed → Type 0
+CommitsOn old new batch Committed.Done = (book : Book) → old book → new (appended book batch)
+CommitsOn old new batch Committed.Failed = Keeps new old
+CommitsOn old new batch Committed.NoMemory = Keeps new old
+
 -- a commit answers Failed only where it counted a fault
 abbrev pub CommitCause : ℕ → ℕ → Committed → Type 0
 CommitCause before now Committed.Failed = Faulted before now
 CommitCause before now _ = now ≡ before
 
--- a crash leaves the book that is told and no other
-abbrev pub LeavesTold : (Book → Type 0) → (Book → Type 0) → Type 0
-LeavesTold holds leaves = (book : Book) → holds book → (after : Book) → leaves after → after ≡ book
+-- ---- a crash, which leaves a book, or None: what is no book
 
--- a crash leaves what it could leave before, or the book that was told with the batch
-abbrev pub LeavesOrCommits : (Book → Type 0) → (Book → Type 0) → (Book → Type 0) → Batch → Type 0
+-- it leaves the book that is told, and nothing else
+abbrev pub LeavesTold : (Book → Type 0) → (Option Book → Type 0) → Type 0
+LeavesTold holds leaves = (book : Book) → holds book → (after : Option Book) → leaves after → after ≡ Some book
+
+-- it leaves what it could leave before, or the book that was told with the batch
+abbrev pub LeavesOrCommits : (Book → Type 0) → (Option Book → Type 0) → (Option Book → Type 0) → Batch → Type 0
 LeavesOrCommits held left leaves batch =
-    (book : Book) → held book → (after : Book) → leaves after → left after ⊎ (after ≡ appended book batch)
+    (book : Book) → held book → (after : Option Book) → leaves after → left after ⊎ (after ≡ Some (appended book batch))
 
--- What a crash may leave after a commit. After Done that is the book that is told and no other. After another answer
+-- What a crash may leave after a commit. After Done that is the book that is told and nothing else. After another answer
 -- it is what could be left before, or the book that was told with the batch.
-abbrev pub CommitCrash : (Book → Type 0) → (Book → Type 0) → (Book → Type 0) → (Book → Type 0) → Batch → Committed → Type 0
+abbrev pub CommitCrash : (Book → Type 0) → (Option Book → Type 0) → (Book → Type 0) → (Option Book → Type 0) → Batch → Committed → Type 0
 CommitCrash held left holds leaves batch Committed.Done = LeavesTold holds leaves
 CommitCrash held left holds leaves batch Committed.Failed = LeavesOrCommits held left leaves batch
 CommitCrash held left holds leaves batch Committed.NoMemory = LeavesOrCommits held left leaves batch

@@ -32,13 +32,15 @@ impl DamagedKeeper {
 }
 
 impl Keeper for DamagedKeeper {
-    ghost use Rattle.std.specs.Prelude.{◌≡◌};
+    ghost use Rattle.std.specs.Prelude.{◌≡◌, ⊤};
 
     ghost holds = { λ _ _. ⊥ };
 
     ghost bad = { λ keeper row. row ≡ keeper };
 
     ghost faults = { λ _. 0 };
+
+    ghost is_well = { λ _. ⊤ };
 
     ghost tells_crash = { λ _. ⊥ };
 

@@ -76,6 +76,7 @@ impl MemoryKeeper {
 }
 
 impl Keeper for MemoryKeeper {
+    ghost use Rattle.std.specs.Prelude.{⊤};
     ghost use Rattle.keeper_core.specs.Keeping.{Only};
 
     ghost holds = { Only };
@@ -83,6 +84,8 @@ impl Keeper for MemoryKeeper {
     ghost bad = { λ _ _. ⊥ };
 
     ghost faults = { λ _. 0 };
+
+    ghost is_well = { λ _. ⊤ };
 
     ghost tells_crash = { λ _. ⊥ };
 

@@ -125,10 +125,10 @@ impl PlannedKeeper {
 }
 
 impl Keeper for PlannedKeeper {
-    ghost use Rattle.std.specs.Prelude.{◌≡◌, ◌↔◌, IsTrue};
+    ghost use Rattle.std.specs.Prelude.{◌≡◌, ◌↔◌, ⊤, IsTrue};
     ghost use Rattle.std.specs.Str.{is_utf8};
     ghost use Rattle.book_rows.specs.Book.{Book, IsBatch, IsBefore};
-    ghost use Rattle.keeper_core.specs.Keeping.{Only, Gives, LoadCause, Commits, CommitCause};
+    ghost use Rattle.keeper_core.specs.Keeping.{Only, Gives, LoadCause, Commits, CommitsOn, CommitCause};
     ghost use Rattle.keeper_core.specs.Planned.{is_failing, after_call};
 
     ghost holds = { λ planned. Only planned.book };
@@ -136,6 +136,8 @@ impl Keeper for PlannedKeeper {
     ghost bad = { λ _ _. ⊥ };
 
     ghost faults = { λ planned. planned.plan.faults };
+
+    ghost is_well = { λ _. ⊤ };
 
     ghost tells_crash = { λ _. ⊥ };
 
@@ -161,6 +163,7 @@ impl Keeper for PlannedKeeper {
         requires next { IsBefore self.old.book batch.now.act.n }
         requires text { IsTrue (is_utf8 batch.now.act.body) }
         ensures leaves { Commits (Only self.old.book) (Only self.new.book) batch.now result }
+        ensures goes_on { CommitsOn (Only self.old.book) (Only self.new.book) batch.now result }
         ensures cause { CommitCause self.old.plan.faults self.new.plan.faults result }
         ensures fails { (result ≡ Committed.Failed) ↔ IsTrue (is_failing self.old.plan) }
         ensures plan { self.new.plan ≡ after_call self.old.plan }

@@ -19,7 +19,7 @@ use Rattle.book_statements.specs.Effects.{Undoes, IsMade, Makes, MadeTrees, Land
 use Rattle.book_asking.specs.declared.asking.AskedRows.{AskedRows}
 use Rattle.book_asking.specs.Asking.{AreAsked}
 use Rattle.book_ranges.specs.Ranges.{Narrows, IsInRange, first_bad, row_of}
-use Rattle.keeper_sqlite.specs.Told.{IsBookIn, IsBadIn, IsReady, Holds, HoldsBad, TellsCrash, MayLeave, TellsNoMore, TellsOn, GoesOn, StaysOpen, IsFileOf, LeavesBooks, IsSettled, IsAnswer, are_alone, IsOwn, Notes}
+use Rattle.keeper_sqlite.specs.Told.{IsBookIn, IsBadIn, IsReady, Holds, HoldsBad, IsWell, TellsCrash, MayLeave, MaySpoil, CrashLeaves, TellsNoMore, TellsOn, GoesOn, StaysOpen, IsFileOf, LeavesBooks, IsSettled, IsAnswer, are_alone, IsOwn, Notes}
 use Rattle.keeper_sqlite.proofs.Landing.{act_only, record_only, line_only}
 use Rattle.keeper_sqlite.proofs.Books.{book_once, schemas_differ, rows_once, exclusive}
 use Rattle.keeper_sqlite.proofs.Batches.{rows_before, book_after, bad_before}
@@ -66,6 +66,10 @@ undone_on old new b undone clean lives =
 pub told_before : (old new : State) (P : Trees → Type 0) (b : Bool) → Survives old new P → TellsCrash new b → TellsCrash old b
 told_before old new P b lives tells = (clean_before old new P lives tells.0, tells.1)
 
+-- where nothing changed, a keeper that is well was well
+pub undone_well : (old new : State) (P : Trees → Type 0) (b : Bool) → Survives old new P → (HasCleanDisk new → Undoes old new) → IsWell new b → IsWell old b
+undone_well old new P b lives undone well = (told_before old new P b lives well.0, (undone well.0.0 well.1).0)
+
 pub stays_open : (old new : State) (P : Trees → Type 0) → Survives old new P → StaysOpen old new
 stays_open old new P lives = lives.closes
 
@@ -85,19 +89,25 @@ quiet old new b lives undone = record {
   kept = book_before old new (λ _. ⊥) lives undone b;
   kept_row = row_before old new (λ _. ⊥) lives undone b;
   told = told_before old new (λ _. ⊥) b lives;
-  crash = λ tells book m. record { db = m.db; left = left (lives.crash tells.0 m.db.trees m.left); live = m.live; it = m.it };
+  crash = go;
+  well = undone_well old new (λ _. ⊥) b lives undone;
 }
   where
     left : {A : Type 0} → A ⊎ ⊥ → A
     left (inl a) = a
     left (inr e) = absurd e
 
+    go : TellsCrash new b → Keeps (CrashLeaves old) (CrashLeaves new)
+    go tells (Some book) m = record { db = m.db; left = left (lives.crash tells.0 m.db.trees m.left); live = m.live; it = m.it }
+    go tells None m = record { trees = m.trees; left = left (lives.crash tells.0 m.trees m.left); none = m.none }
+
 pub then_no_more : (a b c : State) (p q r : Bool) → TellsNoMore a p b q → TellsNoMore b q c r → TellsNoMore a p c r
 then_no_more a b c p q r one two = record {
   kept = λ book h. one.kept book (two.kept book h);
   kept_row = λ row h. one.kept_row row (two.kept_row row h);
   told = λ tells. one.told (two.told tells);
-  crash = λ tells book m. one.crash (two.told tells) book (two.crash tells book m);
+  crash = λ tells after m. one.crash (two.told tells) after (two.crash tells after m);
+  well = λ well. one.well (two.well well);
 }
 
 -- ---- the flag
@@ -121,7 +131,8 @@ module _ (s : State) (was now : Bool) (notes : Notes s.now.schema was now) where
     kept = λ book h. record { ready = h.ready; own = (notes.0 h.own).0; it = h.it };
     kept_row = λ row h. record { ready = h.ready; own = (notes.0 h.own).0; it = h.it };
     told = λ tells. (tells.0, (notes.0 tells.1).0);
-    crash = λ tells book m. m;
+    crash = λ tells after m. m;
+    well = λ well. ((well.0.0, (notes.0 well.0.1).0), well.1);
   }
 
   pub noted_on : TellsOn s was s now
@@ -149,6 +160,7 @@ module _ (old new : State) (b : Bool) (is : b ≡ true) where
     kept_row = λ row h. absurd (up h.own);
     told = λ tells. absurd (up tells.1);
     crash = λ tells. absurd (up tells.1);
+    well = λ well. absurd (up well.0.1);
   }
 
   pub beside_on : GoesOn old b new b
@@ -283,8 +295,19 @@ empty_in : (db : Database) → IsMade db → IsBookIn db empty_book
 empty_in db made = inl (record { schema = made.schema; stands = stands_empty db.trees made.none; fits = refl })
 
 module _ (old new : State) (lives : Survives old new (MadeTrees old)) (settled : IsSettled old) (empty : old.now.schema ≡ no_schema) (b : Bool) where
-  made_crash : TellsCrash new b → Keeps (MayLeave old) (MayLeave new)
-  made_crash tells book m = go (lives.crash tells.0 m.db.trees m.left)
+  -- what the making may have written is the empty book's file
+  made_file : (trees : Trees) → MadeTrees old trees → IsFileOf trees empty_book
+  made_file trees w =
+      let made = w.made empty in
+      record { db = record { schema = book_schema; trees = trees }; same = refl; live = made.live; it = empty_in _ made }
+
+  made_crash : TellsCrash new b → Keeps (CrashLeaves old) (CrashLeaves new)
+  made_crash tells None m = go (lives.crash tells.0 m.trees m.left)
+    where
+      go : old.may_leave m.trees ⊎ MadeTrees old m.trees → MaySpoil old
+      go (inl left) = record { trees = m.trees; left = left; none = m.none }
+      go (inr written) = absurd (m.none empty_book (made_file m.trees written))
+  made_crash tells (Some book) m = go (lives.crash tells.0 m.db.trees m.left)
     where
       go : old.may_leave m.db.trees ⊎ MadeTrees old m.db.trees → MayLeave old book
       go (inl left) = record { db = m.db; left = left; live = m.live; it = m.it }
@@ -301,9 +324,7 @@ module _ (old new : State) (lives : Survives old new (MadeTrees old)) (settled :
 
   -- the empty tables are a book's file
   pub made_left : LeavesBooks old b → LeavesBooks new b
-  made_left = left_on old new (MadeTrees old) b lives (λ tells trees w.
-      let made = w.made empty in
-      (empty_book, record { db = record { schema = book_schema; trees = trees }; same = refl; live = made.live; it = empty_in _ made }))
+  made_left = left_on old new (MadeTrees old) b lives (λ tells trees w. (empty_book, made_file trees w))
 
   pub made_fails : (HasCleanDisk new → Undoes old new) → TellsNoMore old b new b
   made_fails undone = record {
@@ -311,6 +332,7 @@ module _ (old new : State) (lives : Survives old new (MadeTrees old)) (settled :
     kept_row = row_before old new (MadeTrees old) lives undone b;
     told = told_before old new (MadeTrees old) b lives;
     crash = made_crash;
+    well = undone_well old new (MadeTrees old) b lives undone;
   }
 
   module _ (made : HasCleanDisk new → Makes old new) where
@@ -326,6 +348,7 @@ module _ (old new : State) (lives : Survives old new (MadeTrees old)) (settled :
       kept_row = λ row h. absurd (made_good new.now (is_made h.ready.clean) row h.it);
       told = told_before old new (MadeTrees old) b lives;
       crash = made_crash;
+      well = λ well. (told_before old new (MadeTrees old) b lives well.0, (made well.0.0).settles.was_open);
     }
 
     pub made_gives : (tables : Tables) → book_of tables ≡ empty_book → Gives (Holds new b) (HoldsBad new b) (Loaded.Rows tables)
@@ -385,11 +408,21 @@ module _ (old new : State) (b : Bool) (batch : Batch) (it : IsBatch batch) (live
         let has : old.now.schema ≡ book_schema = sym l.schema ∙ h.it.schema in
         record { ready = ready_then h.ready; own = h.own; it = bad_before old.now new.now batch (l.rows has) has fit row h.it }
 
-    pub landed_crash : ((db : Trees) → IsTrue new.is_open → new.may_leave db → db ≡ new.committed.trees) → LeavesTold (Holds new b) (MayLeave new)
-    landed_crash settled book h after m =
-        let l = lands h.ready.clean in
-        let same : m.db.trees ≡ new.now.trees = settled m.db.trees h.ready.is_open m.left ∙ ap (λ (d : Database). d.trees) l.settles.settled in
-        book_once m.db new.now after book same m.live l.live m.it h.it
+    pub landed_well : IsWell new b → IsWell old b
+    landed_well well = (told_before old new (BatchTrees old batch) b lives well.0, (lands well.0.0).settles.was_open)
+
+    pub landed_crash : ((db : Trees) → IsTrue new.is_open → new.may_leave db → db ≡ new.committed.trees) → LeavesTold (Holds new b) (CrashLeaves new)
+    landed_crash settled book h = go
+      where
+        l : Lands old new batch
+        l = lands h.ready.clean
+
+        same : (trees : Trees) → new.may_leave trees → trees ≡ new.now.trees
+        same trees left = settled trees h.ready.is_open left ∙ ap (λ (d : Database). d.trees) l.settles.settled
+
+        go : (after : Option Book) → CrashLeaves new after → after ≡ Some book
+        go (Some after) m = ap Some (book_once m.db new.now after book (same m.db.trees m.left) m.live l.live m.it h.it)
+        go None m = absurd (m.none book (record { db = new.now; same = sym (same m.trees m.left); live = l.live; it = h.it }))
 
     -- after Done a crash leaves the book's file
     pub landed_left : ((db : Trees) → IsTrue new.is_open → new.may_leave db → db ≡ new.committed.trees) → (book : Book) → Holds new b book → LeavesBooks new b
@@ -399,24 +432,29 @@ module _ (old new : State) (b : Bool) (batch : Batch) (it : IsBatch batch) (live
         (book, record { db = new.now; same = sym same; live = l.live; it = h.it })
 
   module _ (next : (book : Book) → Holds old b book → IsBefore book batch.act.n) where
-    -- what the commit may have written is a book's file
-    pub not_landed_left : IsInRange batch → (book : Book) → Holds old b book → LeavesBooks old b → LeavesBooks new b
-    not_landed_left fit book h = left_on old new (BatchTrees old batch) b lives (λ tells trees w. go trees w h.it)
+    -- what the commit may have written is the file of the book that was told with the batch
+    written_file : IsInRange batch → (book : Book) → Holds old b book → (trees : Trees) → BatchTrees old batch trees → IsFileOf trees (appended book batch)
+    written_file fit book h trees w = go h.it
       where
-        go : (trees : Trees) → BatchTrees old batch trees → IsBookIn old.now book → (after : Book) × IsFileOf trees after
-        go trees w (inl p) = (
-          appended book batch,
-          record {
-            db = record { schema = book_schema; trees = trees };
-            same = refl;
-            live = subst IsDatabase (λ i. record { schema = p.schema i; trees = trees }) w.live;
-            it = inl (book_after old.now (record { schema = book_schema; trees = trees }) batch (w.rows p.schema) refl it fit book p (next book h));
-          },
-        )
-        go trees w (inr none) = absurd (w.known none.0)
+        go : IsBookIn old.now book → IsFileOf trees (appended book batch)
+        go (inl p) = record {
+          db = record { schema = book_schema; trees = trees };
+          same = refl;
+          live = subst IsDatabase (λ i. record { schema = p.schema i; trees = trees }) w.live;
+          it = inl (book_after old.now (record { schema = book_schema; trees = trees }) batch (w.rows p.schema) refl it fit book p (next book h));
+        }
+        go (inr none) = absurd (w.known none.0)
 
-    pub not_landed_crash : TellsCrash new b → LeavesOrCommits (Holds old b) (MayLeave old) (MayLeave new) batch
-    not_landed_crash tells book h after m = go (lives.crash tells.0 m.db.trees m.left)
+    pub not_landed_left : IsInRange batch → (book : Book) → Holds old b book → LeavesBooks old b → LeavesBooks new b
+    not_landed_left fit book h = left_on old new (BatchTrees old batch) b lives (λ tells trees w. (appended book batch, written_file fit book h trees w))
+
+    pub not_landed_crash : IsInRange batch → TellsCrash new b → LeavesOrCommits (Holds old b) (CrashLeaves old) (CrashLeaves new) batch
+    not_landed_crash fit tells book h None m = go (lives.crash tells.0 m.trees m.left)
+      where
+        go : old.may_leave m.trees ⊎ BatchTrees old batch m.trees → MaySpoil old ⊎ (None ≡ Some (appended book batch))
+        go (inl left) = inl (record { trees = m.trees; left = left; none = m.none })
+        go (inr w) = absurd (m.none (appended book batch) (written_file fit book h m.trees w))
+    not_landed_crash fit tells book h (Some after) m = go (lives.crash tells.0 m.db.trees m.left)
       where
         written : BatchTrees old batch m.db.trees → after ≡ appended book batch
         written w = rows m.it
@@ -437,6 +475,6 @@ module _ (old new : State) (b : Bool) (batch : Batch) (it : IsBatch batch) (live
                 let found = rows_before old.now m.db batch (w.rows old_schema) old_schema it after p (λ was e. subst (λ (k : Book). IsBefore k batch.act.n) (book_same old.now book was h.it e) (next book h)) in
                 found.1.1 ∙ ap (λ (k : Book). appended k batch) (book_same old.now found.0 book found.1.0 h.it)
 
-        go : old.may_leave m.db.trees ⊎ BatchTrees old batch m.db.trees → MayLeave old after ⊎ (after ≡ appended book batch)
+        go : old.may_leave m.db.trees ⊎ BatchTrees old batch m.db.trees → MayLeave old after ⊎ (Some after ≡ Some (appended book batch))
         go (inl left) = inl (record { db = m.db; left = left; live = m.live; it = m.it })
-        go (inr w) = inr (written w)
+        go (inr w) = inr (ap Some (written w))

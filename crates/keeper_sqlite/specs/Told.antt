@@ -1,6 +1,6 @@
 -- What a file tells of its book, and what a crash may leave of it.
 use Rattle.std.specs.Coded.{Coded, code_by, coded×, coded_ℕ, coded_bool}
-use Rattle.std.specs.Prelude.{◌≡◌, ◌⊎◌, ◌↔◌, ◌==◌, ◌&&◌, ℕ, ⊤, Bool, true, false, codes, length, is_some, refl, List, map, None, Some, IsTrue}
+use Rattle.std.specs.Prelude.{◌≡◌, ◌⊎◌, ◌↔◌, ◌==◌, ◌&&◌, ℕ, ⊤, Bool, true, false, codes, length, is_some, refl, List, map, Option, None, Some, IsTrue}
 use Rattle.sqlite.specs.{Tree.Trees, Effect.Database, Effect.IsDatabase, State.State, State.HasCleanDisk, State.IsLive, Held.Held, Held.held_code}
 use Rattle.sqlite_schema.specs.{declared.schema.Schema.Schema, Names.table_named}
 use Rattle.sqlite_disk.specs.Disk.{MoreFaults}
@@ -51,6 +51,10 @@ pub record HoldsBad (s : State) (is_beside : Bool) (row : BadRow) : Type 0 where
 abbrev pub TellsCrash : State → Bool → Type 0
 TellsCrash s is_beside = HasCleanDisk s × (is_beside ≡ false)
 
+-- the disk has returned what was written, nothing stands beside the three tables, and the connection is open
+abbrev pub IsWell : State → Bool → Type 0
+IsWell s is_beside = TellsCrash s is_beside × IsTrue s.is_open
+
 -- an open after a crash now may find this book
 pub record MayLeave (s : State) (book : Book) : Type 0 where
   pub db : Database
@@ -58,12 +62,31 @@ pub record MayLeave (s : State) (book : Book) : Type 0 where
   pub live : IsDatabase db
   pub it : IsBookIn db book
 
--- what is told after a call was told before it: of the book, of a bad row and of a crash
+-- these trees are a book's file: sound under a schema by which they hold the book
+pub record IsFileOf (trees : Trees) (book : Book) : Type 0 where
+  pub db : Database
+  pub same : db.trees ≡ trees
+  pub live : IsDatabase db
+  pub it : IsBookIn db book
+
+-- a crash now may leave what is no book's file
+pub record MaySpoil (s : State) : Type 0 where
+  pub trees : Trees
+  pub left : s.may_leave trees
+  pub none : (book : Book) → IsFileOf trees book → ⊥
+
+-- a crash now may leave this book, or None: what is no book's file
+abbrev pub CrashLeaves : State → Option Book → Type 0
+CrashLeaves s (Some book) = MayLeave s book
+CrashLeaves s None = MaySpoil s
+
+-- what is told after a call was told before it: of the book, of a bad row and of a crash; and the keeper was well
 pub record TellsNoMore (old : State) (was_beside : Bool) (new : State) (is_beside : Bool) : Type 0 where
   pub kept : Keeps (Holds old was_beside) (Holds new is_beside)
   pub kept_row : Keeps (HoldsBad old was_beside) (HoldsBad new is_beside)
   pub told : TellsCrash new is_beside → TellsCrash old was_beside
-  pub crash : TellsCrash new is_beside → Keeps (MayLeave old) (MayLeave new)
+  pub crash : TellsCrash new is_beside → Keeps (CrashLeaves old) (CrashLeaves new)
+  pub well : IsWell new is_beside → IsWell old was_beside
 
 -- what was told before a call is told after it: of the book, and of a bad row
 pub record TellsOn (old : State) (was_beside : Bool) (new : State) (is_beside : Bool) : Type 0 where
@@ -85,13 +108,6 @@ CommitsOn old was_beside new is_beside batch Committed.Done =
     HasCleanDisk new → (book : Book) → Holds old was_beside book → Holds new is_beside (appended book batch)
 CommitsOn old was_beside new is_beside batch Committed.Failed = GoesOn old was_beside new is_beside
 CommitsOn old was_beside new is_beside batch Committed.NoMemory = GoesOn old was_beside new is_beside
-
--- these trees are a book's file: sound under a schema by which they hold the book
-pub record IsFileOf (trees : Trees) (book : Book) : Type 0 where
-  pub db : Database
-  pub same : db.trees ≡ trees
-  pub live : IsDatabase db
-  pub it : IsBookIn db book
 
 -- while the disk is clean and the flag down, whatever a crash now may leave is some book's file
 abbrev pub LeavesBooks : State → Bool → Type 0

@@ -77,8 +77,8 @@ impl<S: Alter> Keeper for SqliteKeeper<S> {
     ghost use Rattle.std.specs.Str.{is_utf8};
     ghost use Rattle.sqlite.specs.Held.{state};
     ghost use Rattle.book_rows.specs.Book.{Book, IsBatch, IsBefore};
-    ghost use Rattle.keeper_core.specs.Keeping.{Keeps, Gives, LoadCause, Commits, CommitCause, CommitCrash};
-    ghost use Rattle.keeper_sqlite.specs.Told.{Holds, HoldsBad, TellsCrash, MayLeave, Notes, GoesOn, CommitsOn, StaysOpen, LeavesBooks, CommitsBooks};
+    ghost use Rattle.keeper_core.specs.Keeping.{Keeps, Gives, LoadCause, Commits, CommitsOn as AppendsOn, CommitCause, CommitCrash};
+    ghost use Rattle.keeper_sqlite.specs.Told.{Holds, HoldsBad, IsWell, TellsCrash, CrashLeaves, Notes, GoesOn, CommitsOn, StaysOpen, LeavesBooks, CommitsBooks};
 
     ghost holds = { λ keeper. Holds (state S.Store keeper.file) keeper.is_beside };
 
@@ -86,19 +86,23 @@ impl<S: Alter> Keeper for SqliteKeeper<S> {
 
     ghost faults = { λ keeper. keeper.faults };
 
+    ghost is_well = { λ keeper. IsWell (state S.Store keeper.file) keeper.is_beside };
+
     ghost tells_crash = { λ keeper. TellsCrash (state S.Store keeper.file) keeper.is_beside };
 
-    ghost leaves = { λ keeper. MayLeave (state S.Store keeper.file) };
+    ghost leaves = { λ keeper. CrashLeaves (state S.Store keeper.file) };
 
-    // The first six clauses are the trait's. The others say when the flag is raised, and look forward: what is told is
+    // The first eight clauses are the trait's. The others say when the flag is raised, and look forward: what is told is
     // told on, only a fault shuts the connection, and a crash leaves a book's file.
     fn load(&mut self, alloc: Global) -> Loaded
         ensures gives { Gives (Holds (state S.Store self.new.file) self.new.is_beside) (HoldsBad (state S.Store self.new.file) self.new.is_beside) result }
         ensures kept { Keeps (Holds (state S.Store self.old.file) self.old.is_beside) (Holds (state S.Store self.new.file) self.new.is_beside) }
         ensures kept_row { Keeps (HoldsBad (state S.Store self.old.file) self.old.is_beside) (HoldsBad (state S.Store self.new.file) self.new.is_beside) }
+        ensures well { IsWell (state S.Store self.new.file) self.new.is_beside → IsWell (state S.Store self.old.file) self.old.is_beside }
+        ensures tells_on { IsWell (state S.Store self.new.file) self.new.is_beside → Keeps (Holds (state S.Store self.new.file) self.new.is_beside) (Holds (state S.Store self.old.file) self.old.is_beside) }
         ensures cause { LoadCause self.old.faults self.new.faults result }
         ensures told { TellsCrash (state S.Store self.new.file) self.new.is_beside → TellsCrash (state S.Store self.old.file) self.old.is_beside }
-        ensures crash { TellsCrash (state S.Store self.new.file) self.new.is_beside → Keeps (MayLeave (state S.Store self.old.file)) (MayLeave (state S.Store self.new.file)) }
+        ensures crash { TellsCrash (state S.Store self.new.file) self.new.is_beside → Keeps (CrashLeaves (state S.Store self.old.file)) (CrashLeaves (state S.Store self.new.file)) }
         ensures notes { Notes (state S.Store self.old.file).now.schema self.old.is_beside self.new.is_beside }
         ensures goes_on { GoesOn (state S.Store self.old.file) self.old.is_beside (state S.Store self.new.file) self.new.is_beside }
         ensures stays_open { StaysOpen (state S.Store self.old.file) (state S.Store self.new.file) }
@@ -117,7 +121,7 @@ impl<S: Alter> Keeper for SqliteKeeper<S> {
         }
     }
 
-    // The first five clauses are the trait's. The others leave the flag, and look forward: what is told is told on, after
+    // The first seven clauses are the trait's. The others leave the flag, and look forward: what is told is told on, after
     // Done with the batch, only a fault shuts the connection, and a crash leaves a book's file.
     fn commit(&mut self, _alloc: Global, batch: &Batch) -> Committed
         requires batch { IsBatch batch.now }
@@ -125,9 +129,11 @@ impl<S: Alter> Keeper for SqliteKeeper<S> {
         requires text { IsTrue (is_utf8 batch.now.act.body) }
         ensures leaves { Commits (Holds (state S.Store self.old.file) self.old.is_beside) (Holds (state S.Store self.new.file) self.new.is_beside) batch.now result }
         ensures kept_row { Keeps (HoldsBad (state S.Store self.old.file) self.old.is_beside) (HoldsBad (state S.Store self.new.file) self.new.is_beside) }
+        ensures well { IsWell (state S.Store self.new.file) self.new.is_beside → IsWell (state S.Store self.old.file) self.old.is_beside }
+        ensures tells_on { IsWell (state S.Store self.new.file) self.new.is_beside → AppendsOn (Holds (state S.Store self.old.file) self.old.is_beside) (Holds (state S.Store self.new.file) self.new.is_beside) batch.now result }
         ensures cause { CommitCause self.old.faults self.new.faults result }
         ensures told { TellsCrash (state S.Store self.new.file) self.new.is_beside → TellsCrash (state S.Store self.old.file) self.old.is_beside }
-        ensures crash { TellsCrash (state S.Store self.new.file) self.new.is_beside → CommitCrash (Holds (state S.Store self.old.file) self.old.is_beside) (MayLeave (state S.Store self.old.file)) (Holds (state S.Store self.new.file) self.new.is_beside) (MayLeave (state S.Store self.new.file)) batch.now result }
+        ensures crash { TellsCrash (state S.Store self.new.file) self.new.is_beside → CommitCrash (Holds (state S.Store self.old.file) self.old.is_beside) (CrashLeaves (state S.Store self.old.file)) (Holds (state S.Store self.new.file) self.new.is_beside) (CrashLeaves (state S.Store self.new.file)) batch.now result }
         ensures notes { self.new.is_beside ≡ self.old.is_beside }
         ensures goes_on { CommitsOn (state S.Store self.old.file) self.old.is_beside (state S.Store self.new.file) self.new.is_beside batch.now result }
         ensures stays_open { StaysOpen (state S.Store self.old.file) (state S.Store self.new.file) }

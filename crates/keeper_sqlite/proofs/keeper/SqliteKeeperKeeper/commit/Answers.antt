@@ -3,8 +3,9 @@ use Rattle.sqlite.specs.Held.{state}
 use Rattle.book_rows.specs.Book.{Book, IsBefore}
 use Rattle.keeper_core.specs.declared.keeper.Committed.{Committed}
 use Rattle.keeper_core.specs.Keeping.{Keeps, Commits, LeavesOrCommits}
-use Rattle.keeper_sqlite.specs.Told.{Kept, Holds, HoldsBad, MayLeave, TellsCrash, GoesOn, CommitsOn, LeavesBooks}
-use Rattle.keeper_sqlite.proofs.Calls.{landed, landed_on, landed_row, landed_crash, landed_left, not_landed_crash, not_landed_left, undone_on}
+use Rattle.book_statements.specs.Effects.{BatchTrees}
+use Rattle.keeper_sqlite.specs.Told.{Kept, Holds, HoldsBad, IsWell, CrashLeaves, TellsCrash, GoesOn, CommitsOn, LeavesBooks}
+use Rattle.keeper_sqlite.proofs.Calls.{landed, landed_on, landed_row, landed_crash, landed_left, landed_well, not_landed_crash, not_landed_left, undone_on, undone_well}
 use Rattle.keeper_sqlite.proofs.keeper.SqliteKeeperKeeper.commit.Goals as goal
 
 pub returns-in-Ok-clause-leaves : goal.returns-in-Ok-clause-leaves
@@ -40,8 +41,8 @@ returns-in-Ok-clause-kept_row g c =
 pub returns-then-is_want_of_memory-clause-crash : goal.returns-then-is_want_of_memory-clause-crash
 returns-then-is_want_of_memory-clause-crash g c =
     let next = subst (λ (k : Kept _). (book : Book) → Holds (state g.S.Store k.file) k.is_beside book → IsBefore book c.args.batch.now.act.n) (sym c.self.view_is) c.requires.next in
-    subst (λ (k : Kept _). TellsCrash (state g.S.Store c.write_batch.new.conn) c.self.inside.is_beside → LeavesOrCommits (Holds (state g.S.Store k.file) k.is_beside) (MayLeave (state g.S.Store k.file)) (MayLeave (state g.S.Store c.write_batch.new.conn)) c.args.batch.now) c.self.view_is
-    (not_landed_crash (state g.S.Store c.self.inside.conn) (state g.S.Store c.write_batch.new.conn) c.self.inside.is_beside c.args.batch.now c.requires.batch c.write_batch.ensures.survives next)
+    subst (λ (k : Kept _). TellsCrash (state g.S.Store c.write_batch.new.conn) c.self.inside.is_beside → LeavesOrCommits (Holds (state g.S.Store k.file) k.is_beside) (CrashLeaves (state g.S.Store k.file)) (CrashLeaves (state g.S.Store c.write_batch.new.conn)) c.args.batch.now) c.self.view_is
+    (not_landed_crash (state g.S.Store c.self.inside.conn) (state g.S.Store c.write_batch.new.conn) c.self.inside.is_beside c.args.batch.now c.requires.batch c.write_batch.ensures.survives next c.batch_fits.ensures)
 
 pub returns-then-is_want_of_memory-clause-goes_on : goal.returns-then-is_want_of_memory-clause-goes_on
 returns-then-is_want_of_memory-clause-goes_on g c =
@@ -57,9 +58,9 @@ returns-then-is_want_of_memory-clause-left g c =
 pub returns-else-is_want_of_memory-clause-crash : goal.returns-else-is_want_of_memory-clause-crash
 returns-else-is_want_of_memory-clause-crash g c =
     let next = subst (λ (k : Kept _). (book : Book) → Holds (state g.S.Store k.file) k.is_beside book → IsBefore book c.args.batch.now.act.n) (sym c.self.view_is) c.requires.next in
-    subst (λ (n : Kept _). TellsCrash (state g.S.Store n.file) n.is_beside → LeavesOrCommits (Holds (state g.S.Store c.args.self.now.file) c.args.self.now.is_beside) (MayLeave (state g.S.Store c.args.self.now.file)) (MayLeave (state g.S.Store n.file)) c.args.batch.now) (sym c.count_fault.ensures.kept)
-    (subst (λ (k : Kept _). TellsCrash (state g.S.Store c.write_batch.new.conn) c.self.inside.is_beside → LeavesOrCommits (Holds (state g.S.Store k.file) k.is_beside) (MayLeave (state g.S.Store k.file)) (MayLeave (state g.S.Store c.write_batch.new.conn)) c.args.batch.now) c.self.view_is
-    (not_landed_crash (state g.S.Store c.self.inside.conn) (state g.S.Store c.write_batch.new.conn) c.self.inside.is_beside c.args.batch.now c.requires.batch c.write_batch.ensures.survives next))
+    subst (λ (n : Kept _). TellsCrash (state g.S.Store n.file) n.is_beside → LeavesOrCommits (Holds (state g.S.Store c.args.self.now.file) c.args.self.now.is_beside) (CrashLeaves (state g.S.Store c.args.self.now.file)) (CrashLeaves (state g.S.Store n.file)) c.args.batch.now) (sym c.count_fault.ensures.kept)
+    (subst (λ (k : Kept _). TellsCrash (state g.S.Store c.write_batch.new.conn) c.self.inside.is_beside → LeavesOrCommits (Holds (state g.S.Store k.file) k.is_beside) (CrashLeaves (state g.S.Store k.file)) (CrashLeaves (state g.S.Store c.write_batch.new.conn)) c.args.batch.now) c.self.view_is
+    (not_landed_crash (state g.S.Store c.self.inside.conn) (state g.S.Store c.write_batch.new.conn) c.self.inside.is_beside c.args.batch.now c.requires.batch c.write_batch.ensures.survives next c.batch_fits.ensures))
 
 pub returns-else-is_want_of_memory-clause-goes_on : goal.returns-else-is_want_of_memory-clause-goes_on
 returns-else-is_want_of_memory-clause-goes_on g c =
@@ -73,3 +74,29 @@ returns-else-is_want_of_memory-clause-left g c =
     subst (λ (n : Kept _). (book : Book) → Holds (state g.S.Store c.args.self.now.file) c.args.self.now.is_beside book → LeavesBooks (state g.S.Store c.args.self.now.file) c.args.self.now.is_beside → LeavesBooks (state g.S.Store n.file) n.is_beside) (sym c.count_fault.ensures.kept)
     (subst (λ (k : Kept _). (book : Book) → Holds (state g.S.Store k.file) k.is_beside book → LeavesBooks (state g.S.Store k.file) k.is_beside → LeavesBooks (state g.S.Store c.write_batch.new.conn) c.self.inside.is_beside) c.self.view_is
     (not_landed_left (state g.S.Store c.self.inside.conn) (state g.S.Store c.write_batch.new.conn) c.self.inside.is_beside c.args.batch.now c.requires.batch c.write_batch.ensures.survives next c.batch_fits.ensures))
+
+pub returns-in-Ok-clause-well : goal.returns-in-Ok-clause-well
+returns-in-Ok-clause-well g c =
+    let next = subst (λ (k : Kept _). (book : Book) → Holds (state g.S.Store k.file) k.is_beside book → IsBefore book c.args.batch.now.act.n) (sym c.self.view_is) c.requires.next in
+    subst (λ (k : Kept _). IsWell (state g.S.Store c.write_batch.new.conn) c.self.inside.is_beside → IsWell (state g.S.Store k.file) k.is_beside) c.self.view_is
+    (landed_well (state g.S.Store c.self.inside.conn) (state g.S.Store c.write_batch.new.conn) c.self.inside.is_beside c.args.batch.now c.requires.batch c.write_batch.ensures.survives next c.in-Ok.ensures.done)
+
+pub returns-then-is_want_of_memory-clause-well : goal.returns-then-is_want_of_memory-clause-well
+returns-then-is_want_of_memory-clause-well g c =
+    subst (λ (k : Kept _). IsWell (state g.S.Store c.write_batch.new.conn) c.self.inside.is_beside → IsWell (state g.S.Store k.file) k.is_beside) c.self.view_is
+    (undone_well (state g.S.Store c.self.inside.conn) (state g.S.Store c.write_batch.new.conn) (BatchTrees (state g.S.Store c.self.inside.conn) c.args.batch.now) c.self.inside.is_beside c.write_batch.ensures.survives c.in-Err.ensures.undone)
+
+pub returns-else-is_want_of_memory-clause-well : goal.returns-else-is_want_of_memory-clause-well
+returns-else-is_want_of_memory-clause-well g c =
+    subst (λ (n : Kept _). IsWell (state g.S.Store n.file) n.is_beside → IsWell (state g.S.Store c.args.self.now.file) c.args.self.now.is_beside) (sym c.count_fault.ensures.kept)
+    (subst (λ (k : Kept _). IsWell (state g.S.Store c.write_batch.new.conn) c.self.inside.is_beside → IsWell (state g.S.Store k.file) k.is_beside) c.self.view_is
+    (undone_well (state g.S.Store c.self.inside.conn) (state g.S.Store c.write_batch.new.conn) (BatchTrees (state g.S.Store c.self.inside.conn) c.args.batch.now) c.self.inside.is_beside c.write_batch.ensures.survives c.in-Err.ensures.undone))
+
+pub returns-in-Ok-clause-tells_on : goal.returns-in-Ok-clause-tells_on
+returns-in-Ok-clause-tells_on g c = λ well. returns-in-Ok-clause-goes_on g c well.0.0
+
+pub returns-then-is_want_of_memory-clause-tells_on : goal.returns-then-is_want_of_memory-clause-tells_on
+returns-then-is_want_of_memory-clause-tells_on g c = λ well. (returns-then-is_want_of_memory-clause-goes_on g c well.0.0 well.1).book
+
+pub returns-else-is_want_of_memory-clause-tells_on : goal.returns-else-is_want_of_memory-clause-tells_on
+returns-else-is_want_of_memory-clause-tells_on g c = λ well. (returns-else-is_want_of_memory-clause-goes_on g c well.0.0 well.1).book

@@ -2,7 +2,7 @@ use Rattle.std.proofs.Common.{sym, subst}
 use Rattle.sqlite.specs.Held.{state}
 use Rattle.book_rows.specs.Book.{Book}
 use Rattle.keeper_core.specs.Keeping.{Keeps}
-use Rattle.keeper_sqlite.specs.Told.{Kept, Holds, HoldsBad, TellsNoMore, GoesOn, LeavesBooks}
+use Rattle.keeper_sqlite.specs.Told.{Kept, Holds, HoldsBad, IsWell, TellsNoMore, GoesOn, LeavesBooks}
 use Rattle.keeper_sqlite.proofs.keeper.SqliteKeeperKeeper.load.Goals as goal
 
 pub returns-then-is_want_of_memory-clause-kept : goal.returns-then-is_want_of_memory-clause-kept
@@ -47,3 +47,25 @@ returns-else-is_want_of_memory-clause-goes_on g c =
 pub returns-else-is_want_of_memory-clause-found : goal.returns-else-is_want_of_memory-clause-found
 returns-else-is_want_of_memory-clause-found g c =
     subst (λ (n : Kept _). (book : Book) → Holds (state g.S.Store n.file) n.is_beside book → LeavesBooks (state g.S.Store n.file) n.is_beside) (sym c.count_fault.ensures.kept) c.load_noting.ensures.found
+
+pub returns-then-is_want_of_memory-clause-tells_on : goal.returns-then-is_want_of_memory-clause-tells_on
+returns-then-is_want_of_memory-clause-tells_on g c = λ well. (returns-then-is_want_of_memory-clause-goes_on g c well.0.0 well.1).book
+
+pub returns-in-Ok-clause-tells_on : goal.returns-in-Ok-clause-tells_on
+returns-in-Ok-clause-tells_on g c = λ well. (returns-in-Ok-clause-goes_on g c well.0.0 well.1).book
+
+pub returns-else-is_want_of_memory-clause-tells_on : goal.returns-else-is_want_of_memory-clause-tells_on
+returns-else-is_want_of_memory-clause-tells_on g c = λ well. (returns-else-is_want_of_memory-clause-goes_on g c well.0.0 well.1).book
+
+pub returns-then-is_want_of_memory-clause-well : goal.returns-then-is_want_of_memory-clause-well
+returns-then-is_want_of_memory-clause-well g c =
+    (subst (λ (k : Kept _). TellsNoMore (state g.S.Store k.file) k.is_beside (state g.S.Store c.load_noting.new.conn) c.load_noting.new.is_beside) c.self.view_is c.load_noting.ensures.tells).well
+
+pub returns-in-Ok-clause-well : goal.returns-in-Ok-clause-well
+returns-in-Ok-clause-well g c =
+    (subst (λ (k : Kept _). TellsNoMore (state g.S.Store k.file) k.is_beside (state g.S.Store c.load_noting.new.conn) c.load_noting.new.is_beside) c.self.view_is c.load_noting.ensures.tells).well
+
+pub returns-else-is_want_of_memory-clause-well : goal.returns-else-is_want_of_memory-clause-well
+returns-else-is_want_of_memory-clause-well g c =
+    subst (λ (n : Kept _). IsWell (state g.S.Store n.file) n.is_beside → IsWell (state g.S.Store c.args.self.now.file) c.args.self.now.is_beside) (sym c.count_fault.ensures.kept)
+    ((subst (λ (k : Kept _). TellsNoMore (state g.S.Store k.file) k.is_beside (state g.S.Store c.load_noting.new.conn) c.load_noting.new.is_beside) c.self.view_is c.load_noting.ensures.tells).well)
