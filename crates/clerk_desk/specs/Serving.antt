@@ -1,7 +1,8 @@
 -- What a clerk is told of a call, and the book after it.
-use Rattle.std.specs.Prelude.{◌≡◌, ◌⊎◌, ℕ}
+use Rattle.std.specs.Prelude.{◌≡◌, ◌⊎◌, ℕ, Option, Some}
 use Rattle.office_io.specs.Outside.{Faulted}
 use Rattle.book_rows.specs.{declared.rows.Batch.Batch, Book.Book, Book.appended}
+use Rattle.keeper_core.specs.Keeping.{LeavesTold}
 use Rattle.office_core.specs.Below.{office_answers.declared.reply.Reply.Reply, office_step.declared.call.Capacity.Capacity, office_step.Reply.done_of, office_step.Step.Outcome, office_step.Step.again, office_step.Step.refused, office_step.Step.appends, office_step.Step.IsAppended}
 
 -- the reply to a call of which the office does this
@@ -31,8 +32,39 @@ ReplyCause before now _ = now ≡ before
 abbrev pub ToldBefore : (Book → Type 0) → (Book → Type 0) → Type 0
 ToldBefore holds holds_now = (book : Book) → holds_now book → (was : Book) × holds was
 
--- What a crash may leave after a call: the book now; or, where nothing was appended, what it could leave before, or the book
--- with the rows of one more act that the office would append.
-abbrev pub ServeCrash : Capacity → Book → Book → (Book → Type 0) → (Book → Type 0) → (Book → Type 0) → Type 0
-ServeCrash capacity old new holds left leaves = (told : Book) → holds told → (after : Book) → leaves after →
-    (after ≡ new) ⊎ ((new ≡ old) × (left after ⊎ ((rows : Batch) × IsAppended capacity old rows × (after ≡ appended old rows))))
+-- a keeper that is well was well before, and tells the book now where it told one
+abbrev pub TellsOn : (was_well well : Type 0) → (Book → Type 0) → (Book → Type 0) → Book → Type 0
+TellsOn was_well well holds holds_now now = well → was_well × ((told : Book) → holds told → holds_now now)
+
+-- ---- what a crash leaves
+
+-- it left this book, which the office would have made of the one that it has by the rows of an act
+pub record IsFurther (capacity : Capacity) (held made : Book) (after : Option Book) : Type 0 where
+  pub rows : Batch
+  pub appends_them : IsAppended capacity held rows
+  pub makes : made ≡ appended held rows
+  pub left : after ≡ Some made
+
+-- the book now; or, where nothing was appended, what it could leave before
+abbrev pub LeavesOnly : (old new : Book) → (Book → Type 0) → (Option Book → Type 0) → (Option Book → Type 0) → Type 0
+LeavesOnly old new holds left leaves = (told : Book) → holds told → (after : Option Book) → leaves after → (after ≡ Some new) ⊎ ((new ≡ old) × left after)
+
+-- one of these, or, where nothing was appended, a further book that is such
+abbrev pub LeavesFurther : (Option Book → Type 0) → (old new : Book) → (Book → Type 0) → (Option Book → Type 0) → (Option Book → Type 0) → Type 0
+LeavesFurther Is old new holds left leaves = (told : Book) → holds told → (after : Option Book) → leaves after →
+    (after ≡ Some new) ⊎ ((new ≡ old) × (left after ⊎ Is after))
+
+-- Only where the keeper failed or memory ran out may it leave the book that the call would have made.
+abbrev pub ServeCrash : Capacity → (made old new : Book) → (Book → Type 0) → (Option Book → Type 0) → (Option Book → Type 0) → Reply → Type 0
+ServeCrash capacity made old new holds left leaves (Reply.Accepted done) = LeavesOnly old new holds left leaves
+ServeCrash capacity made old new holds left leaves (Reply.Refused refusal) = LeavesOnly old new holds left leaves
+ServeCrash capacity made old new holds left leaves _ = LeavesFurther (IsFurther capacity old made) old new holds left leaves
+
+-- the book that the office has, or this and the rows of one further act that it would append
+abbrev pub IsLeft : Capacity → Book → Option Book → Type 0
+IsLeft capacity held after = (after ≡ Some held) ⊎ ((made : Book) × IsFurther capacity held made after)
+
+-- Where a crash before could leave nothing but the book that was told, one now leaves in this way of the book that is told.
+abbrev pub Outlives : (Book → Option Book → Type 0) → (Book → Type 0) → (Option Book → Type 0) → Type 0 → (Book → Type 0) → (Option Book → Type 0) → Type 0 → Type 0
+Outlives Leaves holds leaves tells holds_now leaves_now tells_now =
+    (tells → LeavesTold holds leaves) → tells_now → (now : Book) → holds_now now → (after : Option Book) → leaves_now after → Leaves now after

@@ -36,6 +36,8 @@ pub fn open_office<K: Keeper>(
     ensures no_fault { IfOk result (λ _. K.faults keeper.new ≡ K.faults keeper.old) }
     ensures unopened { IfErr result (IsUnopened capacity (K.holds keeper.new) (K.bad keeper.new)) }
     ensures cause { IfErr result (BlamesKeeper (K.faults keeper.old) (K.faults keeper.new)) }
+    ensures well { K.is_well keeper.new → K.is_well keeper.old }
+    ensures goes_on { K.is_well keeper.new → Keeps (K.holds keeper.new) (K.holds keeper.old) }
     ensures crash_told { K.tells_crash keeper.new → K.tells_crash keeper.old }
     ensures crash { K.tells_crash keeper.new → Keeps (K.leaves keeper.old) (K.leaves keeper.new) }
 {

@@ -3,7 +3,7 @@ ghost use Rattle.book_rows.specs.Book.{Book};
 ghost use Rattle.keeper_core.specs.Keeping.{Keeps};
 ghost use Rattle.office_core.specs.Below.office_step.Step.{step, appends, is_fit_call};
 ghost use Rattle.office_core.specs.Planned.{IsPlannedFor};
-ghost use Rattle.clerk_desk.specs.Serving.{Serves, ReplyCause, ToldBefore, ServeCrash};
+ghost use Rattle.clerk_desk.specs.Serving.{Serves, ReplyCause, ToldBefore, TellsOn, ServeCrash, book_after};
 
 use days_core::Day;
 use keeper_core::{Committed, Keeper};
@@ -29,11 +29,13 @@ pub fn serve<K: Keeper>(
     ensures capacity { office.new.capacity ≡ office.old.capacity }
     ensures kept { (book : Book) → K.holds keeper.new book → book ≡ office.new.book }
     ensures told_before { ToldBefore (K.holds keeper.old) (K.holds keeper.new) }
+    ensures tells_on { TellsOn (K.is_well keeper.old) (K.is_well keeper.new) (K.holds keeper.old) (K.holds keeper.new) office.new.book }
     ensures kept_row { Keeps (K.bad keeper.old) (K.bad keeper.new) }
     ensures cause { ReplyCause (K.faults keeper.old) (K.faults keeper.new) result }
     ensures crash_told { K.tells_crash keeper.new → K.tells_crash keeper.old }
-    ensures crash { K.tells_crash keeper.new → ServeCrash office.old.capacity office.old.book office.new.book
-        (K.holds keeper.new) (K.leaves keeper.old) (K.leaves keeper.new) }
+    ensures crash { K.tells_crash keeper.new → ServeCrash office.old.capacity
+        (book_after office.old.book (step office.old.book office.old.capacity session clock call))
+        office.old.book office.new.book (K.holds keeper.new) (K.leaves keeper.old) (K.leaves keeper.new) result }
 {
     match office.plan_step(alloc, session, clock, call) {
         Ok(Judged::Repeat(done)) => Reply::Accepted(done),
@@ -51,11 +53,12 @@ fn keep<K: Keeper>(alloc: Global, office: &mut Office, keeper: &mut K, step: Ste
     ensures capacity { office.new.capacity ≡ office.old.capacity }
     ensures kept { (book : Book) → K.holds keeper.new book → book ≡ office.new.book }
     ensures told_before { ToldBefore (K.holds keeper.old) (K.holds keeper.new) }
+    ensures tells_on { TellsOn (K.is_well keeper.old) (K.is_well keeper.new) (K.holds keeper.old) (K.holds keeper.new) office.new.book }
     ensures kept_row { Keeps (K.bad keeper.old) (K.bad keeper.new) }
     ensures cause { ReplyCause (K.faults keeper.old) (K.faults keeper.new) result }
     ensures crash_told { K.tells_crash keeper.new → K.tells_crash keeper.old }
-    ensures crash { K.tells_crash keeper.new → ServeCrash office.old.capacity office.old.book office.new.book
-        (K.holds keeper.new) (K.leaves keeper.old) (K.leaves keeper.new) }
+    ensures crash { K.tells_crash keeper.new → ServeCrash office.old.capacity (book_after office.old.book (appends step.rows))
+        office.old.book office.new.book (K.holds keeper.new) (K.leaves keeper.old) (K.leaves keeper.new) result }
 {
     batches_follow();
     let _of_an_office = office.tables();
