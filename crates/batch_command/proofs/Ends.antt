@@ -84,17 +84,19 @@ module _ (left known : Option (List ℕ)) (lines : List (List ℕ)) (taken : Con
       (let first = long_line rest (rw there at long) in
       (first.0, first.1, lines_of-joined lines rest endless ∙ ap (λ ls. lines ++ ls) first.2, inr first.3)))
 
+  -- the next line was taken, and its end
+  pub next_line : (now : Option (List ℕ)) (line : List ℕ) → IsEndless line → Consumes known now (line ++ 10 ∷ [])
+      → IfSome left (λ input. (rest : List (List ℕ)) × (lines_of input ≡ lines ++ line ∷ rest))
+  next_line now line one consumed =
+      by_taken left now (joined lines ++ (line ++ 10 ∷ [])) (λ input. (rest : List (List ℕ)) × (lines_of input ≡ lines ++ line ∷ rest))
+      (Consumes-trans left known now (joined lines) (line ++ 10 ∷ []) taken consumed) (λ rest there.
+      (lines_of rest, simp append_assoc (lines_of-joined lines (line ++ 10 ∷ rest) endless ∙ ap (λ ls. lines ++ ls) (lines_of-line line rest one))))
+
   -- one line more than there may be
   pub follows_more : (now left_now : Option (List ℕ)) (line : List ℕ) → IsEndless line → Consumes known now (line ++ 10 ∷ []) → length lines ≡ most_lines
       → IfSome left (λ input. Follows input left_now lines Ending.TooLong)
   follows_more now left_now line one consumed many =
-      by_taken left now (joined lines ++ (line ++ 10 ∷ [])) (λ input. Follows input left_now lines Ending.TooLong)
-      (Consumes-trans left known now (joined lines) (line ++ 10 ∷ []) taken consumed) (λ rest there. (
-        line,
-        lines_of rest,
-        simp append_assoc (lines_of-joined lines (line ++ 10 ∷ rest) endless ∙ ap (λ ls. lines ++ ls) (lines_of-line line rest one)),
-        inl many,
-      ))
+      IfSome_then left (next_line now line one consumed) (λ input next. (line, next.0, next.1, inl many))
 
   pub follows_more_last : (now left_now : Option (List ℕ)) (last : List ℕ) → IsEndless last → 0 < length last → Consumes known now last → IsAtEnd now
       → length lines ≡ most_lines → IfSome left (λ input. Follows input left_now lines Ending.TooLong)

@@ -4,3 +4,4 @@ pub mod Ends
 pub mod Runs
 pub mod Steps
 pub mod ToldBy
+pub mod Stops

@@ -24,7 +24,7 @@ IsLine Next.NoMemory = ⊥
 lines_in-more : (given : List Given) (g : Given) → lines_in (given ++ g ∷ []) ≡ lines_in given ++ g.line ∷ []
 lines_in-more given g = map-append (λ (g : Given). g.line) given (g ∷ [])
 
-endless_lines : (shows : ℕ → Type 0) (given : List Given) → All (IsTaken shows) given → All IsEndless (lines_in given)
+pub endless_lines : (shows : ℕ → Type 0) (given : List Given) → All (IsTaken shows) given → All IsEndless (lines_in given)
 endless_lines shows given taken =
     All-map IsEndless (λ (g : Given). g.line) given (All-weaker (IsTaken shows) (λ g. IsEndless g.line) (λ g t. t.endless) given taken)
 

@@ -1,10 +1,10 @@
 -- Which lines a batch answers, what of the answers is written, and how it ends.
-use Rattle.std.specs.Prelude.{◌≡◌, ◌≤◌, ◌<◌, ◌⊎◌, ℕ, Option, Some, IfSome, List, ◌∷◌, ◌++◌, All, map, length}
+use Rattle.std.specs.Prelude.{◌≡◌, ◌≤◌, ◌<◌, ◌⊎◌, ℕ, Option, Some, IfSome, List, ◌∷◌, ◌++◌, All, Contains, map, length}
 use Rattle.std.specs.Io.KnownBytes.{Consumes, IsAtEnd}
 use Rattle.line_input.specs.{declared.reader.Next.Next, Lines.lines_of, Lines.ended_lines}
 use Rattle.book_rows.specs.Book.{Book}
 use Rattle.clerk_desk.specs.Below.office_step.declared.call.Capacity.{Capacity}
-use Rattle.batch_command.specs.{Output.Given, Output.told_of, Output.batch_output, Answers.Writes, declared.ending.Ending.Ending}
+use Rattle.batch_command.specs.{Line.IsMadeBy, Output.Given, Output.told_of, Output.batch_output, Answers.Writes, declared.ending.Ending.Ending}
 
 -- the most bytes of a line, without its end
 abbrev pub line_limit : ℕ
@@ -46,3 +46,10 @@ pub record Ran (capacity : Capacity) (shows : ℕ → Type 0) (old new : Book) (
   pub follows : IfSome left (λ input. Follows input left_now (lines_in given) end)
   pub book : new ≡ (batch_output capacity old given).book
   pub writes : Writes (told_of capacity) old given held held_now end
+
+-- a crash leaves the book that the office has, or the one that it would have made of it by a line of the input
+abbrev pub LeavesByLine : Capacity → (ℕ → Type 0) → Option (List ℕ) → Book → Option Book → Type 0
+LeavesByLine capacity shows left held after =
+    (after ≡ Some held)
+    ⊎ ((line : List ℕ) × IfSome left (λ input. Contains (lines_of input) line)
+    × IsMadeBy shows capacity held (λ day. told_of capacity held (record { line = line; day = day })) after)

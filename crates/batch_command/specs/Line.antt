@@ -3,6 +3,7 @@ use Rattle.std.specs.Prelude.{◌≡◌, ◌⊎◌, ⊤, ℕ, Bool, true, false,
 use Rattle.std.specs.Io.KnownBytes.{Keeps, Appends}
 use Rattle.office_io.specs.{Outside.Faulted, Transfer.AppendsPart}
 use Rattle.book_rows.specs.Book.{Book}
+use Rattle.clerk_desk.specs.{Below.office_step.declared.call.Capacity.Capacity, Serving.IsFurther, Serving.LeavesOnly, Serving.LeavesFurther}
 use Rattle.batch_command.specs.{Output.Told, Output.line_end, declared.ending.Ending.Ending}
 
 -- The text of the answer is at hand and the book is the one after the line; or the keeper failed, and the book is as before;
@@ -59,3 +60,20 @@ TellBlames before now (Err end) = CountsBy (is_store_fault (Some end)) before no
 abbrev pub LineBlames : ℕ → ℕ → ℕ → ℕ → Option Ending → Type 0
 LineBlames sink sink_now keeper keeper_now end =
     CountsBy (is_write_fault end) sink sink_now × CountsBy (is_store_fault end) keeper keeper_now
+
+-- ---- what a crash leaves
+
+-- the book that an input would have made on a day that the clock may show
+abbrev pub IsMadeBy : (ℕ → Type 0) → Capacity → Book → (ℕ → Told) → Option Book → Type 0
+IsMadeBy shows capacity held told after = (day : ℕ) × shows day × IsFurther capacity held (told day).book after
+
+-- it leaves such a further book only where there is no text
+abbrev pub TellCrash : {A : Type 0} → (Option Book → Type 0) → (old new : Book) → (Book → Type 0) → (Option Book → Type 0) → (Option Book → Type 0) → Result A Ending → Type 0
+TellCrash Is old new holds left leaves (Ok text) = LeavesOnly old new holds left leaves
+TellCrash Is old new holds left leaves (Err end) = LeavesFurther Is old new holds left leaves
+
+-- it leaves such a further book only where nothing of an answer was written
+abbrev pub LineCrash : (Option Book → Type 0) → (old new : Book) → (Book → Type 0) → (Option Book → Type 0) → (Option Book → Type 0) → Option Ending → Type 0
+LineCrash Is old new holds left leaves None = LeavesOnly old new holds left leaves
+LineCrash Is old new holds left leaves (Some Ending.WriteFault) = LeavesOnly old new holds left leaves
+LineCrash Is old new holds left leaves _ = LeavesFurther Is old new holds left leaves

@@ -1,9 +1,9 @@
 ghost use Rattle.std.specs.Prelude.{◌≡◌};
 ghost use Rattle.book_rows.specs.Book.{Book};
 ghost use Rattle.keeper_core.specs.Keeping.{Keeps};
-ghost use Rattle.clerk_desk.specs.Serving.{ToldBefore};
+ghost use Rattle.clerk_desk.specs.Serving.{ToldBefore, TellsOn, Outlives};
 ghost use Rattle.batch_command.specs.Answers.{Blames};
-ghost use Rattle.batch_command.specs.Batch.{Ran, ending_of};
+ghost use Rattle.batch_command.specs.Batch.{Ran, LeavesByLine, ending_of};
 
 use crate::Ending;
 use crate::line::answer_line;
@@ -34,10 +34,13 @@ pub fn answer_lines<K: Keeper, S: Source, W: Sink, C: Clock>(
     ensures capacity { office.new.capacity ≡ office.old.capacity }
     ensures kept { (book : Book) → K.holds keeper.new book → book ≡ office.new.book }
     ensures told_before { ToldBefore (K.holds keeper.old) (K.holds keeper.new) }
+    ensures tells_on { TellsOn (K.is_well keeper.old) (K.is_well keeper.new) (K.holds keeper.old) (K.holds keeper.new) office.new.book }
     ensures kept_row { Keeps (K.bad keeper.old) (K.bad keeper.new) }
     ensures blames { Blames
         (record { source = S.faults source.old; sink = W.faults sink.old; keeper = K.faults keeper.old })
         (record { source = S.faults source.new; sink = W.faults sink.new; keeper = K.faults keeper.new }) result }
+    ensures stopped { Outlives (LeavesByLine office.old.capacity (C.may_show clock.now) (S.left source.old))
+        (K.holds keeper.old) (K.leaves keeper.old) (K.tells_crash keeper.old) (K.holds keeper.new) (K.leaves keeper.new) (K.tells_crash keeper.new) }
 {
     let Ok(mut reader) = LineReader::new(alloc) else {
         return Ending::NoMemory;

@@ -5,9 +5,9 @@ ghost use Rattle.clerk_desk.specs.Below.office_answers.Answering.{answer_to};
 ghost use Rattle.json_front.specs.Lines.{line_from};
 ghost use Rattle.reply_text.specs.Replies.{bad_form_text};
 ghost use Rattle.keeper_core.specs.Keeping.{Keeps};
-ghost use Rattle.clerk_desk.specs.Serving.{ToldBefore};
+ghost use Rattle.clerk_desk.specs.Serving.{ToldBefore, TellsOn, IsFurther};
 ghost use Rattle.batch_command.specs.Output.{session, is_passed_over, line_end, told_of, told_by, told_of_call, answered_text};
-ghost use Rattle.batch_command.specs.Line.{Tells, IsText, WritesText, AnswersLine, LineBlames, SinkBlames, TellBlames};
+ghost use Rattle.batch_command.specs.Line.{Tells, IsText, WritesText, AnswersLine, LineBlames, SinkBlames, TellBlames, IsMadeBy, TellCrash, LineCrash};
 
 use crate::Ending;
 use clerk_desk::office_answers::{Asked, Question, Reply};
@@ -40,8 +40,13 @@ pub fn answer_line<K: Keeper, W: Sink, C: Clock>(
     ensures capacity { office.new.capacity ≡ office.old.capacity }
     ensures kept { (book : Book) → K.holds keeper.new book → book ≡ office.new.book }
     ensures told_before { ToldBefore (K.holds keeper.old) (K.holds keeper.new) }
+    ensures tells_on { TellsOn (K.is_well keeper.old) (K.is_well keeper.new) (K.holds keeper.old) (K.holds keeper.new) office.new.book }
     ensures kept_row { Keeps (K.bad keeper.old) (K.bad keeper.new) }
     ensures blames { LineBlames (W.faults sink.old) (W.faults sink.new) (K.faults keeper.old) (K.faults keeper.new) result }
+    ensures crash_told { K.tells_crash keeper.new → K.tells_crash keeper.old }
+    ensures crash { K.tells_crash keeper.new → LineCrash (IsMadeBy (C.may_show clock.now) office.old.capacity office.old.book
+        (λ day. told_of office.old.capacity office.old.book (record { line = line.now; day = day })))
+        office.old.book office.new.book (K.holds keeper.new) (K.leaves keeper.old) (K.leaves keeper.new) result }
 {
     match answer_of_line(alloc, office, keeper, clock.today(), line) {
         Ok(text) => write_answer(sink, &text),
@@ -62,8 +67,13 @@ pub fn answer_of_line<K: Keeper>(
     ensures capacity { office.new.capacity ≡ office.old.capacity }
     ensures kept { (book : Book) → K.holds keeper.new book → book ≡ office.new.book }
     ensures told_before { ToldBefore (K.holds keeper.old) (K.holds keeper.new) }
+    ensures tells_on { TellsOn (K.is_well keeper.old) (K.is_well keeper.new) (K.holds keeper.old) (K.holds keeper.new) office.new.book }
     ensures kept_row { Keeps (K.bad keeper.old) (K.bad keeper.new) }
     ensures blames { TellBlames (K.faults keeper.old) (K.faults keeper.new) result }
+    ensures crash_told { K.tells_crash keeper.new → K.tells_crash keeper.old }
+    ensures crash { K.tells_crash keeper.new → TellCrash (IsFurther office.old.capacity office.old.book
+        (told_of office.old.capacity office.old.book (record { line = line.now; day = today })).book)
+        office.old.book office.new.book (K.holds keeper.new) (K.leaves keeper.old) (K.leaves keeper.new) result }
 {
     if is_passed_over(line) {
         return Ok(Text::new(Vec::new(alloc)));
@@ -102,8 +112,13 @@ fn told<K: Keeper>(
     ensures capacity { office.new.capacity ≡ office.old.capacity }
     ensures kept { (book : Book) → K.holds keeper.new book → book ≡ office.new.book }
     ensures told_before { ToldBefore (K.holds keeper.old) (K.holds keeper.new) }
+    ensures tells_on { TellsOn (K.is_well keeper.old) (K.is_well keeper.new) (K.holds keeper.old) (K.holds keeper.new) office.new.book }
     ensures kept_row { Keeps (K.bad keeper.old) (K.bad keeper.new) }
     ensures blames { TellBlames (K.faults keeper.old) (K.faults keeper.new) result }
+    ensures crash_told { K.tells_crash keeper.new → K.tells_crash keeper.old }
+    ensures crash { K.tells_crash keeper.new → TellCrash (IsFurther office.old.capacity office.old.book
+        (told_by office.old.capacity office.old.book today (line_from line.now)).book)
+        office.old.book office.new.book (K.holds keeper.new) (K.leaves keeper.old) (K.leaves keeper.new) result }
 {
     match line_of_bytes(alloc, line) {
         Ok(BatchLine::Act { today: day, call }) => {
@@ -129,8 +144,13 @@ pub fn answer_call<K: Keeper>(
     ensures capacity { office.new.capacity ≡ office.old.capacity }
     ensures kept { (book : Book) → K.holds keeper.new book → book ≡ office.new.book }
     ensures told_before { ToldBefore (K.holds keeper.old) (K.holds keeper.new) }
+    ensures tells_on { TellsOn (K.is_well keeper.old) (K.is_well keeper.new) (K.holds keeper.old) (K.holds keeper.new) office.new.book }
     ensures kept_row { Keeps (K.bad keeper.old) (K.bad keeper.new) }
     ensures blames { TellBlames (K.faults keeper.old) (K.faults keeper.new) result }
+    ensures crash_told { K.tells_crash keeper.new → K.tells_crash keeper.old }
+    ensures crash { K.tells_crash keeper.new → TellCrash (IsFurther office.old.capacity office.old.book
+        (told_of_call office.old.book (step office.old.book office.old.capacity session day call)).book)
+        office.old.book office.new.book (K.holds keeper.new) (K.leaves keeper.old) (K.leaves keeper.new) result }
 {
     match serve(alloc, office, keeper, SESSION, day, call) {
         Reply::StoreFault => Err(Ending::StoreFault),

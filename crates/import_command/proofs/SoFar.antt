@@ -1,14 +1,14 @@
 -- What holds of the rows that were answered so far, and how the rows end.
 use Rattle.std.proofs.Common.{◌≡◌, ◌<◌, ◌+◌, ◌⊎◌, Err, inl, inr, ℕ, List, [], ◌∷◌, ◌++◌, None, Some, length, take, drop, get_or, map, refl, sym, ap, subst, ◌∙◌}
-use Rattle.std.specs.{Prelude.Option, Prelude.All, Io.KnownBytes.Appends, Io.KnownBytes.Keeps}
+use Rattle.std.specs.{Prelude.Option, Prelude.All, Prelude.Contains, Io.KnownBytes.Appends, Io.KnownBytes.Keeps}
 use Rattle.std.proofs.KnownBytes.{Appends-nil, Appends-kept}
 use Rattle.std.proofs.lemmas.{List.map-append, List.map-id, List.take_more, List.take-append-drop, List.Elements.All-nil, List.Elements.All-push}
 use Rattle.book_rows.specs.Book.{Book}
 use Rattle.applicant_rows.specs.declared.row.ImportRow.{ImportRow}
 use Rattle.batch_command.specs.Below.office_step.declared.call.Capacity.{Capacity}
-use Rattle.batch_command.specs.{declared.ending.Ending.Ending, Line.AnswersLine, Line.Tells, Output.Told, Output.output}
+use Rattle.batch_command.specs.{declared.ending.Ending.Ending, Line.AnswersLine, Line.IsMadeBy, Line.Tells, Output.Told, Output.output}
 use Rattle.batch_command.proofs.More.{book-more, written-more, part_written}
-use Rattle.import_command.specs.Rows.{GivenRow, told_of_row, rows_in, RowsRan}
+use Rattle.import_command.specs.Rows.{GivenRow, told_of_row, rows_in, RowsRan, LeavesByRow}
 
 -- these rows were answered
 pub record SoFar (capacity : Capacity) (shows : ℕ → Type 0) (old new : Book) (held held_now : Option (List ℕ)) (answered : List ImportRow) : Type 0 where
@@ -64,6 +64,13 @@ are_more given answered row day are = map-append (λ (g : GivenRow). g.row) give
 
 shown_more : (shows : ℕ → Type 0) (given : List GivenRow) (row : ImportRow) (day : ℕ) → All (λ g. shows g.day) given → shows day → All (λ g. shows g.day) (with_row given row day)
 shown_more shows given row day before shown = All-push (λ (g : GivenRow). shows g.day) given (record { row = row; day = day }) before shown
+
+-- the row in work, where the office's capacity stays
+pub by_row : (capacity own : Capacity) (shows : ℕ → Type 0) (rows : List ImportRow) (row : ImportRow) (now : Book) (after : Option Book) → own ≡ capacity → Contains rows row
+    → (after ≡ Some now) ⊎ IsMadeBy shows own now (λ day. told_of_row own now (record { row = row; day = day })) after → LeavesByRow capacity shows rows now after
+by_row capacity own shows rows row now after same inside (inl e) = inl e
+by_row capacity own shows rows row now after same inside (inr made) =
+    inr (row, inside, subst (λ (k : Capacity). IsMadeBy shows k now (λ day. told_of_row k now (record { row = row; day = day })) after) same made)
 
 module _ {capacity : Capacity} {shows : ℕ → Type 0} {old : Book} {held : Option (List ℕ)} where
   pub start : SoFar capacity shows old old held held []

@@ -1,10 +1,10 @@
 -- What rows of applicants are answered with, and which of them were answered.
-use Rattle.std.specs.Prelude.{◌≡◌, ℕ, Option, Some, None, List, ◌++◌, All, map, Result, Ok, Err, codes}
+use Rattle.std.specs.Prelude.{◌≡◌, ◌⊎◌, ℕ, Option, Some, None, List, ◌++◌, All, Contains, map, Result, Ok, Err, codes}
 use Rattle.book_rows.specs.Book.{Book}
 use Rattle.applicant_rows.specs.declared.row.ImportRow.{ImportRow}
 use Rattle.batch_command.specs.Below.office_step.declared.call.Capacity.{Capacity}
 use Rattle.batch_command.specs.Below.json_front.declared.line.BatchLine.{BatchLine}
-use Rattle.batch_command.specs.{declared.ending.Ending.Ending, Output.Told, Output.told_by, Output.output, Answers.Writes}
+use Rattle.batch_command.specs.{declared.ending.Ending.Ending, Line.IsMadeBy, Output.Told, Output.told_by, Output.output, Answers.Writes}
 
 -- a row, and the day that the clock showed for it
 pub record GivenRow : Type 0 where
@@ -38,3 +38,10 @@ pub record RowsRan (capacity : Capacity) (shows : ℕ → Type 0) (rows : List I
   pub front : AreFront rows (rows_in given) end
   pub book : new ≡ (output (told_of_row capacity) old given).book
   pub writes : Writes (told_of_row capacity) old given held held_now end
+
+-- a crash leaves the book that the office has, or the one that it would have made of it by one of the rows
+abbrev pub LeavesByRow : Capacity → (ℕ → Type 0) → List ImportRow → Book → Option Book → Type 0
+LeavesByRow capacity shows rows held after =
+    (after ≡ Some held)
+    ⊎ ((row : ImportRow) × Contains rows row
+    × IsMadeBy shows capacity held (λ day. told_of_row capacity held (record { row = row; day = day })) after)

@@ -2,9 +2,9 @@ ghost use Rattle.std.specs.Prelude.{◌≡◌, ℕ, true};
 ghost use Rattle.book_rows.specs.Book.{Book};
 ghost use Rattle.keeper_core.specs.Keeping.{Keeps};
 ghost use Rattle.applicant_rows.specs.Applicants.{is_fit_row};
-ghost use Rattle.batch_command.specs.Below.clerk_desk.Serving.{ToldBefore};
+ghost use Rattle.batch_command.specs.Below.clerk_desk.Serving.{ToldBefore, TellsOn, IsFurther};
 ghost use Rattle.batch_command.specs.Output.{told_by};
-ghost use Rattle.batch_command.specs.Line.{Tells, AnswersLine, LineBlames, TellBlames};
+ghost use Rattle.batch_command.specs.Line.{Tells, AnswersLine, LineBlames, TellBlames, IsMadeBy, TellCrash, LineCrash};
 ghost use Rattle.import_command.specs.Rows.{line_of_row, told_of_row};
 
 use applicant_rows::ImportRow;
@@ -32,8 +32,13 @@ pub fn answer_row<K: Keeper, W: Sink, C: Clock>(
     ensures capacity { office.new.capacity ≡ office.old.capacity }
     ensures kept { (book : Book) → K.holds keeper.new book → book ≡ office.new.book }
     ensures told_before { ToldBefore (K.holds keeper.old) (K.holds keeper.new) }
+    ensures tells_on { TellsOn (K.is_well keeper.old) (K.is_well keeper.new) (K.holds keeper.old) (K.holds keeper.new) office.new.book }
     ensures kept_row { Keeps (K.bad keeper.old) (K.bad keeper.new) }
     ensures blames { LineBlames (W.faults sink.old) (W.faults sink.new) (K.faults keeper.old) (K.faults keeper.new) result }
+    ensures crash_told { K.tells_crash keeper.new → K.tells_crash keeper.old }
+    ensures crash { K.tells_crash keeper.new → LineCrash (IsMadeBy (C.may_show clock.now) office.old.capacity office.old.book
+        (λ day. told_of_row office.old.capacity office.old.book (record { row = row; day = day })))
+        office.old.book office.new.book (K.holds keeper.new) (K.leaves keeper.old) (K.leaves keeper.new) result }
 {
     let today = clock.today();
     match told(alloc, office, keeper, today, row) {
@@ -56,8 +61,13 @@ fn told<K: Keeper>(
     ensures capacity { office.new.capacity ≡ office.old.capacity }
     ensures kept { (book : Book) → K.holds keeper.new book → book ≡ office.new.book }
     ensures told_before { ToldBefore (K.holds keeper.old) (K.holds keeper.new) }
+    ensures tells_on { TellsOn (K.is_well keeper.old) (K.is_well keeper.new) (K.holds keeper.old) (K.holds keeper.new) office.new.book }
     ensures kept_row { Keeps (K.bad keeper.old) (K.bad keeper.new) }
     ensures blames { TellBlames (K.faults keeper.old) (K.faults keeper.new) result }
+    ensures crash_told { K.tells_crash keeper.new → K.tells_crash keeper.old }
+    ensures crash { K.tells_crash keeper.new → TellCrash (IsFurther office.old.capacity office.old.book
+        (told_by office.old.capacity office.old.book today (line_of_row row)).book)
+        office.old.book office.new.book (K.holds keeper.new) (K.leaves keeper.old) (K.leaves keeper.new) result }
 {
     match row {
         ImportRow::Call(call) => answer_call(alloc, office, keeper, today, call),

@@ -2,9 +2,9 @@ ghost use Rattle.std.specs.Prelude.{◌≡◌, ℕ, true, Some, All};
 ghost use Rattle.book_rows.specs.Book.{Book};
 ghost use Rattle.keeper_core.specs.Keeping.{Keeps};
 ghost use Rattle.applicant_rows.specs.Applicants.{is_fit_row};
-ghost use Rattle.batch_command.specs.Below.clerk_desk.Serving.{ToldBefore};
+ghost use Rattle.batch_command.specs.Below.clerk_desk.Serving.{ToldBefore, TellsOn, Outlives};
 ghost use Rattle.batch_command.specs.Line.{LineBlames};
-ghost use Rattle.import_command.specs.Rows.{RowsRan};
+ghost use Rattle.import_command.specs.Rows.{RowsRan, LeavesByRow};
 
 use crate::row::answer_row;
 use applicant_rows::ImportRow;
@@ -30,8 +30,11 @@ pub fn answer_rows<K: Keeper, W: Sink, C: Clock>(
     ensures capacity { office.new.capacity ≡ office.old.capacity }
     ensures kept { (book : Book) → K.holds keeper.new book → book ≡ office.new.book }
     ensures told_before { ToldBefore (K.holds keeper.old) (K.holds keeper.new) }
+    ensures tells_on { TellsOn (K.is_well keeper.old) (K.is_well keeper.new) (K.holds keeper.old) (K.holds keeper.new) office.new.book }
     ensures kept_row { Keeps (K.bad keeper.old) (K.bad keeper.new) }
     ensures blames { LineBlames (W.faults sink.old) (W.faults sink.new) (K.faults keeper.old) (K.faults keeper.new) (Some result) }
+    ensures stopped { Outlives (LeavesByRow office.old.capacity (C.may_show clock.now) rows.items)
+        (K.holds keeper.old) (K.leaves keeper.old) (K.tells_crash keeper.old) (K.holds keeper.new) (K.leaves keeper.new) (K.tells_crash keeper.new) }
 {
     for row in rows {
         if let Some(ending) = answer_row(alloc, office, row, sink, clock, keeper) {

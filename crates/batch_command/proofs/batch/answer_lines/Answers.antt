@@ -1,5 +1,9 @@
-use Rattle.std.proofs.Common.{[], refl, arith, rules}
+use Rattle.std.proofs.Common.{[], Some, inl, refl, subst, arith, rules}
+use Rattle.book_rows.specs.Book.{Book}
 use Rattle.batch_command.proofs.{Ends.none_behind, SoFar.so_far_start, Runs.ran_without, Steps.goes_on, Steps.ends_within, Steps.ends_with}
+use Rattle.clerk_desk.proofs.Following.{tells_then}
+use Rattle.batch_command.specs.{Line.IsMadeBy, Output.told_of}
+use Rattle.batch_command.proofs.Stops.{leaves_told, leaves_further, line_leaves, line_of_input, last_of_input, by_line}
 use Rattle.line_input.specs.declared.reader.Next.{Next}
 use Rattle.batch_command.proofs.batch.answer_lines.Goals as goal
 
@@ -9,6 +13,8 @@ loop-init g c = record {
   capacity = refl;
   kept = c.requires;
   told_before = λ book told. (book, told);
+  tells_on = λ well. (well, λ told holding. subst (g.K.Keeper.holds c.args.keeper.now) (c.requires told holding) holding);
+  sound = λ sound. sound;
   kept_row = λ row told. told;
   source = refl;
   sink = refl;
@@ -23,6 +29,12 @@ loop-preserved g c = record {
   kept = search rules;
   told_before = λ book told.
       let was = c.in_default-answer_line.ensures.told_before book told in c.loop.invariant.told_before was.0 was.1;
+  tells_on = tells_then (g.K.Keeper.holds c.args.keeper.now) (g.K.Keeper.holds c.loop.keeper) (g.K.Keeper.holds c.answer_line.new.keeper) c.loop.office.book c.answer_line.new.office.book
+      c.loop.invariant.tells_on c.in_default-answer_line.ensures.tells_on;
+  sound = λ sound telling.
+      leaves_told (g.K.Keeper.holds c.loop.keeper) (g.K.Keeper.holds c.answer_line.new.keeper) (g.K.Keeper.leaves c.loop.keeper) c.loop.office.book c.answer_line.new.office.book
+      c.in_default-answer_line.ensures.told_before c.loop.invariant.kept c.in_default-answer_line.ensures.kept
+      (c.loop.invariant.sound sound (c.in_default-answer_line.ensures.crash_told telling)) (g.K.Keeper.leaves c.answer_line.new.keeper) (c.in_default-answer_line.ensures.crash telling);
   kept_row = λ row told. c.loop.invariant.kept_row row (c.in_default-answer_line.ensures.kept_row row told);
   source = search rules;
   sink = search rules;
@@ -60,3 +72,49 @@ pub returns-clause-ran : goal.returns-clause-ran
 returns-clause-ran g c =
     rw c.without_line.ensures (ran_without c.loop.invariant.answered.2 (omega (arith, c.loop.invariant.answered.1)) c.next-2.new.self c.next-2.result
     (λ x. omega (arith, c.loop.invariant.answered.1)) c.next-2.ensures.comes refl)
+
+pub returns-in-Some-clause-stopped : goal.returns-in-Some-clause-stopped
+returns-in-Some-clause-stopped g c =
+    λ sound telling now holding after left.
+    let own = c.loop.office.capacity in
+    let shows = g.C.Clock.may_show c.args.clock.now in
+    let Is = λ (book : Book). IsMadeBy shows own book (λ day. told_of own book (record { line = c.line.result.now; day = day })) in
+    by_line c.args.office.now.capacity own shows (g.S.Source.left c.args.source.now) c.line.result.now c.next.new.self.line now after c.loop.invariant.capacity c.line.ensures
+    (line_of_input c.loop.invariant.answered.2 _ c.next.new.self.line c.in-Line.ensures.comes.0 c.in-Line.ensures.comes.2)
+    (leaves_further (g.K.Keeper.holds c.loop.keeper) (g.K.Keeper.holds c.answer_line.new.keeper) (g.K.Keeper.leaves c.loop.keeper) c.loop.office.book c.answer_line.new.office.book
+    c.in-Some.ensures.told_before c.loop.invariant.kept c.in-Some.ensures.kept
+    (c.loop.invariant.sound sound (c.in-Some.ensures.crash_told telling)) (g.K.Keeper.leaves c.answer_line.new.keeper) Is
+    (line_leaves (Is c.loop.office.book) c.loop.office.book c.answer_line.new.office.book (g.K.Keeper.holds c.answer_line.new.keeper) (g.K.Keeper.leaves c.loop.keeper) (g.K.Keeper.leaves c.answer_line.new.keeper)
+    (Some c.in-Some.ending) (c.in-Some.ensures.crash telling)) now holding after left)
+
+pub returns-in-Last-clause-stopped : goal.returns-in-Last-clause-stopped
+returns-in-Last-clause-stopped g c =
+    λ sound telling now holding after left.
+    let own = c.loop.office.capacity in
+    let shows = g.C.Clock.may_show c.args.clock.now in
+    let Is = λ (book : Book). IsMadeBy shows own book (λ day. told_of own book (record { line = c.line-in-Last.result.now; day = day })) in
+    by_line c.args.office.now.capacity own shows (g.S.Source.left c.args.source.now) c.line-in-Last.result.now c.next.new.self.line now after c.loop.invariant.capacity c.line-in-Last.ensures
+    (last_of_input c.loop.invariant.answered.2 _ c.next.new.self.line c.in-Last.ensures.comes.0 c.in-Last.ensures.comes.2 c.in-Last.ensures.comes.3 c.in-Last.ensures.comes.4)
+    (leaves_further (g.K.Keeper.holds c.loop.keeper) (g.K.Keeper.holds c.answer_line-in-Last.new.keeper) (g.K.Keeper.leaves c.loop.keeper) c.loop.office.book c.answer_line-in-Last.new.office.book
+    c.answer_line-in-Last.ensures.told_before c.loop.invariant.kept c.answer_line-in-Last.ensures.kept
+    (c.loop.invariant.sound sound (c.answer_line-in-Last.ensures.crash_told telling)) (g.K.Keeper.leaves c.answer_line-in-Last.new.keeper) Is
+    (line_leaves (Is c.loop.office.book) c.loop.office.book c.answer_line-in-Last.new.office.book (g.K.Keeper.holds c.answer_line-in-Last.new.keeper) (g.K.Keeper.leaves c.loop.keeper) (g.K.Keeper.leaves c.answer_line-in-Last.new.keeper)
+    c.answer_line-in-Last.result (c.answer_line-in-Last.ensures.crash telling)) now holding after left)
+
+pub returns-in_default-clause-stopped : goal.returns-in_default-clause-stopped
+returns-in_default-clause-stopped g c = λ sound telling now holding after left. inl (sound telling now holding after left)
+
+pub returns-in-End-clause-stopped : goal.returns-in-End-clause-stopped
+returns-in-End-clause-stopped g c = λ sound telling now holding after left. inl (c.loop.invariant.sound sound telling now holding after left)
+
+pub returns-in-TooLong-clause-stopped : goal.returns-in-TooLong-clause-stopped
+returns-in-TooLong-clause-stopped g c = λ sound telling now holding after left. inl (c.loop.invariant.sound sound telling now holding after left)
+
+pub returns-in-Failed-clause-stopped : goal.returns-in-Failed-clause-stopped
+returns-in-Failed-clause-stopped g c = λ sound telling now holding after left. inl (c.loop.invariant.sound sound telling now holding after left)
+
+pub returns-in-NoMemory-clause-stopped : goal.returns-in-NoMemory-clause-stopped
+returns-in-NoMemory-clause-stopped g c = λ sound telling now holding after left. inl (c.loop.invariant.sound sound telling now holding after left)
+
+pub returns-clause-stopped : goal.returns-clause-stopped
+returns-clause-stopped g c = λ sound telling now holding after left. inl (c.loop.invariant.sound sound telling now holding after left)

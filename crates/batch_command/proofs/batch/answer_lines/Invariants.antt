@@ -1,8 +1,8 @@
 use Rattle.std.proofs.Common.{◌≡◌, List, length}
 use Rattle.std.specs.Io.KnownBytes.{prepend_known}
 use Rattle.book_rows.specs.Book.{Book}
-use Rattle.keeper_core.specs.Keeping.{Keeps}
-use Rattle.clerk_desk.specs.Serving.{ToldBefore}
+use Rattle.keeper_core.specs.Keeping.{Keeps, LeavesTold}
+use Rattle.clerk_desk.specs.Serving.{ToldBefore, TellsOn}
 use Rattle.batch_command.specs.Output.{Given}
 use Rattle.batch_command.proofs.SoFar.{SoFar}
 use Rattle.batch_command.proofs.batch.answer_lines.Given as goal
@@ -14,6 +14,9 @@ invariant-loop g l = record {
   capacity : l.office.capacity ≡ l.fn.office.capacity;
   kept : (book : Book) → g.K.Keeper.holds l.keeper book → book ≡ l.office.book;
   told_before : ToldBefore (g.K.Keeper.holds l.fn.keeper) (g.K.Keeper.holds l.keeper);
+  tells_on : TellsOn (g.K.Keeper.is_well l.fn.keeper) (g.K.Keeper.is_well l.keeper) (g.K.Keeper.holds l.fn.keeper) (g.K.Keeper.holds l.keeper) l.office.book;
+  sound : (g.K.Keeper.tells_crash l.fn.keeper → LeavesTold (g.K.Keeper.holds l.fn.keeper) (g.K.Keeper.leaves l.fn.keeper))
+      → g.K.Keeper.tells_crash l.keeper → LeavesTold (g.K.Keeper.holds l.keeper) (g.K.Keeper.leaves l.keeper);
   kept_row : Keeps (g.K.Keeper.bad l.fn.keeper) (g.K.Keeper.bad l.keeper);
   source : g.S.Source.faults l.source ≡ g.S.Source.faults l.fn.source;
   sink : g.W.Sink.faults l.sink ≡ g.W.Sink.faults l.fn.sink;

@@ -1,7 +1,7 @@
 use Rattle.std.proofs.Common.{◌≡◌}
 use Rattle.book_rows.specs.Book.{Book}
-use Rattle.keeper_core.specs.Keeping.{Keeps}
-use Rattle.batch_command.specs.Below.clerk_desk.Serving.{ToldBefore}
+use Rattle.keeper_core.specs.Keeping.{Keeps, LeavesTold}
+use Rattle.batch_command.specs.Below.clerk_desk.Serving.{ToldBefore, TellsOn}
 use Rattle.import_command.proofs.SoFar.{SoFar}
 use Rattle.import_command.proofs.rows.answer_rows.Given as goal
 
@@ -11,6 +11,9 @@ invariant-loop-row g l = record {
   capacity : l.office.capacity ≡ l.fn.office.capacity;
   kept : (book : Book) → g.K.Keeper.holds l.keeper book → book ≡ l.office.book;
   told_before : ToldBefore (g.K.Keeper.holds l.fn.keeper) (g.K.Keeper.holds l.keeper);
+  tells_on : TellsOn (g.K.Keeper.is_well l.fn.keeper) (g.K.Keeper.is_well l.keeper) (g.K.Keeper.holds l.fn.keeper) (g.K.Keeper.holds l.keeper) l.office.book;
+  sound : (g.K.Keeper.tells_crash l.fn.keeper → LeavesTold (g.K.Keeper.holds l.fn.keeper) (g.K.Keeper.leaves l.fn.keeper))
+      → g.K.Keeper.tells_crash l.keeper → LeavesTold (g.K.Keeper.holds l.keeper) (g.K.Keeper.leaves l.keeper);
   kept_row : Keeps (g.K.Keeper.bad l.fn.keeper) (g.K.Keeper.bad l.keeper);
   sink : g.W.Sink.faults l.sink ≡ g.W.Sink.faults l.fn.sink;
   keeper : g.K.Keeper.faults l.keeper ≡ g.K.Keeper.faults l.fn.keeper;
