@@ -1,11 +1,11 @@
 -- What `import` does to the book that was opened: the rows of the input are answered on it.
-use Rattle.std.specs.Prelude.{◌≡◌, ◌≤◌, ◌<◌, ◌⊎◌, ℕ, Option, Some, None, List, length, codes}
+use Rattle.std.specs.Prelude.{◌≡◌, ◌≤◌, ◌<◌, ◌⊎◌, ℕ, Option, Some, None, IfSome, List, length, codes}
 use Rattle.std.specs.Io.KnownBytes.{Consumes, Keeps as KeepsBytes}
 use Rattle.office_io.specs.Transfer.{Takes}
 use Rattle.book_rows.specs.Book.{Book}
 use Rattle.applicant_rows.specs.{declared.row.ImportRow.ImportRow, Applicants.applicants_in}
 use Rattle.batch_command.specs.{declared.ending.Ending.Ending, Answers.Blames}
-use Rattle.import_command.specs.Rows.{RowsRan}
+use Rattle.import_command.specs.Rows.{RowsRan, LeavesByRow}
 use Rattle.program_answers.specs.{Answer.Answer, Answer.Ends, Opening.Door, Opening.largest}
 use Rattle.office_prog.specs.Batch.{status_of}
 
@@ -56,3 +56,9 @@ Imported clerk shows start after old new status =
     ⊎ (((input : List ℕ) × (import_limit < length input) × Takes import_limit old.left new.left input × Unanswered Ending.TooLong start after old new status)
     ⊎ (((input : List ℕ) × (length input ≤ import_limit) × Consumes old.left new.left input × Unanswered Ending.ReadFault start after old new status)
     ⊎ ((new.left ≡ old.left) × Unanswered Ending.NoMemory start after old new status)))
+
+-- a crash leaves the book that the office has, or the one that it would have made of it by one of the rows under the header
+abbrev pub LeavesByInput : ℕ → (ℕ → Type 0) → Option (List ℕ) → Book → Option Book → Type 0
+LeavesByInput clerk shows left held after =
+    (after ≡ Some held)
+    ⊎ ((rows : List ImportRow) × IfSome left (λ input. applicants_in clerk input ≡ Some rows) × LeavesByRow largest shows rows held after)

@@ -1,7 +1,9 @@
 ghost use Rattle.std.specs.Prelude.{◌≡◌};
 ghost use Rattle.book_rows.specs.Book.{Book};
 ghost use Rattle.keeper_core.specs.Keeping.{Keeps};
-ghost use Rattle.batch_command.specs.Below.clerk_desk.Serving.{ToldBefore};
+ghost use Rattle.batch_command.specs.Below.clerk_desk.Serving.{ToldBefore, TellsOn, Outlives};
+ghost use Rattle.batch_command.specs.Batch.{LeavesByLine};
+ghost use Rattle.program_answers.specs.Keeping.{StillTells};
 ghost use Rattle.office_prog.specs.Batch.{Batched, status_of};
 ghost use Rattle.program_answers.specs.Opening.{Comes, door, largest};
 
@@ -21,9 +23,12 @@ pub fn run_batch<K: Keeper, S: Source, W: Sink, C: Clock>(
     clock: &C,
     keeper: &mut K,
 ) -> u8
-    ensures { Comes (Batched (C.may_show clock.now)) (K.holds keeper.old) (K.holds keeper.new) (K.bad keeper.new)
+    ensures comes { Comes (Batched (C.may_show clock.now)) (K.holds keeper.old) (K.holds keeper.new) (K.bad keeper.new)
         (door (S.left source.old) (W.held sink.old) (S.faults source.old) (W.faults sink.old) (K.faults keeper.old))
         (door (S.left source.new) (W.held sink.new) (S.faults source.new) (W.faults sink.new) (K.faults keeper.new)) result }
+    ensures tells_on { StillTells (K.holds keeper.old) (K.is_well keeper.new) (K.holds keeper.new) }
+    ensures stopped { Outlives (LeavesByLine largest (C.may_show clock.now) (S.left source.old))
+        (K.holds keeper.old) (K.leaves keeper.old) (K.tells_crash keeper.old) (K.holds keeper.new) (K.leaves keeper.new) (K.tells_crash keeper.new) }
 {
     match open_office(alloc, keeper, LARGEST) {
         Ok(mut office) => {
@@ -53,6 +58,9 @@ fn answer_batch<K: Keeper, S: Source, W: Sink, C: Clock>(
     ensures kept { (book : Book) → K.holds keeper.new book → book ≡ office.new.book }
     ensures told_before { ToldBefore (K.holds keeper.old) (K.holds keeper.new) }
     ensures kept_row { Keeps (K.bad keeper.old) (K.bad keeper.new) }
+    ensures tells_on { TellsOn (K.is_well keeper.old) (K.is_well keeper.new) (K.holds keeper.old) (K.holds keeper.new) office.new.book }
+    ensures stopped { Outlives (LeavesByLine largest (C.may_show clock.now) (S.left source.old))
+        (K.holds keeper.old) (K.leaves keeper.old) (K.tells_crash keeper.old) (K.holds keeper.new) (K.leaves keeper.new) (K.tells_crash keeper.new) }
 {
     status_of(answer_lines(alloc, office, source, sink, clock, keeper))
 }

@@ -1,8 +1,9 @@
-ghost use Rattle.std.specs.Prelude.{◌≡◌, ◌≤◌, ℕ, Option, List};
+ghost use Rattle.std.specs.Prelude.{◌≡◌, ◌≤◌, ℕ, Option, Some, List};
 ghost use Rattle.book_rows.specs.Book.{Book};
 ghost use Rattle.keeper_core.specs.Keeping.{Keeps};
-ghost use Rattle.batch_command.specs.Below.clerk_desk.Serving.{ToldBefore};
-ghost use Rattle.office_prog.specs.Import.{AnswersInput, Imported};
+ghost use Rattle.batch_command.specs.Below.clerk_desk.Serving.{ToldBefore, TellsOn, Outlives};
+ghost use Rattle.program_answers.specs.Keeping.{StillTells};
+ghost use Rattle.office_prog.specs.Import.{AnswersInput, Imported, LeavesByInput};
 ghost use Rattle.program_answers.specs.Opening.{Comes, door, largest};
 
 use crate::batch::status_of;
@@ -32,9 +33,12 @@ pub fn run_import<K: Keeper, S: Source, W: Sink, C: Clock>(
 ) -> u8
     requires least { 1 ≤ clerk }
     requires most { clerk ≤ 9999 }
-    ensures { Comes (Imported clerk (C.may_show clock.now)) (K.holds keeper.old) (K.holds keeper.new) (K.bad keeper.new)
+    ensures comes { Comes (Imported clerk (C.may_show clock.now)) (K.holds keeper.old) (K.holds keeper.new) (K.bad keeper.new)
         (door (S.left source.old) (W.held sink.old) (S.faults source.old) (W.faults sink.old) (K.faults keeper.old))
         (door (S.left source.new) (W.held sink.new) (S.faults source.new) (W.faults sink.new) (K.faults keeper.new)) result }
+    ensures tells_on { StillTells (K.holds keeper.old) (K.is_well keeper.new) (K.holds keeper.new) }
+    ensures stopped { Outlives (LeavesByInput clerk (C.may_show clock.now) (S.left source.old))
+        (K.holds keeper.old) (K.leaves keeper.old) (K.tells_crash keeper.old) (K.holds keeper.new) (K.leaves keeper.new) (K.tells_crash keeper.new) }
 {
     match open_office(alloc, keeper, LARGEST) {
         Ok(mut office) => {
@@ -67,6 +71,9 @@ fn import<K: Keeper, S: Source, W: Sink, C: Clock>(
     ensures kept { (book : Book) → K.holds keeper.new book → book ≡ office.new.book }
     ensures told_before { ToldBefore (K.holds keeper.old) (K.holds keeper.new) }
     ensures kept_row { Keeps (K.bad keeper.old) (K.bad keeper.new) }
+    ensures tells_on { TellsOn (K.is_well keeper.old) (K.is_well keeper.new) (K.holds keeper.old) (K.holds keeper.new) office.new.book }
+    ensures stopped { Outlives (LeavesByInput clerk (C.may_show clock.now) (S.left source.old))
+        (K.holds keeper.old) (K.leaves keeper.old) (K.tells_crash keeper.old) (K.holds keeper.new) (K.leaves keeper.new) (K.tells_crash keeper.new) }
 {
     match read_up_to(alloc, source, IMPORT_LIMIT) {
         Input::Whole(input) => answer_input(alloc, clerk, &input, office, sink, clock, keeper),
@@ -98,6 +105,9 @@ fn answer_input<K: Keeper, W: Sink, C: Clock>(
     ensures kept { (book : Book) → K.holds keeper.new book → book ≡ office.new.book }
     ensures told_before { ToldBefore (K.holds keeper.old) (K.holds keeper.new) }
     ensures kept_row { Keeps (K.bad keeper.old) (K.bad keeper.new) }
+    ensures tells_on { TellsOn (K.is_well keeper.old) (K.is_well keeper.new) (K.holds keeper.old) (K.holds keeper.new) office.new.book }
+    ensures stopped { Outlives (LeavesByInput clerk (C.may_show clock.now) (Some input.now))
+        (K.holds keeper.old) (K.leaves keeper.old) (K.tells_crash keeper.old) (K.holds keeper.new) (K.leaves keeper.new) (K.tells_crash keeper.new) }
 {
     match applicants_of_csv(alloc, input, clerk) {
         Ok(rows) => status_of(answer_rows(alloc, office, rows, sink, clock, keeper)),

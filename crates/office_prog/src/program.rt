@@ -8,10 +8,13 @@ ghost use Rattle.office_prog.specs.Task.{task_in, asks_keeper};
 ghost use Rattle.office_prog.specs.declared.task.Task.TheVariants as task;
 ghost use Rattle.office_prog.specs.declared.report.Report.{Report};
 ghost use Rattle.office_prog.specs.Run.{usage, input_limit, assess_answer, answer_of, made_answer, trial_answer};
-ghost use Rattle.program_answers.specs.Opening.{Comes, door};
+ghost use Rattle.batch_command.specs.Batch.{LeavesByLine};
+ghost use Rattle.batch_command.specs.Below.clerk_desk.Serving.{Outlives};
+ghost use Rattle.program_answers.specs.Keeping.{StillTells, OutlivesStops};
+ghost use Rattle.program_answers.specs.Opening.{Comes, door, largest};
 ghost use Rattle.office_prog.specs.Batch.{Batched};
 ghost use Rattle.office_prog.specs.Report.{Reported};
-ghost use Rattle.office_prog.specs.Import.{Imported};
+ghost use Rattle.office_prog.specs.Import.{Imported, LeavesByInput};
 
 use crate::batch::run_batch;
 use crate::import::run_import;
@@ -51,6 +54,20 @@ pub fn run<K: Keeper, S: Source, W: Sink, C: Clock>(
 
     // Only what asks the keeper changes it.
     ensures unkept { asks_keeper (task_in words.now) ≡ false → keeper.new ≡ keeper.old }
+
+    // A keeper that is well tells a book at the end, if it told one.
+    ensures tells_on { StillTells (K.holds keeper.old) (K.is_well keeper.new) (K.holds keeper.new) }
+
+    // What a stop of the machine leaves from then on: the acts that are kept, or these and one more, which a line of the
+    // batch or a row of the import would have made.
+    ensures stopped { OutlivesStops (K.holds keeper.old) (K.leaves keeper.old) (K.tells_crash keeper.old)
+        (K.holds keeper.new) (K.leaves keeper.new) (K.tells_crash keeper.new) }
+    ensures batch_stopped { task_in words.now ≡ Some task.Batch →
+        Outlives (LeavesByLine largest (C.may_show clock.now) (S.left source.old))
+        (K.holds keeper.old) (K.leaves keeper.old) (K.tells_crash keeper.old) (K.holds keeper.new) (K.leaves keeper.new) (K.tells_crash keeper.new) }
+    ensures import_stopped { (clerk : ℕ) → task_in words.now ≡ Some (task.Import clerk) →
+        Outlives (LeavesByInput clerk (C.may_show clock.now) (S.left source.old))
+        (K.holds keeper.old) (K.leaves keeper.old) (K.tells_crash keeper.old) (K.holds keeper.new) (K.leaves keeper.new) (K.tells_crash keeper.new) }
 
     // `assess` answers the bytes that it took, which are the whole input or one byte more than its limit.
     ensures assess { task_in words.now ≡ Some task.Assess → result ≢ 3 → result ≢ 7 →

@@ -1,5 +1,6 @@
 ghost use Rattle.std.specs.Prelude.{◌≡◌, ℕ, Option, List, IfOk};
 ghost use Rattle.program_answers.specs.Opening.{Comes, Says, door};
+ghost use Rattle.program_answers.specs.Keeping.{StillTells, OutlivesStops};
 ghost use Rattle.office_prog.specs.Report.{Reported, report_text};
 
 use batch_command::clerk_desk::open_office;
@@ -34,10 +35,13 @@ pub fn run_report<K: Keeper, W: Sink>(
     sink: &mut W,
     keeper: &mut K,
 ) -> u8
-    ensures { (left : Option (List ℕ)) (source : ℕ) →
+    ensures comes { (left : Option (List ℕ)) (source : ℕ) →
         Comes (Reported report) (K.holds keeper.old) (K.holds keeper.new) (K.bad keeper.new)
         (door left (W.held sink.old) source (W.faults sink.old) (K.faults keeper.old))
         (door left (W.held sink.new) source (W.faults sink.new) (K.faults keeper.new)) result }
+    ensures tells_on { StillTells (K.holds keeper.old) (K.is_well keeper.new) (K.holds keeper.new) }
+    ensures stopped { OutlivesStops (K.holds keeper.old) (K.leaves keeper.old) (K.tells_crash keeper.old)
+        (K.holds keeper.new) (K.leaves keeper.new) (K.tells_crash keeper.new) }
 {
     match open_office(alloc, keeper, LARGEST) {
         Ok(office) => {

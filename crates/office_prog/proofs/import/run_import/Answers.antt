@@ -1,16 +1,17 @@
 use Rattle.std.proofs.Common.{inl, inr, refl, ◌∙◌}
-use Rattle.office_prog.specs.Import.{Imported}
+use Rattle.office_prog.specs.Import.{Imported, LeavesByInput}
+use Rattle.program_answers.proofs.Keeping.{opened_tells, unopened_tells, outlives_opened, outlives_alone}
 use Rattle.program_answers.proofs.Serving.{served}
 use Rattle.office_prog.proofs.import.run_import.Goals as goal
 
-pub returns-in-Ok : goal.returns-in-Ok
-returns-in-Ok g c =
+pub returns-in-Ok-clause-comes : goal.returns-in-Ok-clause-comes
+returns-in-Ok-clause-comes g c =
     inl (served (Imported c.args.clerk (g.C.Clock.may_show c.args.clock.now)) _ _ _ _ _ _ _ _ _ _ _ _ _ _ _ _ c.in-Ok.ensures.valid (c.import-status.ensures.capacity ∙ c.in-Ok.ensures.capacity)
     c.tables-of_an_office.ensures.reached c.tables-of_an_office.ensures.upheld c.in-Ok.ensures.told c.in-Ok.ensures.kept c.in-Ok.ensures.no_fault
     c.import-status.ensures.kept c.import-status.ensures.told_before c.import-status.ensures.kept_row c.import-status.ensures.imported)
 
-pub returns-in-Err : goal.returns-in-Err
-returns-in-Err g c = inr (record {
+pub returns-in-Err-clause-comes : goal.returns-in-Err-clause-comes
+returns-in-Err-clause-comes g c = inr (record {
   why = c.in-Err.fault;
   is_why = c.in-Err.ensures.unopened;
   kept = c.in-Err.ensures.kept;
@@ -18,3 +19,19 @@ returns-in-Err g c = inr (record {
   unfaulted = refl;
   told = c.tell_unopened.ensures _ _ _ _ c.in-Err.ensures.cause;
 })
+
+pub returns-in-Ok-clause-tells_on : goal.returns-in-Ok-clause-tells_on
+returns-in-Ok-clause-tells_on g c = opened_tells (g.K.Keeper.holds c.args.keeper.now) (g.K.Keeper.holds c.open_office.new.keeper) (g.K.Keeper.holds c.import-status.new.keeper) c.import-status.new.office.book c.in-Ok.ensures.goes_on c.import-status.ensures.tells_on
+
+pub returns-in-Ok-clause-stopped : goal.returns-in-Ok-clause-stopped
+returns-in-Ok-clause-stopped g c =
+    outlives_opened (g.K.Keeper.holds c.args.keeper.now) (g.K.Keeper.holds c.open_office.new.keeper) (g.K.Keeper.leaves c.args.keeper.now) (g.K.Keeper.leaves c.open_office.new.keeper) c.in-Ok.ensures.kept c.in-Ok.ensures.crash_told c.in-Ok.ensures.crash
+    (LeavesByInput c.args.clerk (g.C.Clock.may_show c.args.clock.now) (g.S.Source.left c.args.source.now)) (g.K.Keeper.holds c.import-status.new.keeper) (g.K.Keeper.leaves c.import-status.new.keeper) c.import-status.ensures.stopped
+
+pub returns-in-Err-clause-tells_on : goal.returns-in-Err-clause-tells_on
+returns-in-Err-clause-tells_on g c = unopened_tells (g.K.Keeper.holds c.args.keeper.now) (g.K.Keeper.holds c.open_office.new.keeper) c.in-Err.ensures.goes_on
+
+pub returns-in-Err-clause-stopped : goal.returns-in-Err-clause-stopped
+returns-in-Err-clause-stopped g c =
+    outlives_alone (g.K.Keeper.holds c.args.keeper.now) (g.K.Keeper.holds c.open_office.new.keeper) (g.K.Keeper.leaves c.args.keeper.now) (g.K.Keeper.leaves c.open_office.new.keeper) c.in-Err.ensures.kept c.in-Err.ensures.crash_told c.in-Err.ensures.crash
+    (LeavesByInput c.args.clerk (g.C.Clock.may_show c.args.clock.now) (g.S.Source.left c.args.source.now)) (λ book after same. inl same)
