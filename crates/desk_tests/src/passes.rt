@@ -1,5 +1,5 @@
-ghost use Rattle.std.specs.Prelude.{◌≡◌, []};
-ghost use Rattle.book_rows.specs.Book.{Book};
+ghost use Rattle.std.specs.Prelude.{◌≡◌, ◌↔◌, []};
+ghost use Rattle.book_rows.specs.Book.{Book, empty_book, book_of};
 ghost use Rattle.desk_history.specs.declared.views.View.TheVariants.{Blank};
 
 use crate::household::{certified, newest, raise};
@@ -25,7 +25,7 @@ fn last_act(left: Finished<PlannedKeeper>) -> Option<(u32, u32)> {
 fn in_turn<B: Naming, R: Abort + Wait>(rt: &R, alloc: Global, history: NewHistory, tables: Tables)
     requires table { (history.table.shared.table_id ≡ B.table) × (history.book.table_id ≡ B.table) × (B.table.words ≡ 1) }
     requires blank { history.book.me ≡ (Blank, []) }
-    requires told { (book : Book) → B.told book }
+    requires told { (book : Book) → B.told book ↔ (book ≡ book_of tables) }
     requires sound { B.sound → ⊥ }
 {
     let keeper = PlannedKeeper::with(tables, Vec::new(alloc));
@@ -56,7 +56,7 @@ fn two_passes_in_turn(rt: HostRuntime) {
 fn all_handed_out<B: Naming, R: Abort>(rt: &R, alloc: Global, history: NewHistory)
     requires table { (history.table.shared.table_id ≡ B.table) × (history.book.table_id ≡ B.table) × (B.table.words ≡ 1) }
     requires blank { history.book.me ≡ (Blank, []) }
-    requires told { (book : Book) → B.told book }
+    requires told { (book : Book) → B.told book ↔ (book ≡ empty_book) }
     requires sound { B.sound → ⊥ }
 {
     let keeper = PlannedKeeper::new(alloc, Vec::new(alloc));

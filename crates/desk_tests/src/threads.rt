@@ -1,5 +1,5 @@
-ghost use Rattle.std.specs.Prelude.{◌≡◌, ◌≤◌, []};
-ghost use Rattle.book_rows.specs.Book.{Book};
+ghost use Rattle.std.specs.Prelude.{◌≡◌, ◌↔◌, ◌≤◌, []};
+ghost use Rattle.book_rows.specs.Book.{Book, empty_book};
 ghost use Rattle.desk_history.specs.declared.views.View.TheVariants.{Blank};
 
 use book_rows::Tables;
@@ -56,7 +56,7 @@ fn by_three_threads<B: Naming + Send, R: Abort + Wait + Threads + Sync>(
 )
     requires table { (history.table.shared.table_id ≡ B.table) × (history.book.table_id ≡ B.table) × (B.table.words ≡ 1) }
     requires blank { history.book.me ≡ (Blank, []) }
-    requires told { (book : Book) → B.told book }
+    requires told { (book : Book) → B.told book ↔ (book ≡ empty_book) }
     requires sound { B.sound → ⊥ }
 {
     let keeper = PlannedKeeper::new(alloc, Vec::new(alloc));

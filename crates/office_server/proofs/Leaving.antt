@@ -6,20 +6,21 @@ use Rattle.book_rows.specs.{Book.Book}
 use Rattle.desk_history.specs.declared.views.{PassView.PassView, Start.Start}
 use Rattle.link_workers.specs.Links.{ServesLinks}
 use Rattle.office_links.specs.Links.{Links}
-use Rattle.program_answers.specs.Opening.{Door, door, largest}
-use Rattle.shared_desk.specs.{Deciding.IsLeft, Deciding.Survives, Desk.IsFinished, History.IsLegalHistory, History.capacity_of, History.tables_at, Passes.AreFresh, Passes.IsFresh}
+use Rattle.http_front.specs.Below.clerk_desk.Serving.{IsLeft}
+use Rattle.program_answers.specs.{Keeping.OutlivesStops, Opening.Door, Opening.door, Opening.largest}
+use Rattle.shared_desk.specs.{Deciding.Survives, Desk.IsFinished, History.IsLegalHistory, History.capacity_of, History.tables_at, Passes.AreFresh, Passes.IsFresh}
 use mathlib.Core.List.{IsPrefix}
 use Rattle.book_rows.specs.declared.rows.ActRow.{ActRow}
 use Rattle.desk_history.proofs.Fronts.{prefix_more}
 use Rattle.keeper_core.specs.Keeping.{LeavesTold}
-use Rattle.office_server.specs.{Links.IsServed, Links.LeavesDesk, Links.OutlivesStops, Links.ServesInTurn, Links.ServesTogether, Links.WorksBy, Server.EndsBy, Server.IsUnserved, Server.Writes, Server.book_line, declared.desk.How.How}
+use Rattle.office_server.specs.{Links.IsServed, Links.LeavesDesk, Links.ServesInTurn, Links.ServesTogether, Links.WorksBy, Server.EndsBy, Server.IsUnserved, Server.Writes, Server.book_line, declared.desk.How.How}
 
 -- a beginning of a beginning
 pub prefix_joins : (a b c : List ActRow) → IsPrefix a b → IsPrefix b c → IsPrefix a c
 prefix_joins a b c first (rest, is) = subst (λ (l : List ActRow). IsPrefix a l) is (prefix_more a b rest first)
 
-module _ (start : Start) (pass : PassView) (tables : Book) (told holds : Book → Type 0) (sound tells : Type 0) (leaves : Book → Type 0) (same : pass.start ≡ start)
-    (finished : IsFinished pass tables told holds sound tells leaves) where
+module _ (start : Start) (pass : PassView) (tables : Book) (told holds : Book → Type 0) (well sound tells : Type 0) (leaves : Option Book → Type 0) (same : pass.start ≡ start)
+    (finished : IsFinished pass tables told holds well sound tells leaves) where
   pub leaves_desk : capacity_of start ≡ largest → LeavesDesk told holds tables
   leaves_desk capacity = record {
     start = pass.start;
@@ -79,7 +80,8 @@ told_otherwise told other holds tables means leaves = record {
 }
 
 -- what the desk's tables outlive, the keeper's book does, which is the same
-pub outlives : (sound : Type 0) (tables : Book) (holds leaves : Book → Type 0) (tells : Type 0) (holds_now leaves_now : Book → Type 0) (tells_now : Type 0)
+pub outlives : (sound : Type 0) (tables : Book) (holds : Book → Type 0) (leaves : Option Book → Type 0) (tells : Type 0)
+    (holds_now : Book → Type 0) (leaves_now : Option Book → Type 0) (tells_now : Type 0)
     → ((tells → LeavesTold holds leaves) → sound) → ((now : Book) → holds_now now → now ≡ tables)
     → Survives sound largest tables holds_now tells_now leaves_now → OutlivesStops holds leaves tells holds_now leaves_now tells_now
 outlives sound tables holds leaves tells holds_now leaves_now tells_now means kept survives is_sound tell now is after left =

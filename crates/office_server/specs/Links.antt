@@ -4,8 +4,7 @@ use mathlib.Core.List.{IsPrefix}
 use Rattle.office_links.specs.Links.{Links}
 use Rattle.book_rows.specs.{declared.rows.ActRow.ActRow, Book.Book}
 use Rattle.desk_history.specs.{declared.views.PassView.PassView, declared.views.Start.Start, Seen.point_of}
-use Rattle.keeper_core.specs.Keeping.{LeavesTold}
-use Rattle.shared_desk.specs.{Deciding.IsLeft, History.IsLegalHistory, History.book_in, History.capacity_of, History.tables_at, Calls.Further, Passes.AreFresh, Passes.IsFresh}
+use Rattle.shared_desk.specs.{History.IsLegalHistory, History.book_in, History.capacity_of, History.tables_at, Calls.Further, Passes.AreFresh, Passes.IsFresh}
 use Rattle.program_answers.specs.Opening.{largest}
 use Rattle.http_front.specs.Below.http_session.{Completeness.Completes, Sessions.EndCause, Sessions.Ends, declared.end.SessionEnd.SessionEnd}
 use Rattle.http_front.specs.Passes.{AnswersPass, NeverSilent}
@@ -64,10 +63,3 @@ pub record LeavesDesk (told holds : Book → Type 0) (tables : Book) : Type 0 wh
   pub whole : tables ≡ tables_at start history
   pub kept : (now : Book) → holds now → now ≡ tables
   pub first : (now : Book) → holds now → told (book_in start.opening)
-
--- Where a stop before could leave no other book than the one that was told, one now leaves the book that is told, or this and
--- the rows of one further act that the office of that book would append.
-abbrev pub OutlivesStops : (holds leaves : Book → Type 0) → Type 0 → (holds_now leaves_now : Book → Type 0) → Type 0 → Type 0
-OutlivesStops holds leaves tells holds_now leaves_now tells_now =
-    (tells → LeavesTold holds leaves) → tells_now
-    → (now : Book) → holds_now now → (after : Book) → leaves_now after → IsLeft largest now after

@@ -1,5 +1,5 @@
 ghost use Rattle.std.specs.Prelude.{◌≡◌, ◌⊎◌, ◌≤◌, ◌<◌, [], ◌∷◌, All, length};
-ghost use Rattle.book_rows.specs.Book.{book_of as rows_of};
+ghost use Rattle.book_rows.specs.Book.{Book, book_of as rows_of};
 ghost use Rattle.office_io.specs.Outside.{Faulted};
 ghost use Rattle.program_answers.specs.Opening.{largest};
 ghost use Rattle.desk_history.specs.declared.views.{PassView.PassView, Start.Start};
@@ -52,6 +52,7 @@ where
     requires made { desk.made ≡ 0 }
     requires capacity { capacity_of desk.start ≡ largest }
     ensures leaves { LeavesDesk B.told (K.holds result.finished.keeper) (rows_of result.finished.tables) }
+    ensures tells_on { K.is_well result.finished.keeper → (was : Book) → B.told was → K.holds result.finished.keeper (rows_of result.finished.tables) }
     ensures stopped { Survives B.sound largest (rows_of result.finished.tables) (K.holds result.finished.keeper)
         (K.tells_crash result.finished.keeper) (K.leaves result.finished.keeper) }
     ensures whole { result.how ≡ how.Whole → (L.left result.listener ≡ 0) × (L.faults result.listener ≡ L.faults listener) }
@@ -88,7 +89,7 @@ struct Worked<L, B: Naming> {
 
 /// Ends a desk with a pass.
 fn left_by<K: Keeper + Drop, B: Naming, L>(desk: Desk<K, B>, worked: Worked<L, B>) -> Left<K, L>
-    ensures finished { IsFinished worked.pass (rows_of result.finished.tables) B.told (K.holds result.finished.keeper)
+    ensures finished { IsFinished worked.pass (rows_of result.finished.tables) B.told (K.holds result.finished.keeper) (K.is_well result.finished.keeper)
         B.sound (K.tells_crash result.finished.keeper) (K.leaves result.finished.keeper) }
     ensures listener { result.listener ≡ worked.listener }
     ensures how { result.how ≡ worked.how }

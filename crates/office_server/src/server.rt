@@ -4,9 +4,8 @@ ghost use Rattle.book_rows.specs.Book.{Book, book_of as rows_of};
 ghost use Rattle.desk_history.specs.declared.views.View.TheVariants.{Blank};
 ghost use Rattle.keeper_core.specs.Keeping.{LeavesTold};
 ghost use Rattle.office_io.specs.Outside.{Faulted};
-ghost use Rattle.program_answers.specs.Opening.{door, largest};
+ghost use Rattle.program_answers.specs.{Keeping.OutlivesStops, Keeping.StillTells, Opening.door, Opening.largest};
 ghost use Rattle.shared_desk.specs.History.{capacity_of};
-ghost use Rattle.office_server.specs.Links.{OutlivesStops};
 ghost use Rattle.office_server.specs.declared.desk.How.TheVariants as ended;
 ghost use Rattle.office_server.specs.Server.{Comes, DeskServed, GivesAllBack, IsWritten, NamesFault, Writes, book_line};
 
@@ -63,6 +62,9 @@ where
         (K.holds keeper) (K.holds result.keeper) (K.bad result.keeper)
         (door None (W.held sink.old) (L.faults listener) (W.faults sink.old) (K.faults keeper))
         (door None (W.held sink.new) (L.faults result.listener) (W.faults sink.new) (K.faults result.keeper)) result.status }
+
+    // A keeper that is well tells a book at the end, if it told one.
+    ensures tells_on { StillTells (K.holds keeper) (K.is_well result.keeper) (K.holds result.keeper) }
 
     // What a stop of the machine leaves from then on: the acts that are kept, or these and one more.
     ensures stopped { OutlivesStops (K.holds keeper) (K.leaves keeper) (K.tells_crash keeper)
@@ -128,6 +130,7 @@ where
         (K.holds keeper) (K.holds result.keeper) (K.bad result.keeper)
         (door None (W.held sink.old) (L.faults listener) (W.faults sink.old) (K.faults keeper))
         (door None (W.held sink.new) (L.faults result.listener) (W.faults sink.new) (K.faults result.keeper)) result.status }
+    ensures tells_on { StillTells (K.holds keeper) (K.is_well result.keeper) (K.holds result.keeper) }
     ensures stopped { OutlivesStops (K.holds keeper) (K.leaves keeper) (K.tells_crash keeper)
         (K.holds result.keeper) (K.leaves result.keeper) (K.tells_crash result.keeper) }
 {

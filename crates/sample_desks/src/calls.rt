@@ -1,5 +1,5 @@
-ghost use Rattle.std.specs.Prelude.{◌≡◌, ◌≤◌, true, [], IfOk};
-ghost use Rattle.book_rows.specs.Book.{Book};
+ghost use Rattle.std.specs.Prelude.{◌≡◌, ◌↔◌, ◌≤◌, true, [], IfOk};
+ghost use Rattle.book_rows.specs.Book.{Book, empty_book};
 ghost use Rattle.book_rows.specs.Fit.{is_fit};
 ghost use Rattle.office_core.specs.Below.office_step.Step.{is_fit_call};
 ghost use Rattle.desk_history.specs.declared.views.View.TheVariants.{Blank};
@@ -89,7 +89,7 @@ pub fn begun_tables<B: Naming, R: Wait>(
 ) -> Option<Tables>
     requires table { (history.table.shared.table_id ≡ B.table) × (history.book.table_id ≡ B.table) × (B.table.words ≡ 1) }
     requires blank { history.book.me ≡ (Blank, []) }
-    requires told { (book : Book) → B.told book }
+    requires told { (book : Book) → B.told book ↔ (book ≡ empty_book) }
     requires sound { B.sound → ⊥ }
 {
     let keeper = PlannedKeeper::new(alloc, Vec::new(alloc));

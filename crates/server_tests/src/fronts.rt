@@ -1,4 +1,4 @@
-ghost use Rattle.std.specs.Prelude.{◌≡◌, []};
+ghost use Rattle.std.specs.Prelude.{◌≡◌, ◌↔◌, []};
 ghost use Rattle.book_rows.specs.Book.{Book};
 ghost use Rattle.desk_history.specs.declared.views.View.TheVariants.{Blank};
 
@@ -63,7 +63,7 @@ fn served_by<R: Abort + Wait, B: Naming>(
 ) -> Told
     requires table { (history.table.shared.table_id ≡ B.table) × (history.book.table_id ≡ B.table) × (B.table.words ≡ 1) }
     requires blank { history.book.me ≡ (Blank, []) }
-    requires told { (book : Book) → B.told book }
+    requires told { (book : Book) → B.told book ↔ (book ≡ keeper.book) }
     requires sound { B.sound → ⊥ }
 {
     let mut desk = desk::<B>(alloc, history, keeper).expect(rt, "a desk");

@@ -1,5 +1,5 @@
-ghost use Rattle.std.specs.Prelude.{◌≡◌, []};
-ghost use Rattle.book_rows.specs.Book.{Book};
+ghost use Rattle.std.specs.Prelude.{◌≡◌, ◌↔◌, []};
+ghost use Rattle.book_rows.specs.Book.{Book, book_of};
 ghost use Rattle.desk_history.specs.declared.views.View.TheVariants.{Blank};
 
 use crate::sessions::{ASK, CERTIFIED, Given, SEEN, interim, served};
@@ -58,7 +58,7 @@ fn work_in_turn<B: Naming, R: Abort + Wait>(
 fn in_turn<B: Naming, R: Abort + Wait>(rt: &R, alloc: Global, history: NewHistory, tables: Tables)
     requires table { (history.table.shared.table_id ≡ B.table) × (history.book.table_id ≡ B.table) × (B.table.words ≡ 1) }
     requires blank { history.book.me ≡ (Blank, []) }
-    requires told { (book : Book) → B.told book }
+    requires told { (book : Book) → B.told book ↔ (book ≡ book_of tables) }
     requires sound { B.sound → ⊥ }
 {
     let keeper = PlannedKeeper::with(tables, Vec::new(alloc));

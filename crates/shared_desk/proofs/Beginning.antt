@@ -1,7 +1,8 @@
 -- What the lock keeps when a desk is opened.
-use Rattle.std.proofs.Common.{◌≡◌, ◌∙◌, sym, ap, subst, inl, ℕ, List, []}
+use Rattle.std.proofs.Common.{◌≡◌, ◌∙◌, sym, ap, subst, inl, ℕ, Option, Some, List, []}
 use Rattle.atomic_table.specs.Table.{Me}
 use Rattle.book_rows.specs.{declared.rows.ActRow.ActRow, Book.Book}
+use Rattle.keeper_core.specs.Keeping.{LeavesTold}
 use Rattle.office_core.specs.Below.office_step.{declared.call.Capacity.Capacity, Step.IsReached}
 use Rattle.desk_history.specs.declared.views.{Start.Start, BookView.BookView, View.View, View.TheVariants.Free}
 use Rattle.desk_history.specs.{Seen.book_of, Seen.start_on, Moves.opened}
@@ -26,10 +27,11 @@ pub legal_first : (capacity : Capacity) (held : Book) (start : Start) → start 
 legal_first capacity held start is reached =
     subst (λ (s : Start). IsLegalHistory s []) (sym is) (record { opened = reached; each = tt })
 
-pub settled_first : (capacity : Capacity) (held : Book) (told holds : Book → Type 0) (faults : ℕ) (book : BookView) →
+pub settled_first : (capacity : Capacity) (held : Book) (told holds : Book → Type 0) (well : Type 0) (faults : ℕ) (book : BookView) →
     book.start ≡ start_on held capacity.acts capacity.lines → book.list ≡ [] → faults ≡ book.faults → IsReached capacity held →
-    ((now : Book) → holds now → now ≡ held) → ((now : Book) → holds now → told now) → IsSettled capacity held told holds faults book
-settled_first capacity held told holds faults book start list counted reached kept first =
+    ((now : Book) → holds now → now ≡ held) → ((now : Book) → holds now → told now) → (well → (was : Book) → told was → holds held) →
+    IsSettled capacity held told holds well faults book
+settled_first capacity held told holds well faults book start list counted reached kept first on =
     let same : book_in book.start.opening ≡ held = ap (λ (s : Start). book_in s.opening) start in
     record {
       tables = sym (ap (λ (rows : List ActRow). tables_at book.start rows) list ∙ same);
@@ -37,11 +39,11 @@ settled_first capacity held told holds faults book start list counted reached ke
       legal = subst (λ (rows : List ActRow). IsLegalHistory book.start rows) (sym list) (legal_first capacity held book.start start reached);
       kept = kept;
       first = λ now telling. subst told (kept now telling ∙ sym same) (first now telling);
+      on = on;
       faults_are = counted;
     }
 
-pub survives_first : (sound : Type 0) (capacity : Capacity) (held : Book) (holds : Book → Type 0) (tells : Type 0) (leaves : Book → Type 0) →
-    ((now : Book) → holds now → now ≡ held) →
-    (sound → tells → (now : Book) → holds now → (after : Book) → leaves after → after ≡ now) → Survives sound capacity held holds tells leaves
+pub survives_first : (sound : Type 0) (capacity : Capacity) (held : Book) (holds : Book → Type 0) (tells : Type 0) (leaves : Option Book → Type 0) →
+    ((now : Book) → holds now → now ≡ held) → (sound → tells → LeavesTold holds leaves) → Survives sound capacity held holds tells leaves
 survives_first sound capacity held holds tells leaves kept known =
-    λ sure telling now holding after left. inl (known sure telling now holding after left ∙ kept now holding)
+    λ sure telling now holding after left. inl (known sure telling now holding after left ∙ ap Some (kept now holding))

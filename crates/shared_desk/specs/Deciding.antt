@@ -1,32 +1,31 @@
 -- What is decided of a call while its pass is held, and what is so whenever no pass is.
-use Rattle.std.specs.Prelude.{◌≡◌, ⊤, ◌⊎◌, ℕ, [], ◌∷◌, ◌++◌}
-use Rattle.book_rows.specs.{declared.rows.Batch.Batch, Book.Book, Book.appended}
+use Rattle.std.specs.Prelude.{◌≡◌, ⊤, ◌⊎◌, ℕ, Option, [], ◌∷◌, ◌++◌}
+use Rattle.book_rows.specs.{declared.rows.Batch.Batch, Book.Book}
 use Rattle.office_core.specs.Below.office_answers.declared.reply.Reply.{Reply}
-use Rattle.office_core.specs.Below.office_step.{declared.call.Capacity.Capacity, Step.Outcome, Step.again, Step.refused, Step.appends, Step.IsAppended}
-use Rattle.clerk_desk.specs.Serving.{reply_of}
+use Rattle.office_core.specs.Below.office_step.{declared.call.Capacity.Capacity, Step.Outcome, Step.again, Step.refused, Step.appends}
+use Rattle.clerk_desk.specs.Serving.{IsLeft, reply_of}
 use Rattle.desk_history.specs.declared.views.{BookView.BookView, HoldingView.HoldingView}
 use Rattle.shared_desk.specs.History.{book_in, capacity_of, tables_at, IsLegalHistory}
 
 -- ---- what the lock keeps
 
 -- The office's tables are those after the book's history, which is legal; the keeper tells these tables and no others, and
--- told the opening ones when the desk was opened; and its faults are those of the book's view.
-pub record IsSettled (capacity : Capacity) (held : Book) (told holds : Book → Type 0) (faults : ℕ) (book : BookView) : Type 0 where
+-- told the opening ones when the desk was opened; and its faults are those of the book's view. A keeper that is well tells
+-- the tables, if it told a book when the desk was opened.
+pub record IsSettled (capacity : Capacity) (held : Book) (told holds : Book → Type 0) (well : Type 0) (faults : ℕ) (book : BookView) : Type 0 where
   pub tables : held ≡ tables_at book.start book.list
   pub capacity_is : capacity ≡ capacity_of book.start
   pub legal : IsLegalHistory book.start book.list
   pub kept : (now : Book) → holds now → now ≡ held
   pub first : (now : Book) → holds now → told (book_in book.start.opening)
+  pub on : well → (was : Book) → told was → holds held
   pub faults_are : faults ≡ book.faults
 
--- a stop leaves the tables, or these and the rows of one further act that the office would append
-abbrev pub IsLeft : Capacity → Book → Book → Type 0
-IsLeft capacity held after = (after ≡ held) ⊎ ((rows : Batch) × IsAppended capacity held rows × (after ≡ appended held rows))
-
--- where that was known when the desk was opened, and the keeper tells what a stop may leave
-abbrev pub Survives : Type 0 → Capacity → Book → (Book → Type 0) → Type 0 → (Book → Type 0) → Type 0
+-- A stop leaves the tables, or these and the rows of one further act that the office would append, where the keeper tells
+-- what one may leave, and what one would have left was known when the desk was opened.
+abbrev pub Survives : Type 0 → Capacity → Book → (Book → Type 0) → Type 0 → (Option Book → Type 0) → Type 0
 Survives sound capacity held holds tells leaves =
-    sound → tells → (now : Book) → holds now → (after : Book) → leaves after → IsLeft capacity held after
+    sound → tells → (now : Book) → holds now → (after : Option Book) → leaves after → IsLeft capacity held after
 
 -- ---- what is decided
 

@@ -34,11 +34,11 @@ pub(crate) fn decide<K: Keeper, B: Naming>(
     requires table { (book.old.table_id ≡ history.now.table_id) × (history.now.table_id.words ≡ 1) }
     requires holding { book.old.me ≡ (Holding (holding_of book.old.me.0), []) }
     requires number { session ≡ (holding_of book.old.me.0).pass.number }
-    requires settled { IsSettled office.old.capacity office.old.book B.told (K.holds keeper.old) (K.faults keeper.old) (holding_of book.old.me.0).book }
+    requires settled { IsSettled office.old.capacity office.old.book B.told (K.holds keeper.old) (K.is_well keeper.old) (K.faults keeper.old) (holding_of book.old.me.0).book }
     requires survives { Survives B.sound office.old.capacity office.old.book (K.holds keeper.old) (K.tells_crash keeper.old) (K.leaves keeper.old) }
     ensures table { book.new.table_id ≡ book.old.table_id }
     ensures holding { book.new.me ≡ (Holding (holding_of book.new.me.0), []) }
-    ensures settled { IsSettled office.new.capacity office.new.book B.told (K.holds keeper.new) (K.faults keeper.new) (holding_of book.new.me.0).book }
+    ensures settled { IsSettled office.new.capacity office.new.book B.told (K.holds keeper.new) (K.is_well keeper.new) (K.faults keeper.new) (holding_of book.new.me.0).book }
     ensures survives { Survives B.sound office.new.capacity office.new.book (K.holds keeper.new) (K.tells_crash keeper.new) (K.leaves keeper.new) }
     ensures held { IsHeld (holding_of book.new.me.0) }
     ensures holds_on { HoldsOn (holding_of book.old.me.0) (holding_of book.new.me.0) }
@@ -87,11 +87,11 @@ fn book_step<K: Keeper, B: Naming>(
     requires table { (book.old.table_id ≡ history.now.table_id) × (history.now.table_id.words ≡ 1) }
     requires holding { book.old.me ≡ (Holding (holding_of book.old.me.0), []) }
     requires number { step.rows.act.session ≡ (holding_of book.old.me.0).pass.number }
-    requires settled { IsSettled office.old.capacity office.old.book B.told (K.holds keeper.old) (K.faults keeper.old) (holding_of book.old.me.0).book }
+    requires settled { IsSettled office.old.capacity office.old.book B.told (K.holds keeper.old) (K.is_well keeper.old) (K.faults keeper.old) (holding_of book.old.me.0).book }
     requires survives { Survives B.sound office.old.capacity office.old.book (K.holds keeper.old) (K.tells_crash keeper.old) (K.leaves keeper.old) }
     ensures table { book.new.table_id ≡ book.old.table_id }
     ensures holding { book.new.me ≡ (Holding (holding_of book.new.me.0), []) }
-    ensures settled { IsSettled office.new.capacity office.new.book B.told (K.holds keeper.new) (K.faults keeper.new) (holding_of book.new.me.0).book }
+    ensures settled { IsSettled office.new.capacity office.new.book B.told (K.holds keeper.new) (K.is_well keeper.new) (K.faults keeper.new) (holding_of book.new.me.0).book }
     ensures survives { Survives B.sound office.new.capacity office.new.book (K.holds keeper.new) (K.tells_crash keeper.new) (K.leaves keeper.new) }
     ensures held { IsHeld (holding_of book.new.me.0) }
     ensures holds_on { HoldsOn (holding_of book.old.me.0) (holding_of book.new.me.0) }

@@ -45,7 +45,7 @@ impl<K: Keeper + Drop, B: Naming> Model for Locked<K, B> {
 
     ghost view = { λ locked. record { book = book_of locked.book.me.0; keeper = locked.keeper } };
 
-    ghost invariant = { λ locked. (locked.book.table_id ≡ B.table) × (locked.book.me ≡ (Free (book_of locked.book.me.0), [])) × IsSettled locked.office.capacity locked.office.book B.told (K.holds locked.keeper) (K.faults locked.keeper) (book_of locked.book.me.0) × Survives B.sound locked.office.capacity locked.office.book (K.holds locked.keeper) (K.tells_crash locked.keeper) (K.leaves locked.keeper) × (B.table.words ≡ 1) };
+    ghost invariant = { λ locked. (locked.book.table_id ≡ B.table) × (locked.book.me ≡ (Free (book_of locked.book.me.0), [])) × IsSettled locked.office.capacity locked.office.book B.told (K.holds locked.keeper) (K.is_well locked.keeper) (K.faults locked.keeper) (book_of locked.book.me.0) × Survives B.sound locked.office.capacity locked.office.book (K.holds locked.keeper) (K.tells_crash locked.keeper) (K.leaves locked.keeper) × (B.table.words ≡ 1) };
 }
 
 /// What a session is told of a call.
@@ -139,7 +139,7 @@ impl<K: Keeper + Drop, B: Naming> Locked<K, B> {
     /// Ends the desk with a pass, and gives back the tables and the keeper.
     pub(crate) fn finish(self, history: HistoryTable, pass: Pass<B>) -> Finished<K>
         requires table { history.shared.table_id ≡ B.table }
-        ensures { IsFinished pass (book_of result.tables) B.told (K.holds result.keeper) B.sound (K.tells_crash result.keeper) (K.leaves result.keeper) }
+        ensures { IsFinished pass (book_of result.tables) B.told (K.holds result.keeper) (K.is_well result.keeper) B.sound (K.tells_crash result.keeper) (K.leaves result.keeper) }
     {
         let Locked {
             office,

@@ -8,7 +8,7 @@ pub trait Naming {
     // The table of its history.
     ghost table: { TableId };
 
-    // The keeper told this book then.
+    // Just what the keeper told then.
     ghost told: { Book → Type 0 };
 
     // A stop then would have left the keeper's book and no other.

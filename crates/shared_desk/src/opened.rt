@@ -1,7 +1,7 @@
 ghost use Rattle.std.specs.Prelude.{◌≡◌, ◌≤◌, ◌<◌, ◌+◌, None, Err, [], IfOk, IfErr, OnOk, IsOk};
 ghost use Rattle.std.specs.VecDeque.{deque_capacity};
 ghost use Rattle.book_rows.specs.Book.{Book, book_of as rows_of};
-ghost use Rattle.keeper_core.specs.Keeping.{Gives, Keeps, LoadCause};
+ghost use Rattle.keeper_core.specs.Keeping.{Gives, Keeps, LeavesTold, LoadCause};
 ghost use Rattle.office_core.specs.Below.office_step.Valid.{first_fault};
 ghost use Rattle.clerk_desk.specs.Opening.{Opens, IsUnopened, BlamesKeeper};
 ghost use Rattle.desk_history.specs.declared.views.View.TheVariants.{Blank};
@@ -85,7 +85,8 @@ impl<K: Keeper + Drop, B: Naming> Desk<K, B> {
         requires table { (history.table.shared.table_id ≡ B.table) × (history.book.table_id ≡ B.table) × (B.table.words ≡ 1) }
         requires blank { history.book.me ≡ (Blank, []) }
         requires told { (book : Book) → K.holds keeper book → B.told book }
-        requires sound { B.sound → K.tells_crash keeper → (book : Book) → K.holds keeper book → (after : Book) → K.leaves keeper after → after ≡ book }
+        requires told_by { (book : Book) → B.told book → K.holds keeper book }
+        requires sound { B.sound → K.tells_crash keeper → LeavesTold (K.holds keeper) (K.leaves keeper) }
         ensures made { IfOk result (λ desk. desk.made ≡ 0) }
         ensures capacity { IfOk result (λ desk. capacity_of desk.start ≡ capacity) }
         ensures valid { IfOk result (λ desk. first_fault capacity (book_in desk.start.opening) ≡ None) }
@@ -95,6 +96,7 @@ impl<K: Keeper + Drop, B: Naming> Desk<K, B> {
         ensures unopened { IfErr result (λ un. IsUnopened capacity (K.holds un.keeper) (K.bad un.keeper) un.fault) }
         ensures cause { IfErr result (λ un. BlamesKeeper (K.faults keeper) (K.faults un.keeper) un.fault) }
         ensures kept { IfErr result (λ un. Keeps (K.holds keeper) (K.holds un.keeper)) }
+        ensures goes_on { IfErr result (λ un. K.is_well un.keeper → K.is_well keeper × Keeps (K.holds un.keeper) (K.holds keeper)) }
         ensures stopped { IfErr result (λ un. K.tells_crash un.keeper → K.tells_crash keeper × Keeps (K.leaves keeper) (K.leaves un.keeper)) }
     {
         let Ok(waiting) = VecDeque::with_capacity(alloc, MOST_PASSES as usize) else {
@@ -134,7 +136,7 @@ impl<K: Keeper + Drop, B: Naming> Desk<K, B> {
 
     /// Ends the desk with a pass.
     pub fn finish(self, pass: Pass<B>) -> Finished<K>
-        ensures { IsFinished pass (rows_of result.tables) B.told (K.holds result.keeper) B.sound (K.tells_crash result.keeper) (K.leaves result.keeper) }
+        ensures { IsFinished pass (rows_of result.tables) B.told (K.holds result.keeper) (K.is_well result.keeper) B.sound (K.tells_crash result.keeper) (K.leaves result.keeper) }
     {
         let Desk { shared, .. } = self;
         let SharedDesk { history, lock } = shared;
@@ -154,7 +156,8 @@ fn desk_of<K: Keeper + Drop, B: Naming>(
     requires room { (waiting.items ≡ []) × (32 ≤ deque_capacity waiting) }
     requires kept { (book : Book) → K.holds keeper book → book ≡ office.book }
     requires told { (book : Book) → K.holds keeper book → B.told book }
-    requires sound { B.sound → K.tells_crash keeper → (book : Book) → K.holds keeper book → (after : Book) → K.leaves keeper after → after ≡ book }
+    requires on { K.is_well keeper → (book : Book) → B.told book → K.holds keeper office.book }
+    requires sound { B.sound → K.tells_crash keeper → LeavesTold (K.holds keeper) (K.leaves keeper) }
     ensures start { result.start ≡ start_on office.book office.capacity.acts office.capacity.lines }
     ensures made { result.made ≡ 0 }
     ensures legal { IsLegalHistory result.start [] }

@@ -108,7 +108,8 @@ fn worked<K: Keeper + Drop, B: Naming, R: Abort + Wait>(
     requires acts { acts ≤ 6 }
     requires table { (history.table.shared.table_id ≡ B.table) × (history.book.table_id ≡ B.table) × (B.table.words ≡ 1) }
     requires blank { history.book.me ≡ (Blank, []) }
-    requires told { (book : Book) → B.told book }
+    requires told { (book : Book) → K.holds keeper book → B.told book }
+    requires told_by { (book : Book) → B.told book → K.holds keeper book }
     requires sound { B.sound → ⊥ }
 {
     let few = Capacity {

@@ -1,4 +1,4 @@
-use Rattle.std.proofs.Common.{inr, refl}
+use Rattle.std.proofs.Common.{inl, inr, refl}
 use Rattle.std.proofs.KnownBytes.{Keeps-refl}
 use Rattle.http_front.specs.Below.clerk_desk.declared.opening.DeskFault.{DeskFault}
 use Rattle.office_server.proofs.Statuses.{accept_fault, bad_book_told, given_back, none_left, quiet, store_fault, write_fault, written}
@@ -28,6 +28,9 @@ returns-in-Ok-clause-store_fault g c = store_fault _ _ _ _ g.L.Listener.left g.L
 pub returns-in-Ok-clause-bad_book : goal.returns-in-Ok-clause-bad_book
 returns-in-Ok-clause-bad_book g c = bad_book_told _ _ _ _ g.L.Listener.left g.L.Listener.links _ _ _ _ _ _ c.serve_on.ensures.comes
 
+pub returns-in-Err-clause-tells_on : goal.returns-in-Err-clause-tells_on
+returns-in-Err-clause-tells_on g c = λ well book holds. (book, holds)
+
 pub returns-in-Err-clause-comes : goal.returns-in-Err-clause-comes
 returns-in-Err-clause-comes g c = inr (
   refl,
@@ -40,3 +43,6 @@ returns-in-Err-clause-comes g c = inr (
     told = (refl, record { held = Keeps-refl (g.W.Sink.held c.args.sink.now); counts = refl });
   },
 )
+
+pub returns-in-Err-clause-stopped : goal.returns-in-Err-clause-stopped
+returns-in-Err-clause-stopped g c = λ sound tells now holds after leaves. inl (sound tells now holds after leaves)

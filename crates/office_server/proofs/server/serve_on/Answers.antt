@@ -17,6 +17,10 @@ returns-in-Ok-clause-comes g c =
       in_turn = λ one. turn_by c.args.listener c.serve_desk-finished.result.listener (g.L.Listener.left c.serve_desk-finished.result.listener) (book_of c.serve_desk-finished.result.finished.tables) _ _ _ _ _ _ _ _ _ c.serve_desk-finished.result.how _ served.unserved (λ is. ap g.L.Listener.faults (served.unserved is)) told.unserved (served.in_turn one);
     })
 
+pub returns-in-Ok-clause-tells_on : goal.returns-in-Ok-clause-tells_on
+returns-in-Ok-clause-tells_on g c = λ well book holds.
+    (book_of c.serve_desk-finished.result.finished.tables, c.serve_desk-finished.ensures.tells_on well book (c.requires.told book holds))
+
 pub returns-in-Ok-clause-stopped : goal.returns-in-Ok-clause-stopped
 returns-in-Ok-clause-stopped g c =
     let served = c.serve_desk-finished.ensures in
@@ -34,6 +38,9 @@ returns-in-Err-clause-comes g c = inr (
     told = c.tell_unopened.ensures None (g.L.Listener.faults c.args.listener) (g.K.Keeper.faults c.args.keeper) (g.K.Keeper.faults c.in-Err.field-0.keeper) c.in-Err.ensures.cause;
   },
 )
+
+pub returns-in-Err-clause-tells_on : goal.returns-in-Err-clause-tells_on
+returns-in-Err-clause-tells_on g c = λ well book holds. (book, (c.in-Err.ensures.goes_on well).1 book holds)
 
 pub returns-in-Err-clause-stopped : goal.returns-in-Err-clause-stopped
 returns-in-Err-clause-stopped g c = λ sound tells now holds after leaves.

@@ -1,8 +1,11 @@
 use Rattle.std.proofs.Common.{rules, ◌∙◌, arith, ap, length, sym, subst₂}
-use Rattle.book_rows.specs.Book.{Book, appended}
+use Rattle.atomic_table.specs.Table.{Me}
+use Rattle.book_rows.specs.{declared.rows.Batch.Batch, Book.Book, Book.appended}
 use Rattle.office_core.specs.Below.office_step.declared.call.Capacity.{Capacity}
-use Rattle.shared_desk.specs.Deciding.{IsLeft}
-use Rattle.shared_desk.proofs.Settled.{batch_of_act, batch_follows, survives_kept, survives_unkept}
+use Rattle.clerk_desk.specs.Serving.{IsLeft}
+use Rattle.desk_history.specs.declared.views.View.{View}
+use Rattle.desk_history.specs.Seen.{holding_of}
+use Rattle.shared_desk.proofs.Settled.{batch_of_act, batch_follows, settled_more, settled_still, survives_kept, survives_unkept}
 use Rattle.shared_desk.proofs.deciding.book_step.Goals as goal
 
 pub commit-requires-clause-batch : goal.commit-requires-clause-batch
@@ -50,8 +53,31 @@ returns-in-NoMemory-clause-survives g c =
     c.requires.survives c.requires.planned.appends c.batch.ensures c.reserve.ensures.capacity c.reserve.ensures.book
     c.requires.settled.kept c.in-NoMemory.ensures.leaves c.in-NoMemory.ensures.told c.in-NoMemory.ensures.crash
 
+pub returns-in-Done-clause-settled : goal.returns-in-Done-clause-settled
+returns-in-Done-clause-settled g c =
+    settled_more c.args.office.now.capacity c.apply.new.self.capacity c.args.office.now.book c.apply.new.self.book g.B.Naming.told
+    (g.K.Keeper.holds c.args.keeper.now) (g.K.Keeper.holds c.commit.new.self) (g.K.Keeper.is_well c.args.keeper.now) (g.K.Keeper.is_well c.commit.new.self)
+    (g.K.Keeper.faults c.args.keeper.now) (g.K.Keeper.faults c.commit.new.self) (holding_of c.args.book.now.me.0).book (holding_of c.append.new.book.me.0).book
+    c.requires.settled (c.apply.ensures.capacity ∙ c.reserve.ensures.capacity) c.in-Done.ensures.well
+    c.histories_go_on.ensures.go_on c.args.step.rows c.batch.result.now _ c.requires.planned.appends c.batch.ensures (ap (λ (b : Batch). b.act) c.batch-in-Done.ensures)
+    (c.apply.ensures.book ∙ ap (λ (tables : Book). appended tables c.args.step.rows) c.reserve.ensures.book)
+    (ap (λ (me : Me (Unit {0}) View). (holding_of me.0).book) c.append.ensures.view) c.in-Done.ensures.cause c.in-Done.ensures.leaves c.in-Done.ensures.goes_on
+
 pub returns-in-Failed-clause-settled : goal.returns-in-Failed-clause-settled
-returns-in-Failed-clause-settled g c = search rules
+returns-in-Failed-clause-settled g c =
+    settled_still c.args.office.now.capacity c.reserve.new.self.capacity c.args.office.now.book c.reserve.new.self.book g.B.Naming.told
+    (g.K.Keeper.holds c.args.keeper.now) (g.K.Keeper.holds c.commit.new.self) (g.K.Keeper.is_well c.args.keeper.now) (g.K.Keeper.is_well c.commit.new.self)
+    (g.K.Keeper.faults c.args.keeper.now) (g.K.Keeper.faults c.commit.new.self) (holding_of c.args.book.now.me.0).book (holding_of c.look-in-Failed.new.book.me.0).book
+    c.requires.settled c.reserve.ensures.capacity c.in-Failed.ensures.well c.reserve.ensures.book
+    (ap (λ (me : Me (Unit {0}) View). (holding_of me.0).book) c.look-in-Failed.ensures.view) c.in-Failed.ensures.leaves c.in-Failed.ensures.goes_on
+
+pub returns-in-NoMemory-clause-settled : goal.returns-in-NoMemory-clause-settled
+returns-in-NoMemory-clause-settled g c =
+    settled_still c.args.office.now.capacity c.reserve.new.self.capacity c.args.office.now.book c.reserve.new.self.book g.B.Naming.told
+    (g.K.Keeper.holds c.args.keeper.now) (g.K.Keeper.holds c.commit.new.self) (g.K.Keeper.is_well c.args.keeper.now) (g.K.Keeper.is_well c.commit.new.self)
+    (g.K.Keeper.faults c.args.keeper.now) (g.K.Keeper.faults c.commit.new.self) (holding_of c.args.book.now.me.0).book (holding_of c.look-in-NoMemory.new.book.me.0).book
+    c.requires.settled c.reserve.ensures.capacity c.in-NoMemory.ensures.well c.reserve.ensures.book
+    (ap (λ (me : Me (Unit {0}) View). (holding_of me.0).book) c.look-in-NoMemory.ensures.view) c.in-NoMemory.ensures.leaves c.in-NoMemory.ensures.goes_on
 
 pub returns-in_default-clause-cause : goal.returns-in_default-clause-cause
 returns-in_default-clause-cause g c = search rules

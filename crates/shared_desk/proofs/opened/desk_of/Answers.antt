@@ -13,10 +13,10 @@ invariant_of-locked g c =
     (g.K.Keeper.faults c.args.keeper) c.open_book.ensures.view in (
       passes.table ∙ (c.open_book.ensures.same ∙ c.requires.table.1),
       passes.free,
-      settled_first c.args.office.capacity c.args.office.book g.B.Naming.told (g.K.Keeper.holds c.args.keeper) (g.K.Keeper.faults c.args.keeper)
+      settled_first c.args.office.capacity c.args.office.book g.B.Naming.told (g.K.Keeper.holds c.args.keeper) (g.K.Keeper.is_well c.args.keeper) (g.K.Keeper.faults c.args.keeper)
           (book_of c.all_passes-waiting.new.book.me.0)
           (passes.start ∙ (opened.start ∙ (λ i. start_on (rows i) (limits i).acts (limits i).lines)))
-          passes.list (sym (passes.faults ∙ opened.faults)) c.tables-tables.ensures.reached c.requires.kept c.requires.told,
+          passes.list (sym (passes.faults ∙ opened.faults)) c.tables-tables.ensures.reached c.requires.kept c.requires.told c.requires.on,
       survives_first g.B.Naming.sound c.args.office.capacity c.args.office.book (g.K.Keeper.holds c.args.keeper) (g.K.Keeper.tells_crash c.args.keeper)
           (g.K.Keeper.leaves c.args.keeper) c.requires.kept c.requires.sound,
       c.requires.table.2,

@@ -1,0 +1,24 @@
+use Rattle.std.proofs.Common.{rules, ◌∙◌, ap, sym, subst, subst₂}
+use Rattle.book_rows.specs.Book.{Book}
+use Rattle.clerk_desk.specs.Serving.{IsLeft}
+use Rattle.desk_history.specs.{declared.views.PassView.PassView, Seen.book_of}
+use Rattle.office_core.specs.Below.office_step.declared.call.Capacity.{Capacity}
+use Rattle.shared_desk.specs.History.{capacity_of}
+use Rattle.shared_desk.proofs.locked.Locked.finish.Goals as goal
+
+pub returns : goal.returns
+returns g c = record {
+  history = (book_of c.self.inside.book.me.0).list;
+  legal = search rules;
+  front = search rules;
+  own = search rules;
+  whole = search rules;
+  kept = search rules;
+  first = search rules;
+  on = λ is_well was telling.
+      subst (g.K.Keeper.holds c.self.inside.keeper) (sym c.into_tables.ensures.book) (c.self.invariant.2.on is_well was telling);
+  stopped = λ sure telling now holding after left.
+      subst₂ (λ (most : Capacity) (tables : Book). IsLeft most tables after)
+      (c.self.invariant.2.capacity_is ∙ ap capacity_of (sym c.finish.ensures.start ∙ ap (λ (pass : PassView). pass.start) c.pass.view_is))
+      (sym c.into_tables.ensures.book) (c.self.invariant.3 sure telling now holding after left);
+}
