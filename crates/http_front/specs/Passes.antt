@@ -34,7 +34,7 @@ pub record SaysAnswer (question : Question) (old new : PassView) (said : Result 
   pub legal : IsLegalHistory new.start new.list
   pub told : IsSaid (said_of_answer (answer_to (tables_at new.start new.list) question)) said
 
--- what the desk isn't asked for, the pass being left as it was
+-- what the desk isn't asked for, the pass being left as it was; its text is made in memory, which may run out
 abbrev pub SaysAlone : Said → PassView → PassView → Result Said Silence → Type 0
 SaysAlone right old new said = (new ≡ old) × IsSaid right said
 
@@ -48,12 +48,12 @@ abbrev pub SaysAsked : (ℕ → Type 0) → List ℕ → Option Question → Pas
 SaysAsked shows body (Some question) old new said = SaysAnswer question old new said
 SaysAsked shows body None old new said = SaysBody shows (call_from body) old new said
 
--- by where a message leads, and its body
+-- By where a message leads, and its body. A refusal of where it leads takes no memory.
 abbrev pub SaysTo : (ℕ → Type 0) → List ℕ → Routed → PassView → PassView → Result Said Silence → Type 0
 SaysTo shows body (Routed.Asked asked) old new said = SaysAsked shows body (question_of asked) old new said
 SaysTo shows body (Routed.BadPart part) old new said = SaysAlone (bad_form (name_of part)) old new said
-SaysTo shows body Routed.NoRoute old new said = SaysAlone (refused Refusal.NoRoute) old new said
-SaysTo shows body Routed.NoMethod old new said = SaysAlone (refused Refusal.NoMethod) old new said
+SaysTo shows body Routed.NoRoute old new said = (new ≡ old) × (said ≡ Ok (refused Refusal.NoRoute))
+SaysTo shows body Routed.NoMethod old new said = (new ≡ old) × (said ≡ Ok (refused Refusal.NoMethod))
 
 -- the reply at a point
 abbrev pub reply_of : Result Said Silence → ℕ → Reply
