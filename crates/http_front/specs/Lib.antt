@@ -1,3 +1,4 @@
 pub mod Below
 pub mod Told
 pub mod Passes
+pub mod Together

@@ -2,6 +2,7 @@
 #![tactic(auto)]
 
 mod asking;
+mod laws;
 mod pass_desk;
 mod passing;
 mod replying;
@@ -10,5 +11,6 @@ mod sharing;
 
 pub use clerk_desk;
 pub use http_session::SessionEnd;
+pub use laws::sessions_share_a_history;
 pub use shared_desk;
 pub use sharing::session;

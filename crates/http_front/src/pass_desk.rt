@@ -41,7 +41,8 @@ impl<'a, R: Wait, K: Keeper + Drop, B: Naming, C: Clock> Desk for PassDesk<'a, R
 
     ghost gives_up = { λ desk message desk_now. ⊥ };
 
-    ghost follows = { λ desk desk_now. Further desk.pass.now desk_now.pass.now × (desk_now.pass.ghost_name ≡ desk.pass.ghost_name) };
+    ghost follows = { λ desk desk_now. Further desk.pass.now desk_now.pass.now × (desk_now.pass.ghost_name ≡ desk.pass.ghost_name)
+        × (desk_now.clock.now ≡ desk.clock.now) };
 
     ghost point = { λ desk. point_of desk.pass.now };
 
@@ -63,9 +64,10 @@ impl<'a, R: Wait, K: Keeper + Drop, B: Naming, C: Clock> Desk for PassDesk<'a, R
 
     ghost use Rattle.std.proofs.Common.{refl, ◌∙◌};
 
-    ghost stays = { λ desk. (further_stays desk.pass.now, refl) };
+    ghost stays = { λ desk. (further_stays desk.pass.now, refl, refl) };
 
-    ghost joins = { λ desk mid desk_now before after. (further_joins desk.pass.now mid.pass.now desk_now.pass.now before.0 after.0, after.1 ∙ before.1) };
+    ghost joins = { λ desk mid desk_now before after.
+        (further_joins desk.pass.now mid.pass.now desk_now.pass.now before.0 after.0, after.1 ∙ before.1, after.2 ∙ before.2) };
 }
 
 /// A session of a pass, by what is seen of it.
