@@ -1,26 +1,32 @@
-//! A file and its log in memory that stop at a call, for tests.
+//! A file and its log in memory that stop at a call, for tests, and come back with what was synced and a part of the rest.
 //!
-//! Nothing here has a contract, so a test sees disks as they are, and not by the clauses of a disk.
+//! Nothing here has a contract of its own, so a test sees disks as they are, and not by the clauses of a disk.
 #![tactic(auto)]
 
-use sqlite_disk::{Crash, Disk, Files, Fuse, Memory};
-use std::alloc::Global;
+mod torn;
 
-/// A file and its log in memory, each of which is frozen after so many calls.
-pub type Disks = Files<Fuse<Memory>>;
+use sqlite_disk::{Disk, Files, Fuse};
+use std::alloc::{AllocError, Global};
+pub use torn::{Kept, Torn};
 
-/// An empty file and an empty log, which are frozen after so many calls each.
-pub fn new_disks(alloc: Global, db: u64, log: u64) -> Disks {
-    Files {
-        log: Fuse::new(Memory::new(alloc), log),
-        db: Fuse::new(Memory::new(alloc), db),
-    }
+/// A file in memory and its log, each of which is frozen after so many calls.
+pub type Disks = Files<Fuse<Torn>>;
+
+/// An empty file and an empty log, which are frozen after so many calls each. Where they mix, SQLite syncs once for most
+/// commits, as over a real file, and else twice.
+pub fn new_disks(alloc: Global, are_mixing: bool, db: u64, log: u64) -> Result<Disks, AllocError> {
+    Ok(Files {
+        log: Fuse::new(Torn::new(&[], alloc, are_mixing)?, log),
+        db: Fuse::new(Torn::new(&[], alloc, are_mixing)?, db),
+    })
 }
 
-/// The machine stops, and comes back with what was synced.
-pub fn crash(disks: &mut Disks) {
-    disks.log.crash();
-    disks.db.crash();
+/// What comes back after the machine stopped, with what was synced and that part of the rest. Nothing is frozen.
+pub fn after_stop(disks: &Disks, alloc: Global, kept: Kept) -> Result<Disks, AllocError> {
+    Ok(Files {
+        log: Fuse::new(disks.log.inner().after_stop(alloc, kept)?, u64::MAX),
+        db: Fuse::new(disks.db.inner().after_stop(alloc, kept)?, u64::MAX),
+    })
 }
 
 /// Whether either is frozen. Each that isn't has one call less from then on.
@@ -28,6 +34,6 @@ pub fn are_frozen(disks: &mut Disks) -> bool {
     is_frozen(&mut disks.log) || is_frozen(&mut disks.db)
 }
 
-fn is_frozen(disk: &mut Fuse<Memory>) -> bool {
+fn is_frozen(disk: &mut Fuse<Torn>) -> bool {
     !disk.may_be_used() || disk.len().is_err()
 }

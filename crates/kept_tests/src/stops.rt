@@ -1,4 +1,4 @@
-use fused_disks::{crash, new_disks};
+use fused_disks::{Disks, Kept, after_stop, new_disks};
 use keeper_core::{Keeper, Loaded};
 use keeper_sqlite::SqliteKeeper;
 use run_harness::{act, five_months};
@@ -101,27 +101,38 @@ fn lines_by(acts: usize) -> usize {
     }
 }
 
-/// Stops the acts after so many calls of each disk, and has them done again. Whether they weren't stopped.
-fn stops_at(rt: &impl Abort, alloc: Global, db: u64, log: u64) -> bool {
-    let (told, mut disks) = tried(rt, alloc, new_disks(alloc, db, log), true);
-    crash(&mut disks);
-    let (Seen { acts, lines, .. }, mut disks) = tried(rt, alloc, disks, false);
+/// Looks what a stop leaves that keeps such a part, and has the acts done again.
+fn comes_back(rt: &impl Abort, alloc: Global, told: Seen, stopped: &Disks, kept: Kept, at: &str) {
+    let disks = after_stop(stopped, alloc, kept).expect(rt, "memory");
+    let (Seen { acts, lines, .. }, disks) = tried(rt, alloc, disks, false);
     assert!(rt;
         (acts == told.acts || acts == told.acts.saturating_add(1)) && lines == lines_by(acts),
-        "{acts} acts and {lines} lines for {}, stopped at {db} and {log}",
+        "{acts} acts and {lines} lines for {}, stopped at {at}, {kept:?}",
         told.acts
     );
-    crash(&mut disks);
+    let disks = after_stop(&disks, alloc, kept).expect(rt, "memory");
     let (again, _) = tried(rt, alloc, disks, true);
     assert!(rt;
         again.is_whole && again.acts == 11,
-        "again, stopped at {db} and {log}"
+        "again, stopped at {at}, {kept:?}"
     );
+}
+
+/// Stops the acts after so many calls of each disk, and looks what is left, whatever part of the unsynced writes is kept.
+/// Whether they weren't stopped.
+fn stops_at(rt: &impl Abort, alloc: Global, db: u64, log: u64) -> bool {
+    let disks = new_disks(alloc, true, db, log).expect(rt, "memory");
+    let (told, disks) = tried(rt, alloc, disks, true);
+    let at = format!(in alloc; "{db} and {log}").expect(rt, "memory");
+    for kept in Kept::EACH {
+        comes_back(rt, alloc, told, &disks, kept, &at);
+    }
     told.is_whole
 }
 
-// At each call of the log, and at each of the file, from the making of a new file on: what is there after the stop is the acts
-// that were told, or these and one more, with their lines, and the acts are told as ever.
+// At each call of the log, and at each of the file, from the making of a new file on: what is there after the stop, whatever
+// part of the unsynced writes it kept, is the acts that were told, or these and one more, with their lines, and the acts are
+// told as ever.
 #[test]
 fn stopped_at_each_call(rt: HostRuntime) {
     let alloc = rt.alloc();
