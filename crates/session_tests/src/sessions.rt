@@ -3,7 +3,7 @@
 use http_front::{SessionEnd, session};
 use keeper_core::PlannedKeeper;
 use office_io::{FixedClock, MemorySink, MemorySource};
-use sample_office::{INTERIM, day, post};
+use sample_office::{INTERIM, day, post, written};
 use shared_desk::{Naming, Pass, SharedDesk};
 use std::alloc::Global;
 use std::process::Abort;
@@ -73,4 +73,23 @@ pub fn served<B: Naming, R: Abort + Wait>(
         end,
         bytes: sink.into_bytes(),
     }
+}
+
+/// Whether a session of the pass on 1 February 2024, over all of the text, writes what ends so, with ' for ".
+pub fn writes<B: Naming, R: Abort + Wait>(
+    rt: &R,
+    alloc: Global,
+    desk: &SharedDesk<PlannedKeeper, B>,
+    pass: &mut Pass<B>,
+    text: &str,
+    wanted: &str,
+) -> bool {
+    let given = Given {
+        bytes: text.as_bytes(),
+        unread: None,
+        unwritten: None,
+    };
+    let told = served(rt, alloc, desk, pass, &given);
+    let wanted = written(alloc, wanted).expect(rt, "memory");
+    told.end == SessionEnd::Ended && told.bytes.ends_with(wanted.as_bytes())
 }

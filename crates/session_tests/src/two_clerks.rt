@@ -2,37 +2,16 @@ ghost use Rattle.std.specs.Prelude.{◌≡◌, ◌↔◌, []};
 ghost use Rattle.book_rows.specs.Book.{Book, book_of};
 ghost use Rattle.desk_history.specs.declared.views.View.TheVariants.{Blank};
 
-use crate::sessions::{ASK, CERTIFIED, Given, SEEN, interim, served};
+use crate::sessions::{ASK, CERTIFIED, SEEN, interim, writes};
 use book_rows::Tables;
 use desk_history::{NewHistory, new_history};
-use http_front::SessionEnd;
 use keeper_core::PlannedKeeper;
 use sample_desks::{acts_kept, begun_tables, desk};
-use sample_office::written;
 use shared_desk::{Naming, Pass, SharedDesk};
 use std::alloc::Global;
 use std::marker::Brand;
 use std::process::Abort;
 use std::sync::Wait;
-
-/// Whether a session of the pass on 1 February 2024, over all of the text, writes what ends so, with ' for ".
-fn writes<B: Naming, R: Abort + Wait>(
-    rt: &R,
-    alloc: Global,
-    desk: &SharedDesk<PlannedKeeper, B>,
-    pass: &mut Pass<B>,
-    text: &str,
-    wanted: &str,
-) -> bool {
-    let given = Given {
-        bytes: text.as_bytes(),
-        unread: None,
-        unwritten: None,
-    };
-    let told = served(rt, alloc, desk, pass, &given);
-    let wanted = written(alloc, wanted).expect(rt, "memory");
-    told.end == SessionEnd::Ended && told.bytes.ends_with(wanted.as_bytes())
-}
 
 // The second clerk's act is stale once the first clerk's is made, and a repeat has the first reply.
 fn work_in_turn<B: Naming, R: Abort + Wait>(
