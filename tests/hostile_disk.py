@@ -118,6 +118,14 @@ class Room:
     def grow(self, size):
         subprocess.run(["mount", "-o", f"remount,size={size}", self.path], check=True)
 
+    def fill(self):
+        """Leaves no room, until the file that it gives is removed."""
+        path = os.path.join(self.path, "filling")
+        with contextlib.suppress(OSError), open(path, "wb", buffering=0) as file:
+            while True:
+                file.write(bytes(4096))
+        return path
+
     def __exit__(self, *_):
         if self.is_there:
             # Where a check broke off, a program may still have the file.
@@ -173,6 +181,31 @@ def full_server(tries):
         serving.ends("the end of a server at a full disk", len(told) + 1)
         tries.says("its acts", [it[2:4] for it in rows(path, "acts", "n")][1:], [(2, request) for request in range(1, len(told) + 1)])
         tries.says("its book opens", tries.run(path, ["batch"]), (0, b"", b""))
+
+
+def full_at_the_end(tries):
+    """No room is left when the log is copied, at the end of a batch and of a server: all was answered, and the exit status tells of the log."""
+    room, lines, posts = Room(tries, "4m"), [*LINES, *map(unit_line, range(10, 100))], range(1, 100)
+    requests = [(1, request) for request in range(1, 100)] + [(2, request) for request in posts]
+    with room as path:
+        process = subprocess.Popen(tries.words(path, "batch"), stdin=subprocess.PIPE, stdout=subprocess.PIPE, stderr=subprocess.PIPE)
+        process.stdin.write(b"".join(lines))
+        process.stdin.flush()
+        told = [process.stdout.readline() for _ in lines]
+        filling = room.fill()
+        rest, said = process.communicate(timeout=60)
+        tries.says("a batch whose log isn't copied", (process.returncode, sum(b'"act":' in it for it in told), rest, said), (5, len(lines), b"", b""))
+        os.remove(filling)
+        tries.says("the next run copies the batch's log", tries.run(path, ["batch"]), (0, b"", b""))
+        tries.says("the batch's acts", [it[2:4] for it in rows(path, "acts", "n")], requests[:len(lines)])
+        serving = Serving(tries, path, 1, 1)
+        with serving.connect() as connection:
+            told = {connection.posted(call(2, request, unit(f"S{request}"))).status for request in posts}
+            filling = room.fill()
+        tries.says("a server whose log isn't copied", (serving.end(), told), ((5, b"book %d\n" % len(requests), b""), {201}))
+        os.remove(filling)
+        tries.says("the next run copies the server's log", tries.run(path, ["batch"]), (0, b"", b""))
+        tries.says("the server's acts", [it[2:4] for it in rows(path, "acts", "n")], requests)
 
 
 def in_mid_run(tries, path, change):
@@ -326,6 +359,7 @@ def other_logs(tries, chance, count):
 def try_disks(tries, chance, count):
     if full_disks(tries, chance):
         full_server(tries)
+        full_at_the_end(tries)
     made_read_only(tries)
     frozen_log(tries)
     nobody_reads(tries)

@@ -23,8 +23,8 @@ use std::{env, io};
 
 /// The status where no port is bound.
 const NOT_BOUND: u8 = 3;
-/// The status where the book's file doesn't open.
-const NOT_OPENED: u8 = 5;
+/// The status where the book's file doesn't open, or the log isn't copied into it.
+const STORE_FAILED: u8 = 5;
 /// The status where memory runs out.
 const NO_MEMORY: u8 = 7;
 
@@ -110,7 +110,7 @@ fn run_on_files<
 >(rt: &HostRuntime, handles: &H, words: &[String], files: Files<D>, options: Options) -> u8 {
     // (files that were just opened may be used)
     if !files.may_be_used() {
-        return NOT_OPENED;
+        return STORE_FAILED;
     }
     match Connection::open_files(rt.alloc(), files, options) {
         Ok(mut connection) => {
@@ -125,7 +125,7 @@ fn run_on_files<
 fn status_of(error: Error) -> u8 {
     match error {
         Error::SqliteFailure(ErrorCode::OutOfMemory) => NO_MEMORY,
-        _ => NOT_OPENED,
+        _ => STORE_FAILED,
     }
 }
 
@@ -147,17 +147,20 @@ fn run_on<
 }
 
 /// Closes the file after a run, and gives the status. All that was acknowledged is kept by now: this copies the log into the
-/// file, and where that fails, the next open does it.
+/// file. If that fails, a run that went well tells it by its status, and the next open copies the log.
 fn closed<D: Disk + Drop>(ran: Ran<Connection<FileStore<D>>>) -> u8 {
     let Ran { status, kept } = ran;
-    let _ = kept.close();
-    status
+    match kept.close() {
+        Err(_) if status == 0 => STORE_FAILED,
+        _ => status,
+    }
 }
 
 /// Runs the program that the words of the process name, by the handles of its runtime, and gives its status.
 ///
-/// 3: no port is bound. 5: the book's file doesn't open. 7: memory runs out for the words, or to open the file. What else comes
-/// is told by `office_prog`'s `run` and by `office_server`'s `run_serve`.
+/// 3: no port is bound. 5: the book's file doesn't open, or the log isn't copied into it at the end of a run that went well.
+/// 7: memory runs out for the words, or to open the file. What else comes is told by `office_prog`'s `run` and by
+/// `office_server`'s `run_serve`.
 pub fn run<H: Threads + Wait + Sync + Net<Listener = TcpListener, Stream = TcpStream>>(
     rt: &HostRuntime,
     handles: &H,
