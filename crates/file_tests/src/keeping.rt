@@ -1,10 +1,15 @@
-use crate::statements::{assert_both, file, let_go, writes};
-use book_rows::{Table, Tables};
-use keeper_core::{Keeper, Loaded};
+ghost use Rattle.std.specs.Prelude.{◌≡◌, true, IsTrue};
+ghost use Rattle.std.specs.Str.{is_utf8};
+
+use crate::statements::{assert_both, batch, file, let_go, writes};
+use book_rows::{ActRow, Batch, Table, Tables};
+use keeper_core::{Committed, Keeper, Loaded};
 use keeper_sqlite::SqliteKeeper;
+use plain_data::Listed;
 use sqlite::{Connection, MemStore};
 use std::alloc::Global;
 use std::process::Abort;
+use std::str;
 
 /// A file with two acts, of which the first made a record and two lines.
 fn written(rt: &impl Abort, alloc: Global) -> Connection<MemStore> {
@@ -130,4 +135,79 @@ fn one_table_alone_fails(rt: HostRuntime) {
     }
     assert!(rt; keeper.faults() == 1);
     let_go(keeper.release());
+}
+
+fn is_text(bytes: &[u8]) -> bool
+    ensures { result ≡ true → IsTrue (is_utf8 bytes.now) }
+{
+    let Ok(_) = str::from_utf8(bytes) else {
+        return false;
+    };
+    true
+}
+
+/// Commits an act that made neither a record nor lines. The flag is up: such a keeper tells no book, so any act may follow.
+fn commits(
+    rt: &impl Abort,
+    alloc: Global,
+    keeper: &mut SqliteKeeper<MemStore>,
+    act: ActRow,
+) -> bool {
+    let batch = Batch {
+        act,
+        made: None,
+        lines: Listed::new(Vec::new(alloc)),
+    };
+    assert!(rt; keeper.is_beside());
+    assert!(rt; is_text(batch.act.body.as_bytes()));
+    matches!(keeper.commit(alloc, &batch), Committed::Done)
+}
+
+/// Whether the flag of a keeper of that file is up after a load.
+fn is_flagged(rt: &impl Abort, alloc: Global, conn: Connection<MemStore>) -> bool {
+    let mut keeper = SqliteKeeper::adopt(conn);
+    assert!(rt; !keeper.is_beside());
+    let _rows = tables(rt, alloc, &mut keeper);
+    let is_flagged = keeper.is_beside();
+    let_go(keeper.release());
+    is_flagged
+}
+
+/// An empty file has nothing beside its tables, nor has a file of the three tables alone, also once it is opened again.
+#[test]
+fn nothing_stands_beside_the_tables_of_a_book(rt: HostRuntime) {
+    let alloc = rt.alloc();
+    let empty = Connection::open_in_memory(alloc).expect(&rt, "memory");
+    assert!(rt; !is_flagged(&rt, alloc, empty));
+    assert!(rt; !is_flagged(&rt, alloc, file(&rt, alloc)));
+    assert!(rt; !is_flagged(&rt, alloc, written(&rt, alloc)));
+    let Ok(again) = Connection::over(alloc, written(&rt, alloc).into_store()) else {
+        panic!(rt; "not opened again");
+    };
+    assert!(rt; !is_flagged(&rt, alloc, again));
+}
+
+/// A file with a table, an index or a view beside the three tables is served, and the flag says what it has.
+#[test]
+fn file_with_something_beside_is_served_and_flagged(rt: HostRuntime) {
+    let alloc = rt.alloc();
+    for other in [
+        "CREATE TABLE notes (n INTEGER) STRICT",
+        "CREATE INDEX by_session ON acts (session)",
+        "CREATE VIEW clerks AS SELECT clerk FROM acts",
+    ] {
+        let mut conn = written(&rt, alloc);
+        assert!(rt; conn.execute(other, &[]).is_ok());
+        let mut keeper = SqliteKeeper::adopt(conn);
+        assert_both(&rt, alloc, &tables(&rt, alloc, &mut keeper));
+        assert!(rt;
+            commits(&rt, alloc, &mut keeper, batch(&rt, alloc, 3).act),
+            "{other}"
+        );
+        let held = tables(&rt, alloc, &mut keeper);
+        assert!(rt; held.acts.len() == 3 && held.acts[2] == batch(&rt, alloc, 3).act);
+        assert!(rt; held.records.len() == 1 && held.lines.len() == 2);
+        assert!(rt; keeper.is_beside() && keeper.faults() == 0);
+        let_go(keeper.release());
+    }
 }
