@@ -211,3 +211,55 @@ fn file_with_something_beside_is_served_and_flagged(rt: HostRuntime) {
         let_go(keeper.release());
     }
 }
+
+/// The columns of `lines`, but for the last.
+const NINE_COLUMNS: &str =
+    "act INTEGER NOT NULL, place INTEGER NOT NULL, month INTEGER NOT NULL, household INTEGER NOT NULL, \
+    for_month INTEGER NOT NULL, first INTEGER NOT NULL, last INTEGER NOT NULL, old INTEGER NOT NULL, new INTEGER NOT NULL";
+
+/// A book's file whose table `lines` another hand has made again, with this at its end.
+fn remade(rt: &impl Abort, alloc: Global, end: &str) -> Connection<MemStore> {
+    let mut conn = file(rt, alloc);
+    assert!(rt; conn.execute("DROP TABLE lines", &[]).is_ok());
+    let text = format!(in alloc; "CREATE TABLE lines ({NINE_COLUMNS}, {end}").expect(rt, "memory");
+    assert!(rt; conn.execute(&text, &[]).is_ok(), "{end}");
+    conn
+}
+
+/// Three tables of the three names are served, and the flag is up unless they are as the program makes them.
+#[test]
+fn tables_of_another_make_are_served_and_flagged(rt: HostRuntime) {
+    let alloc = rt.alloc();
+    for (end, wanted) in [
+        (
+            "amount INTEGER NOT NULL, PRIMARY KEY (act, place)) STRICT",
+            false,
+        ),
+        (
+            "amount INTEGER NOT NULL, PRIMARY KEY (place, act)) STRICT",
+            true,
+        ),
+        ("amount INTEGER NOT NULL, UNIQUE (act, place)) STRICT", true),
+        ("amount INTEGER NOT NULL, PRIMARY KEY (act, place))", true),
+        ("amount INTEGER, PRIMARY KEY (act, place)) STRICT", true),
+        (
+            "amount ANY NOT NULL, PRIMARY KEY (act, place)) STRICT",
+            true,
+        ),
+        (
+            "amount INTEGER NOT NULL DEFAULT 0, PRIMARY KEY (act, place)) STRICT",
+            true,
+        ),
+        (
+            "amount INTEGER NOT NULL CHECK (amount <> 0), PRIMARY KEY (act, place)) STRICT",
+            true,
+        ),
+        (
+            "amount INTEGER NOT NULL, note TEXT, PRIMARY KEY (act, place)) STRICT",
+            true,
+        ),
+    ] {
+        let conn = remade(&rt, alloc, end);
+        assert!(rt; is_flagged(&rt, alloc, conn) == wanted, "{end}");
+    }
+}

@@ -12,14 +12,13 @@ use Rattle.keeper_core.specs.declared.keeper.{Loaded.Loaded, Committed.Committed
 use Rattle.book_texts.specs.declared.wide.{WideAct.WideAct, WideRecord.WideRecord, WideLine.WideLine}
 use Rattle.book_texts.specs.Wide.{wide_act, wide_record, wide_line}
 use Rattle.book_texts.specs.Rows.{line_values, stored_act, stored_record}
-use Rattle.sqlite_tied.specs.Compute.{everything}
 use Rattle.book_texts.specs.Schema.{no_schema, book_schema}
 use Rattle.book_texts.specs.Trees.{StandsFor, HoldsNone}
 use Rattle.book_statements.specs.Effects.{Undoes, IsMade, Makes, MadeTrees, Lands, BatchTrees}
 use Rattle.book_asking.specs.declared.asking.AskedRows.{AskedRows}
 use Rattle.book_asking.specs.Asking.{AreAsked}
 use Rattle.book_ranges.specs.Ranges.{Narrows, IsInRange, first_bad, row_of}
-use Rattle.keeper_sqlite.specs.Told.{IsBookIn, IsBadIn, IsReady, Holds, HoldsBad, IsWell, TellsCrash, MayLeave, MaySpoil, CrashLeaves, TellsNoMore, TellsOn, GoesOn, StaysOpen, IsFileOf, LeavesBooks, IsSettled, IsAnswer, are_alone, IsOwn, Notes}
+use Rattle.keeper_sqlite.specs.Told.{IsBookIn, IsBadIn, IsReady, Holds, HoldsBad, IsWell, TellsCrash, MayLeave, MaySpoil, CrashLeaves, TellsNoMore, TellsOn, GoesOn, StaysOpen, IsFileOf, LeavesBooks, IsSettled, IsAnswer, IsOwn, Notes}
 use Rattle.keeper_sqlite.proofs.Landing.{act_only, record_only, line_only}
 use Rattle.keeper_sqlite.proofs.Books.{book_once, schemas_differ, rows_once, exclusive}
 use Rattle.keeper_sqlite.proofs.Batches.{rows_before, book_after, bad_before}
@@ -112,17 +111,13 @@ then_no_more a b c p q r one two = record {
 
 -- ---- the flag
 
-three_alone : are_alone book_schema ≡ true
-unfolding everything
-three_alone = refl
-
 -- a book's file has the three tables alone
 pub book_own : (s : State) (book : Book) → IsBookIn s.now book → IsOwn s.now.schema
-book_own s book (inl p) = inr (ap are_alone p.schema ∙ three_alone)
+book_own s book (inl p) = inr p.schema
 book_own s book (inr none) = inl none.0
 
 pub row_own : (s : State) (row : BadRow) → IsBadIn s.now row → IsOwn s.now.schema
-row_own s row bad = inr (ap are_alone bad.schema ∙ three_alone)
+row_own s row bad = inr bad.schema
 
 -- a file whose flag is raised is told of no more, and what is told of is not flagged
 module _ (s : State) (was now : Bool) (notes : Notes s.now.schema was now) where

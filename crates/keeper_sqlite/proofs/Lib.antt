@@ -4,3 +4,4 @@ mod Landing
 mod Books
 mod Batches
 mod Calls
+mod Schemas

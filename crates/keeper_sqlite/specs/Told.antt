@@ -1,8 +1,8 @@
 -- What a file tells of its book, and what a crash may leave of it.
 use Rattle.std.specs.Coded.{Coded, code_by, coded×, coded_ℕ, coded_bool}
-use Rattle.std.specs.Prelude.{◌≡◌, ◌⊎◌, ◌↔◌, ◌==◌, ◌&&◌, ℕ, ⊤, Bool, true, false, codes, length, is_some, refl, List, map, Option, None, Some, IsTrue}
+use Rattle.std.specs.Prelude.{◌≡◌, ◌⊎◌, ◌↔◌, ℕ, ⊤, Bool, false, refl, List, map, Option, None, Some, IsTrue}
 use Rattle.sqlite.specs.{Tree.Trees, Effect.Database, Effect.IsDatabase, State.State, State.HasCleanDisk, State.IsLive, Held.Held, Held.held_code}
-use Rattle.sqlite_schema.specs.{declared.schema.Schema.Schema, Names.table_named}
+use Rattle.sqlite_schema.specs.declared.schema.Schema.{Schema}
 use Rattle.sqlite_disk.specs.Disk.{MoreFaults}
 use Rattle.book_rows.specs.{declared.rows.Batch.Batch, Book.Book, Book.empty_book, Book.appended}
 use Rattle.keeper_core.specs.{Keeping.BadRow, Keeping.Keeps, declared.keeper.Loaded.Loaded, declared.keeper.Committed.Committed}
@@ -122,17 +122,11 @@ CommitsBooks old was_beside new is_beside Committed.Failed =
 CommitsBooks old was_beside new is_beside Committed.NoMemory =
     (book : Book) → Holds old was_beside book → LeavesBooks old was_beside → LeavesBooks new is_beside
 
--- three tables, of the three names, and three indexes, one for each table's keys beside its rowid, and nothing else
-abbrev pub are_alone : Schema → Bool
-are_alone schema =
-    length schema.tables == 3 && (length schema.indexes == 3 && (length schema.views == 0
-    && (is_some (table_named schema (codes "acts")) && (is_some (table_named schema (codes "records")) && is_some (table_named schema (codes "lines"))))))
-
--- nothing stands in the file, or the three tables and nothing beside them
+-- nothing stands in the file, or the three tables as the program makes them and nothing beside them
 abbrev pub IsOwn : Schema → Type 0
-IsOwn schema = (schema ≡ no_schema) ⊎ (are_alone schema ≡ true)
+IsOwn schema = (schema ≡ no_schema) ⊎ (schema ≡ book_schema)
 
--- the flag is down after a load just where it was down before, and nothing stood in the file beside the three tables
+-- the flag is down after a load just where it was down before, and nothing stood in the file but the program's own tables
 abbrev pub Notes : Schema → Bool → Bool → Type 0
 Notes schema was_beside is_beside = (is_beside ≡ false) ↔ ((was_beside ≡ false) × IsOwn schema)
 

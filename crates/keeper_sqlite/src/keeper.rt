@@ -57,7 +57,7 @@ impl<S: Alter> SqliteKeeper<S> {
         self.faults
     }
 
-    /// Whether a load found something in the file beside the three tables. It is served all the same.
+    /// Whether a load found something in the file but the three tables as they are made. It is served all the same.
     pub fn is_beside(&self) -> bool
         ensures { result ≡ self.now.is_beside }
     {

@@ -3,5 +3,6 @@
 
 mod keeper;
 mod loading;
+mod own;
 
 pub use keeper::SqliteKeeper;

@@ -1,12 +1,13 @@
 ghost use Rattle.std.specs.Prelude.{◌≡◌, ◌↔◌, false, Bool, IsTrue, OnOk, IfOk};
 ghost use Rattle.sqlite.specs.{Held.state, State.Survives};
 ghost use Rattle.sqlite.specs.declared.error.{Error.TheVariants.SqliteFailure, ErrorCode.TheVariants.OutOfMemory};
-ghost use Rattle.book_texts.specs.Schema.{no_schema};
+ghost use Rattle.book_texts.specs.Schema.{no_schema, book_schema};
 ghost use Rattle.book_ranges.specs.Ranges.{Narrows};
 ghost use Rattle.book_rows.specs.Book.{Book, book_of, empty_book};
 ghost use Rattle.keeper_core.specs.{Keeping.Gives, declared.keeper.Loaded.TheVariants.Rows};
-ghost use Rattle.keeper_sqlite.specs.Told.{Holds, HoldsBad, TellsNoMore, GoesOn, StaysOpen, LeavesBooks, IsSettled, IsAnswer, are_alone, Notes};
+ghost use Rattle.keeper_sqlite.specs.Told.{Holds, HoldsBad, TellsNoMore, GoesOn, StaysOpen, LeavesBooks, IsSettled, IsAnswer, Notes};
 
+use crate::own::is_book_schema;
 use book_asking::{AskFault, AskedRows, ask_tables};
 use book_ranges::narrowed;
 use book_rows::Tables;
@@ -67,20 +68,14 @@ fn is_empty<S: Alter>(conn: &Connection<S>) -> bool
         && schema.views.as_slice().is_empty()
 }
 
-/// Whether the three tables stand in the file with an index each, which guards their keys, and nothing beside them.
+/// Whether the three tables stand in the file as the program makes them, and nothing beside them.
 fn are_alone<S: Alter>(conn: &Connection<S>) -> bool
-    ensures { result ≡ are_alone (state S.Store conn.now).now.schema }
+    ensures { IsTrue result ↔ ((state S.Store conn.now).now.schema ≡ book_schema) }
 {
-    let schema = conn.schema();
-    schema.tables.len() == 3
-        && schema.indexes.len() == 3
-        && schema.views.len() == 0
-        && schema.table_named(b"acts").is_some()
-        && schema.table_named(b"records").is_some()
-        && schema.table_named(b"lines").is_some()
+    is_book_schema(conn.schema())
 }
 
-/// Whether something stands in the file beside the three tables, now or when it was loaded before.
+/// Whether something stands in the file but the program's own tables, now or when it was loaded before.
 fn is_beside<S: Alter>(conn: &Connection<S>, was_beside: bool) -> bool
     ensures { Notes (state S.Store conn.now).now.schema was_beside result }
 {

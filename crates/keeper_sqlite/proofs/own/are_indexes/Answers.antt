@@ -1,0 +1,13 @@
+use Rattle.std.proofs.Common.{rules}
+use Rattle.keeper_sqlite.proofs.Schemas.{three_items}
+use Rattle.keeper_sqlite.proofs.own.are_indexes.Goals as goal
+
+pub returns-then-is_index-2 : goal.returns-then-is_index-2
+returns-then-is_index-2 c =
+    let all = three_items c.args.indexes.now c.acts-item.result c.records-item.result c.lines-item.result c.in-len3.len_at_least c.in-len3.len_below c.acts-item.is c.records-item.is c.lines-item.is in
+    (λ h. search (rules, all), λ h. search (rules, all))
+
+pub returns-else-is_index-2 : goal.returns-else-is_index-2
+returns-else-is_index-2 c =
+    let all = three_items c.args.indexes.now c.acts-item.result c.records-item.result c.lines-item.result c.in-len3.len_at_least c.in-len3.len_below c.acts-item.is c.records-item.is c.lines-item.is in
+    (λ h. search (rules, all), λ h. search (rules, all))
