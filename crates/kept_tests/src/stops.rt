@@ -68,6 +68,7 @@ fn tried_on<S: Alter + Drop>(
     } else {
         rows_in(rt, alloc, &mut keeper)
     };
+    assert!(rt; !keeper.is_beside(), "tables that aren't a book's own");
     (seen, keeper.release().into_store())
 }
 
