@@ -1,0 +1,118 @@
+//! A book's file opened again after a stop.
+//!
+//! A stop leaves of the two files what their disks may leave at that moment. What is said here holds over any disk, while it
+//! returns what was written.
+#![tactic(auto)]
+
+ghost use Rattle.std.specs.Prelude.{◌≡◌, ◌⊎◌, ◌<◌, IsTrue, IfOk, IfErr};
+ghost use Rattle.std.specs.Str.{is_utf8};
+ghost use Rattle.sqlite.specs.State.{HasCleanDisk};
+ghost use Rattle.sqlite.specs.Files.{file_state, faults_of, image_of, IsCleanLeft};
+ghost use Rattle.sqlite.specs.Recovery.{Image};
+ghost use Rattle.sqlite.specs.WalFiles.{outcomes};
+ghost use Rattle.sqlite.specs.WalReads.{AreClean};
+ghost use Rattle.book_rows.specs.Book.{Book, IsBatch, IsBefore};
+ghost use Rattle.keeper_core.specs.Keeping.{LoadCause};
+ghost use Rattle.keeper_sqlite.specs.Told.{Holds, TellsCrash};
+ghost use Rattle.book_recovery.specs.Recovery.{HoldsBook, HoldsLeft, IsWell, FindsBook, GivesAcknowledged, LeavesABook, Recovers, IsKept, GivesRows, GivesAfter, IsUnopened};
+
+use book_rows::Batch;
+use keeper_core::{Committed, Keeper, Loaded};
+use keeper_sqlite::SqliteKeeper;
+use sqlite::{Connection, Error, FileStore, Files, Leftover, Options};
+use sqlite_disk::{Crash, Disk};
+use std::alloc::Global;
+
+/// A book that was opened again: its keeper, and what a load of it gave.
+#[derive(Drop)]
+pub struct Reopened<D: Disk + Drop> {
+    pub keeper: SqliteKeeper<FileStore<D>>,
+    pub loaded: Loaded,
+}
+
+/// Opens the file of a book, and loads it.
+///
+/// Of files that hold a book's file the load gives that book, or nothing: where memory ran out, or a fault was counted.
+pub fn reopen<D: Disk + Drop>(
+    alloc: Global,
+    files: Files<D>,
+    options: Options,
+) -> Result<Reopened<D>, (Error, Leftover<D>)>
+    requires log { IsTrue (D.Disk.is_usable files.log) }
+    requires db { IsTrue (D.Disk.is_usable files.db) }
+    ensures finds { IfOk result (λ it. IsWell it.keeper → (book : Book) → HoldsBook (image_of D.Disk files) book → FindsBook it.keeper it.loaded book) }
+    ensures honest { IfOk result (λ it. IsWell it.keeper → AreClean D.Disk files.log files.db) }
+    ensures kept { IfOk result (λ it. IsWell it.keeper → GivesRows it.loaded → (book : Book) → Holds (file_state it.keeper.file) it.keeper.is_beside book → IsKept it.keeper book) }
+    ensures shut { IfOk result (λ it. TellsCrash (file_state it.keeper.file) it.keeper.is_beside → IsTrue (file_state it.keeper.file).is_open ⊎ (0 < (file_state it.keeper.file).faults)) }
+    ensures cause { IfOk result (λ it. LoadCause 0 it.keeper.faults it.loaded) }
+    ensures unopened { IfErr result (λ e. IsCleanLeft e.1 → ∥ ((book : Book) × HoldsBook (image_of D.Disk files) book) ∥₁ → IsUnopened (faults_of D.Disk files) e.1 e.0) }
+{
+    match Connection::open_files(alloc, files, options) {
+        Ok(connection) => {
+            let mut keeper = SqliteKeeper::adopt(connection);
+            let loaded = keeper.load(alloc);
+            Ok(Reopened { keeper, loaded })
+        }
+        Err(unopened) => Err(unopened),
+    }
+}
+
+/// Gives the two files of a keeper as they are, with nothing written.
+///
+/// Whatever a stop may leave of them holds the book that the keeper tells. Where it tells none, that holds a book that it says a
+/// stop may leave.
+pub fn stop<D: Disk + Drop>(keeper: SqliteKeeper<FileStore<D>>) -> Files<D>
+    ensures told { AreClean D.Disk result.log result.db → (book : Book) → Holds (file_state keeper.file) keeper.is_beside book
+        → (left : Image) → outcomes D.Disk result.log result.db left → HoldsBook left book }
+    ensures left { AreClean D.Disk result.log result.db → LeavesABook keeper
+        → (left : Image) → outcomes D.Disk result.log result.db left → ∥ HoldsLeft (file_state keeper.file) left ∥₁ }
+    ensures honest { AreClean D.Disk result.log result.db → HasCleanDisk (file_state keeper.file) }
+{
+    let connection = keeper.release();
+    // Asked for their contracts: what is seen is sound and, outside a transaction, is what is committed.
+    let _schema = connection.schema();
+    let _is_alone = connection.is_autocommit();
+    connection.into_store().close()
+}
+
+/// Stops the machine, and opens the book again over what that left.
+///
+/// The load gives the book that the keeper told. Where it told none, the load gives the acknowledged book, or that and the one
+/// further act. Or it gives nothing, as `reopen` says.
+pub fn restart<D: Crash + Drop>(
+    alloc: Global,
+    keeper: SqliteKeeper<FileStore<D>>,
+    options: Options,
+) -> Result<Reopened<D>, (Error, Leftover<D>)>
+    ensures told { IfOk result (λ it. IsWell it.keeper → (book : Book) → Holds (file_state keeper.file) keeper.is_beside book → FindsBook it.keeper it.loaded book) }
+    ensures recovers { IfOk result (λ it. IsWell it.keeper → LeavesABook keeper → ∥ Recovers keeper it.keeper it.loaded ∥₁) }
+    ensures acknowledged { IfOk result (λ it. IsWell it.keeper → LeavesABook keeper → GivesAcknowledged (file_state keeper.file) it.loaded) }
+    ensures honest { IfOk result (λ it. IsWell it.keeper → HasCleanDisk (file_state keeper.file)) }
+    ensures kept { IfOk result (λ it. IsWell it.keeper → GivesRows it.loaded → (book : Book) → Holds (file_state it.keeper.file) it.keeper.is_beside book → IsKept it.keeper book) }
+    ensures shut { IfOk result (λ it. TellsCrash (file_state it.keeper.file) it.keeper.is_beside → IsTrue (file_state it.keeper.file).is_open ⊎ (0 < (file_state it.keeper.file).faults)) }
+    ensures cause { IfOk result (λ it. LoadCause 0 it.keeper.faults it.loaded) }
+{
+    let mut files = stop(keeper);
+    files.log.crash();
+    files.db.crash();
+    reopen(alloc, files, options)
+}
+
+/// Has one more act kept, stops the machine, and opens the book again over what that left.
+///
+/// After `Done` the load gives the book with the act; after another answer the book, or that with the act. Where a disk fails
+/// from some call on, that call is where the machine stopped.
+pub fn commit_and_restart<D: Crash + Drop>(
+    alloc: Global,
+    mut keeper: SqliteKeeper<FileStore<D>>,
+    batch: &Batch,
+    options: Options,
+) -> (Committed, Result<Reopened<D>, (Error, Leftover<D>)>)
+    requires batch { IsBatch batch.now }
+    requires next { (book : Book) → Holds (file_state keeper.file) keeper.is_beside book → IsBefore book batch.now.act.n }
+    requires text { IsTrue (is_utf8 batch.now.act.body) }
+    ensures kept { IfOk result.1 (λ it. IsWell it.keeper → (book : Book) → IsKept keeper book → GivesAfter result.0 book batch.now it.loaded) }
+{
+    let committed = keeper.commit(alloc, batch);
+    (committed, restart(alloc, keeper, options))
+}
