@@ -1,0 +1,8 @@
+//! What the words of the command line choose: a run of the program, or a server of a port.
+#![tactic(auto)]
+
+mod ports;
+mod running;
+
+pub use ports::{Ports, TcpPorts};
+pub use running::{Ran, run_words};
