@@ -1,19 +1,24 @@
 //! The office program over the system's streams, clock and ports, and a book in a file or in memory.
 //!
-//! Nothing here has a contract: streams, ports and a keeper are made here and used up, so that a clause could name the status
-//! alone. What is called here has.
+//! What the words run over a keeper, and what that does, is proved by `program_choice`, for any streams, clock, ports and keeper;
+//! how a file is opened and which status tells why it isn't, by `book_file`. Here the words choose the keeper, and the real ones
+//! are made and used up. What is said of these is trusted: the words are those of the process; the streams, the clock and the ports are
+//! the system's; and the files are those at the path, and do what is asked of them. They are opened as `FileFrom<Unknown>`:
+//! nothing is known of what they held, and after a stop of the machine a torn write is supposed to leave each byte as it was
+//! before or as it was written.
 #![tactic(auto)]
 
-mod book;
+ghost use Rattle.std.specs.Prelude.{◌≡◌, ◌≢◌, ◌⊎◌, None, Some, map, string_bytes};
+ghost use Rattle.command_words.specs.Words.{book_in, words_after_book};
+ghost use Rattle.program_answers.specs.Keeping.{OutlivesStops, StillTells};
 
-use crate::book::open_book;
-use command_words::{Serve, book_and_words, serve_words};
+use book_file::{open_book, status_of};
+use command_words::book_and_words;
 use keeper_core::{Keeper, MemoryKeeper};
 use keeper_sqlite::SqliteKeeper;
-use office_io::{Clock, Sink, StreamSink, StreamSource, SystemClock};
-use office_links::TcpLinks;
-use office_server::run_serve;
-use sqlite::{Alter, Connection, Error, ErrorCode, FileStore, Options};
+use office_io::{StreamSink, StreamSource, SystemClock};
+use program_choice::{TcpPorts, run_words};
+use sqlite::{Alter, Connection, FileStore, Options};
 use sqlite_disk::{Disk, Files};
 use std::net::{Net, TcpListener, TcpStream};
 use std::rt::Env;
@@ -21,8 +26,6 @@ use std::sync::Wait;
 use std::thread::Threads;
 use std::{env, io};
 
-/// The status where no port is bound.
-const NOT_BOUND: u8 = 3;
 /// The status where the book's file doesn't open, or the log isn't copied into it.
 const STORE_FAILED: u8 = 5;
 /// The status where memory runs out.
@@ -39,63 +42,59 @@ struct Ran<K> {
     kept: K,
 }
 
-/// Runs the program that the words name over the real streams and clock, and a keeper.
+/// Runs what the words name over the real streams, clock and ports, and a keeper.
 fn run_over<
     H: Threads + Wait + Sync + Net<Listener = TcpListener, Stream = TcpStream>,
     K: Keeper + Drop + Send,
->(rt: &HostRuntime, handles: &H, words: &[String], mut keeper: K) -> Ran<K> {
+>(rt: &HostRuntime, handles: &H, words: &[String], keeper: K) -> Ran<K>
+    ensures tells_on { StillTells (K.holds keeper) (K.is_well result.kept) (K.holds result.kept) }
+    ensures stopped { OutlivesStops (K.holds keeper) (K.leaves keeper) (K.tells_crash keeper)
+        (K.holds result.kept) (K.leaves result.kept) (K.tells_crash result.kept) }
+{
+    let mut source = StreamSource::new(rt.stdin());
     let mut sink = StreamSink::new(rt.stdout());
     let clock = SystemClock::new(rt);
-    match serve_words(words) {
-        Some(serve) => serve_port(rt, handles, &serve, &mut sink, &clock, keeper),
-        None => {
-            let mut source = StreamSource::new(rt.stdin());
-            let status = office_prog::run(
-                rt.alloc(),
-                words,
-                &mut source,
-                &mut sink,
-                &clock,
-                &mut keeper,
-            );
-            Ran {
-                status,
-                kept: keeper,
-            }
-        }
+    let ports = TcpPorts::new(handles);
+    let ran = run_words(
+        handles,
+        rt.alloc(),
+        words,
+        &ports,
+        &mut source,
+        &mut sink,
+        &clock,
+        keeper,
+    );
+    Ran {
+        status: ran.status,
+        kept: ran.keeper,
     }
 }
 
-/// Serves so many links that come to a port of this machine's own address.
-fn serve_port<
-    H: Threads + Wait + Sync + Net<Listener = TcpListener, Stream = TcpStream>,
-    K: Keeper + Drop + Send,
-    W: Sink,
-    C: Clock + Sync,
->(rt: &HostRuntime, handles: &H, serve: &Serve, sink: &mut W, clock: &C, keeper: K) -> Ran<K> {
-    match TcpLinks::bind(handles, serve.port, serve.connections) {
-        Ok(links) => {
-            let workers = serve.workers.clamp(1, 32);
-            let served = run_serve(handles, rt.alloc(), workers, links, sink, clock, keeper);
-            Ran {
-                status: served.status,
-                kept: served.keeper,
-            }
-        }
-        Err(_) => Ran {
-            status: NOT_BOUND,
-            kept: keeper,
-        },
-    }
+/// Runs the words over a book in memory, since all words name no file.
+fn run_in_memory<H: Threads + Wait + Sync + Net<Listener = TcpListener, Stream = TcpStream>>(
+    rt: &HostRuntime,
+    handles: &H,
+    _all: &[String],
+    words: &[String],
+) -> u8
+    requires book { book_in (map string_bytes _all.now) ≡ None }
+    requires words { map string_bytes words.now ≡ words_after_book (map string_bytes _all.now) }
+{
+    run_over(rt, handles, words, MemoryKeeper::new(rt.alloc())).status
 }
 
-/// The same, over the book in the file at the path.
+/// Runs the words over the book in the file at the path that all words name.
 fn run_on_file<H: Threads + Wait + Sync + Net<Listener = TcpListener, Stream = TcpStream>>(
     rt: &HostRuntime,
     handles: &H,
+    _all: &[String],
     path: &str,
     words: &[String],
-) -> u8 {
+) -> u8
+    requires book { book_in (map string_bytes _all.now) ≡ Some path.now }
+    requires words { map string_bytes words.now ≡ words_after_book (map string_bytes _all.now) }
+{
     match open_book(rt, path) {
         Ok((files, options)) => run_on_files(rt, handles, words, files, options),
         Err(error) => status_of(error),
@@ -121,14 +120,6 @@ fn run_on_files<
     }
 }
 
-/// The status where a book isn't opened for that reason.
-fn status_of(error: Error) -> u8 {
-    match error {
-        Error::SqliteFailure(ErrorCode::OutOfMemory) => NO_MEMORY,
-        _ => STORE_FAILED,
-    }
-}
-
 /// The same, over the book of a connection.
 fn run_on<
     H: Threads + Wait + Sync + Net<Listener = TcpListener, Stream = TcpStream>,
@@ -148,7 +139,10 @@ fn run_on<
 
 /// Closes the file after a run, and gives the status. All that was acknowledged is kept by now: this copies the log into the
 /// file. If that fails, a run that went well tells it by its status, and the next open copies the log.
-fn closed<D: Disk + Drop>(ran: Ran<Connection<FileStore<D>>>) -> u8 {
+fn closed<D: Disk + Drop>(ran: Ran<Connection<FileStore<D>>>) -> u8
+    ensures failed { ran.status ≢ 0 → result ≡ ran.status }
+    ensures well { ran.status ≡ 0 → (result ≡ 0) ⊎ (result ≡ 5) }
+{
     let Ran { status, kept } = ran;
     match kept.close() {
         Err(_) if status == 0 => STORE_FAILED,
@@ -159,8 +153,7 @@ fn closed<D: Disk + Drop>(ran: Ran<Connection<FileStore<D>>>) -> u8 {
 /// Runs the program that the words of the process name, by the handles of its runtime, and gives its status.
 ///
 /// 3: no port is bound. 5: the book's file doesn't open, or the log isn't copied into it at the end of a run that went well.
-/// 7: memory runs out for the words, or to open the file. What else comes is told by `office_prog`'s `run` and by
-/// `office_server`'s `run_serve`.
+/// 7: memory runs out for the words, or to open the file. What else comes is told by `program_choice`'s `run_words`.
 pub fn run<H: Threads + Wait + Sync + Net<Listener = TcpListener, Stream = TcpStream>>(
     rt: &HostRuntime,
     handles: &H,
@@ -173,7 +166,7 @@ pub fn run<H: Threads + Wait + Sync + Net<Listener = TcpListener, Stream = TcpSt
     };
     let (book, others) = book_and_words(&words);
     match book {
-        Some(path) => run_on_file(rt, handles, path, others),
-        None => run_over(rt, handles, others, MemoryKeeper::new(rt.alloc())).status,
+        Some(path) => run_on_file(rt, handles, &words, path, others),
+        None => run_in_memory(rt, handles, &words, others),
     }
 }
