@@ -1,5 +1,5 @@
-ghost use Rattle.std.specs.Prelude.{◌≡◌, []};
-ghost use Rattle.book_rows.specs.Book.{Book};
+ghost use Rattle.std.specs.Prelude.{◌≡◌, ◌↔◌, []};
+ghost use Rattle.book_rows.specs.Book.{Book, book_of};
 ghost use Rattle.desk_history.specs.declared.views.View.TheVariants.{Blank};
 
 use crate::parted::{Event, served_in_parts};
@@ -77,7 +77,7 @@ fn at_a_begun_desk<B: Naming, R: Abort + Wait>(
 )
     requires table { (history.table.shared.table_id ≡ B.table) × (history.book.table_id ≡ B.table) × (B.table.words ≡ 1) }
     requires blank { history.book.me ≡ (Blank, []) }
-    requires told { (book : Book) → B.told book }
+    requires told { (book : Book) → B.told book ↔ (book ≡ book_of tables) }
     requires sound { B.sound → ⊥ }
 {
     let keeper = PlannedKeeper::with(tables, Vec::new(alloc));

@@ -1,5 +1,5 @@
-ghost use Rattle.std.specs.Prelude.{◌≡◌, []};
-ghost use Rattle.book_rows.specs.Book.{Book};
+ghost use Rattle.std.specs.Prelude.{◌≡◌, ◌↔◌, []};
+ghost use Rattle.book_rows.specs.Book.{Book, empty_book};
 ghost use Rattle.desk_history.specs.declared.views.View.TheVariants.{Blank};
 
 use crate::parted::{Event, served_in_parts};
@@ -80,7 +80,7 @@ fn over_midnight<B: Naming, R: Abort + Wait>(
 fn at_a_new_desk<B: Naming, R: Abort + Wait>(rt: &R, alloc: Global, history: NewHistory)
     requires table { (history.table.shared.table_id ≡ B.table) × (history.book.table_id ≡ B.table) × (B.table.words ≡ 1) }
     requires blank { history.book.me ≡ (Blank, []) }
-    requires told { (book : Book) → B.told book }
+    requires told { (book : Book) → B.told book ↔ (book ≡ empty_book) }
     requires sound { B.sound → ⊥ }
 {
     let keeper = PlannedKeeper::new(alloc, Vec::new(alloc));
