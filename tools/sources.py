@@ -208,6 +208,10 @@ def programs_in(all_crates):
     return [it.name for it in all_crates if os.path.join(it.folder, "src", "main.rt") in it.files and not it.name.startswith("bench_")]
 
 
+# Crates that no program is made of, and that are there for what is proved of them.
+PROVED_ALONE = ["book_recovery"]
+
+
 def program_of(all_crates, roots=("office",)):
     """The crates that the program, or some programs, are made of."""
     uses = {it.name: it.uses for it in all_crates}

@@ -1,8 +1,8 @@
 -- What an open finds of files that hold a book, and what a load of it gives.
-use Rattle.std.proofs.Common.{◌≡◌, ◌⊎◌, inl, inr, ℕ, ◌+◌, ◌<◌, suc, Bool, false, ◌&&◌, List, [], ◌∷◌, ◌++◌, length, Result, Ok, Err, IfOk, IsTrue, refl, sym, ap, subst, ◌∙◌, arith, length-append}
+use Rattle.std.proofs.Common.{◌≡◌, ◌⊎◌, inl, inr, ◌+◌, ◌<◌, Bool, false, ◌&&◌, Some, [], ◌∷◌, length, Result, Ok, Err, IfOk, IsTrue, refl, sym, ap, subst, ◌∙◌, arith, length-append}
 use Rattle.std.proofs.lemmas.Bool.{cases_eq, and_parts, and_from}
 use mathlib.Core.HLevel.{⊥_prop}
-use Rattle.std.proofs.Math.Logic.{∥∥₁_elim, ∥∥₁_map}
+use Rattle.std.proofs.Math.Logic.{∥∥₁_elim}
 use Rattle.sqlite_disk.specs.declared.{Disk.Ghosts, Files.Files}
 use Rattle.sqlite_disk.specs.Disk.{MoreFaults}
 use Rattle.sqlite_store.specs.declared.store.FileStore.{FileStore}
@@ -15,7 +15,7 @@ use Rattle.book_rows.specs.Book.{Book, book_of, appended}
 use Rattle.book_rows.specs.declared.rows.Batch.{Batch}
 use Rattle.keeper_core.specs.Keeping.{Keeps, Gives, LeavesOrCommits, CommitCrash}
 use Rattle.keeper_core.specs.declared.keeper.{Loaded.Loaded, Committed.Committed}
-use Rattle.keeper_sqlite.specs.Told.{Kept, Holds, HoldsBad, IsBookIn, TellsCrash, MayLeave, LeavesBooks, CommitsOn, CommitsBooks}
+use Rattle.keeper_sqlite.specs.Told.{Kept, Holds, HoldsBad, IsBookIn, TellsCrash, MayLeave, CrashLeaves, LeavesBooks, CommitsOn, CommitsBooks}
 use Rattle.book_recovery.specs.Recovery.{HoldsBook, GivesBook, IsUnopened, GivesRows, LeavesABook, LeavesAtMost, Recovers, IsKept, GivesAfter}
 use Rattle.book_recovery.proofs.Left.{one_database}
 use Rattle.book_recovery.proofs.Books.{Book-set}
@@ -100,6 +100,9 @@ module _ {D : Type 0} {g : Ghosts D} (was now : Kept (FileStore D g)) (book : Bo
   gives_either Loaded.Failed found = inl tt
   gives_either Loaded.NoMemory found = inl tt
 
+some_only : {X : Type 0} (x y : X) → Some x ≡ Some y → x ≡ y
+some_only x y e = cc
+
 -- what a load gives after a commit and a stop
 module _ {D : Type 0} {g : Ghosts D} (old new : Kept (FileStore D g)) (batch : Batch) (loaded : Loaded) (book : Book) (kept : IsKept old book) (clean : HasCleanDisk (file_state new.file)) (notes : new.is_beside ≡ old.is_beside)
     (told : (it : Book) → Holds (file_state new.file) new.is_beside it → GivesBook it loaded)
@@ -107,15 +110,15 @@ module _ {D : Type 0} {g : Ghosts D} (old new : Kept (FileStore D g)) (batch : B
   own : new.is_beside ≡ false
   own = notes ∙ kept.told.own
 
-  undone : LeavesBooks (file_state new.file) new.is_beside → LeavesOrCommits (Holds (file_state old.file) old.is_beside) (MayLeave (file_state old.file)) (MayLeave (file_state new.file)) batch
+  undone : LeavesBooks (file_state new.file) new.is_beside → LeavesOrCommits (Holds (file_state old.file) old.is_beside) (CrashLeaves (file_state old.file)) (CrashLeaves (file_state new.file)) batch
       → GivesBook book loaded ⊎ GivesBook (appended book batch) loaded
-  undone books crash = either (own, books) (λ after may. elim (crash book kept.told after may) [
+  undone books crash = either (own, books) (λ after may. elim (crash book kept.told (Some after) may) [
     | inl earlier ↦ inl (kept.alone after earlier)
-    | inr it ↦ inr it
+    | inr it ↦ inr (some_only after (appended book batch) it)
   ])
 
   pub gives_after : (answer : Committed) → CommitsOn (file_state old.file) old.is_beside (file_state new.file) new.is_beside batch answer → CommitsBooks (file_state old.file) old.is_beside (file_state new.file) new.is_beside answer
-      → (TellsCrash (file_state new.file) new.is_beside → CommitCrash (Holds (file_state old.file) old.is_beside) (MayLeave (file_state old.file)) (Holds (file_state new.file) new.is_beside) (MayLeave (file_state new.file)) batch answer)
+      → (TellsCrash (file_state new.file) new.is_beside → CommitCrash (Holds (file_state old.file) old.is_beside) (CrashLeaves (file_state old.file)) (Holds (file_state new.file) new.is_beside) (CrashLeaves (file_state new.file)) batch answer)
       → GivesAfter answer book batch loaded
   gives_after Committed.Done on books crash = told (appended book batch) (on clean book kept.told)
   gives_after Committed.Failed on books crash = undone (books book kept.told kept.books) (crash (clean, own))

@@ -1,4 +1,4 @@
-use Rattle.std.proofs.Common.{IsTrue, sym, subst}
+use Rattle.std.proofs.Common.{IsTrue, Some, sym, subst}
 use Rattle.sqlite_store.specs.Laws.{settled_at}
 use Rattle.sqlite.specs.State.{HasCleanDisk}
 use Rattle.sqlite.specs.Files.{file_state}
@@ -26,7 +26,7 @@ returns-in-Ok-clause-kept g c well rows book told =
     let now = c.load-loaded.new.self in
     let clean = subst (λ (k : Kept _). HasCleanDisk (file_state k.file)) adopted (c.load-loaded.ensures.told well.0).0 in
     let tells : (after : Book) → MayLeave (file_state now.file) after → Holds (file_state now.file) now.is_beside after = λ after may.
-    let was = subst (λ (k : Kept _). MayLeave (file_state k.file) after) adopted (c.load-loaded.ensures.crash well.0 after may) in
+    let was = subst (λ (k : Kept _). MayLeave (file_state k.file) after) adopted (c.load-loaded.ensures.crash well.0 (Some after) may) in
     let told = left_tells c.args.files c.in-Ok.connection (settled_at c.in-Ok.connection.store g.met.D.Disk.seen_may_stay) clean (c.in-Ok.ensures.opened clean) after was in
     (c.load-loaded.ensures.goes_on well.0.0 well.1).book after (subst (λ (k : Kept _). Holds (file_state k.file) k.is_beside after) (sym adopted) told) in
     record { told = told; books = c.load-loaded.ensures.found book told; alone = λ after may. given_once (file_state now.file) now.is_beside c.load-loaded.result rows c.load-loaded.ensures.gives after book (tells after may) told }
