@@ -1,5 +1,5 @@
 -- What a stop may leave of a store's two files holds trees that the store may leave.
-use Rattle.std.proofs.Common.{◌≡◌, Bool, false, IsTrue, refl, sym, ap, subst, ◌∙◌, arith}
+use Rattle.std.proofs.Common.{◌≡◌, Bool, IsTrue, refl, sym, ap, subst, ◌∙◌, arith}
 use Rattle.std.proofs.Math.Logic.{∥∥₁_map}
 use Rattle.sqlite_disk.specs.declared.Disk.{Ghosts}
 use Rattle.sqlite_wal.specs.Recovery.{Image}
@@ -19,7 +19,7 @@ use Rattle.sqlite.specs.Files.{HoldsDatabase}
 use Rattle.sqlite.proofs.OpenLemmas.{pool_files}
 use Rattle.sqlite.proofs.Theorems.{opens_again}
 use Rattle.book_rows.specs.Book.{Book}
-use Rattle.keeper_sqlite.specs.Told.{Holds, MayLeave, LeavesBooks, TellsCrash}
+use Rattle.keeper_sqlite.specs.Told.{Holds, LeavesBooks, TellsCrash}
 use Rattle.book_recovery.specs.Recovery.{HoldsBook, HoldsLeft}
 
 -- trees that are sound under two schemas list one

@@ -4,7 +4,7 @@
 //! returns what was written.
 #![tactic(auto)]
 
-ghost use Rattle.std.specs.Prelude.{◌≡◌, ◌⊎◌, ◌<◌, IsTrue, IfOk, IfErr};
+ghost use Rattle.std.specs.Prelude.{◌⊎◌, ◌<◌, IsTrue, IfOk, IfErr};
 ghost use Rattle.std.specs.Str.{is_utf8};
 ghost use Rattle.sqlite.specs.State.{HasCleanDisk};
 ghost use Rattle.sqlite.specs.Files.{file_state, faults_of, image_of, IsCleanLeft};
