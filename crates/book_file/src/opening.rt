@@ -1,4 +1,4 @@
-ghost use Rattle.std.specs.Prelude.{◌≡◌, ◌⊎◌, true, false, IfOk, IfErr, OnOk, OnErr, Err};
+ghost use Rattle.std.specs.Prelude.{◌≡◌, ◌⊎◌, true, IfOk, IfErr, Err};
 ghost use Rattle.book_file.specs.Opening.{HoldsFewPages, cannot_open, names_no_file, no_memory};
 
 use crate::statuses::error_of;

@@ -1,4 +1,4 @@
-ghost use Rattle.std.specs.Prelude.{◌≡◌, ℕ, true, Some, All};
+ghost use Rattle.std.specs.Prelude.{◌≡◌, true, Some, All};
 ghost use Rattle.book_rows.specs.Book.{Book};
 ghost use Rattle.keeper_core.specs.Keeping.{Keeps};
 ghost use Rattle.applicant_rows.specs.Applicants.{is_fit_row};

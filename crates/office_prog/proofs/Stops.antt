@@ -1,5 +1,5 @@
 -- What a crash may leave of a book to which an input was answered.
-use Rattle.std.proofs.Common.{◌≡◌, ◌⊎◌, inl, inr, ℕ, List, Option, None, Some, IfSome, subst}
+use Rattle.std.proofs.Common.{◌≡◌, inl, inr, ℕ, List, Option, None, Some, IfSome, subst}
 use Rattle.book_rows.specs.Book.{Book}
 use Rattle.applicant_rows.specs.{declared.row.ImportRow.ImportRow, Applicants.applicants_in}
 use Rattle.batch_command.specs.Below.office_step.declared.call.Capacity.{Capacity}

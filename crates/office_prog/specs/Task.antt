@@ -1,5 +1,5 @@
 -- What the words of the command line ask.
-use Rattle.std.specs.Prelude.{◌≤◌, ⊤, Bool, true, false, Option, Some, None, List, map, String, string_bytes}
+use Rattle.std.specs.Prelude.{◌≤◌, ⊤, Bool, true, false, Option, Some, List, map, String, string_bytes}
 use Rattle.std.specs.declared.alloc.Global.{Global}
 use Rattle.std.specs.Option.{option_and_then}
 use Rattle.command_words.specs.{declared.subcommand.Subcommand.Subcommand, Words.subcommand_in}

@@ -1,5 +1,5 @@
 -- What is told and left at the end of a run that opened a book.
-use Rattle.std.proofs.Common.{◌≡◌, ◌⊎◌, inl, inr, Option, Some}
+use Rattle.std.proofs.Common.{◌≡◌, Option, Some}
 use Rattle.book_rows.specs.Book.{Book}
 use Rattle.keeper_core.specs.Keeping.{Keeps, LeavesTold}
 use Rattle.batch_command.specs.Below.clerk_desk.Serving.{TellsOn, Outlives}

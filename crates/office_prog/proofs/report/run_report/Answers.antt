@@ -2,7 +2,7 @@ use Rattle.std.proofs.Common.{refl, inl, inr}
 use Rattle.office_prog.specs.Report.{Reported}
 use Rattle.batch_command.specs.Below.clerk_desk.Serving.{IsLeft}
 use Rattle.program_answers.specs.Opening.{largest}
-use Rattle.program_answers.proofs.Keeping.{opened_tells, unopened_tells, outlives_opened, outlives_alone}
+use Rattle.program_answers.proofs.Keeping.{unopened_tells, outlives_alone}
 use Rattle.program_answers.proofs.Serving.{served}
 use Rattle.office_prog.proofs.report.run_report.Goals as goal
 
