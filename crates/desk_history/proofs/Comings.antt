@@ -11,12 +11,13 @@ use Rattle.book_rows.specs.declared.rows.ActRow.{ActRow}
 use Rattle.desk_history.specs.declared.views.Start.{Start}
 use Rattle.desk_history.specs.declared.views.BookView.{BookView}
 use Rattle.desk_history.specs.declared.views.PassView.{PassView}
+use Rattle.desk_history.specs.declared.views.NoteView.{NoteView}
 use Rattle.desk_history.specs.declared.views.HoldingView.{HoldingView}
 use Rattle.desk_history.specs.declared.views.View.{View}
-use Rattle.desk_history.specs.declared.views.View.TheVariants.{Blank, Free, Holding, Home, Learning, Noted, Spent}
+use Rattle.desk_history.specs.declared.views.View.TheVariants.{Blank, Free, Holding, Home, Learning, Noted, Merging, Spent}
 use Rattle.desk_history.specs.Seen.{entries_of, book_of, holding_of, pass_of}
 use Rattle.desk_history.specs.Moves.{opened, one_handed_out, new_pass, holding, returned}
-use Rattle.desk_history.specs.Rule.{IsHome, IsHeld, Fits, Keeps, Turns}
+use Rattle.desk_history.specs.Rule.{IsNoteOf, IsHome, IsHeld, Fits, Keeps, Turns}
 use Rattle.desk_history.proofs.Steps.{Rule, others_move, at_free, at_holding}
 use Rattle.desk_history.proofs.Fronts.{prefix_self}
 use Rattle.desk_history.proofs.Places.{reset, pushed, moved, moved_here, moved_else, word_set}
@@ -71,6 +72,9 @@ home_numbered book pass home = record {
   left = home.left;
 }
 
+note_numbered : (book : BookView) (note : NoteView) → IsNoteOf book note → IsNoteOf (one_handed_out book) note
+note_numbered book note is = record { start = is.start; front = is.front }
+
 others_numbered : (seat to : ℕ) (book : BookView) (home : ℕ → ℕ) (place : ℕ) (view : View) → place ≢ seat →
     Fits seat book home place view → Fits seat (one_handed_out book) (moved book.next to home) place view
 others_numbered seat to book home place Blank away fits = fits
@@ -81,12 +85,10 @@ others_numbered seat to book home place (Home pass) away fits =
 others_numbered seat to book home place (Learning pass note) away fits = (
   moved_else book.next to home pass.number (λ same. absurd (omega (arith, same, fits.1.high))) ∙ fits.0,
   home_numbered book pass fits.1,
-  record {
-    start = fits.2.start;
-    front = fits.2.front;
-  },
+  note_numbered book note fits.2,
 )
-others_numbered seat to book home place (Noted note) away fits = record { start = fits.start; front = fits.front }
+others_numbered seat to book home place (Noted note) away fits = note_numbered book note fits
+others_numbered seat to book home place (Merging first other) away fits = (note_numbered book first fits.0, note_numbered book other fits.1)
 others_numbered seat to book home place Spent away fits = fits
 
 home_new : (book : BookView) → 1 ≤ book.next → IsHome (one_handed_out book) (new_pass book)

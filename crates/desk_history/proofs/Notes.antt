@@ -1,4 +1,4 @@
--- Notes are written and learned.
+-- Notes are written, learned and merged.
 use Rattle.std.proofs.Common.{◌≡◌, inr, ℕ, [], length, refl, sym, subst, subst₂, ◌∙◌}
 use Rattle.std.specs.Prelude.{slice_set}
 use mathlib.Core.Option.{some}
@@ -9,9 +9,9 @@ use Rattle.desk_history.specs.declared.views.BookView.{BookView}
 use Rattle.desk_history.specs.declared.views.PassView.{PassView}
 use Rattle.desk_history.specs.declared.views.NoteView.{NoteView}
 use Rattle.desk_history.specs.declared.views.View.{View}
-use Rattle.desk_history.specs.declared.views.View.TheVariants.{Home, Learning, Noted, Spent}
-use Rattle.desk_history.specs.Seen.{pass_of, note_of}
-use Rattle.desk_history.specs.Moves.{noted, longer, learned}
+use Rattle.desk_history.specs.declared.views.View.TheVariants.{Home, Learning, Noted, Merging, Spent}
+use Rattle.desk_history.specs.Seen.{pass_of, note_of, other_of}
+use Rattle.desk_history.specs.Moves.{noted, longer, learned, merged}
 use Rattle.desk_history.specs.Rule.{IsNoteOf, IsHome, Fits, Turns}
 use Rattle.desk_history.proofs.Steps.{Rule, is_open}
 use Rattle.desk_history.proofs.Fronts.{IsLonger, longer_is}
@@ -122,3 +122,62 @@ pub reads_note_as : (slots place : ℕ) (me : Me (Unit {0}) View) (want : View) 
 reads_note_as slots place me want pass note is wanted =
     subst₂ (λ (m : Me (Unit {0}) View) (w : View). Allows Rule slots place m 0 (λ n. n) (Turns m w)) (sym is) (sym wanted)
     (reads_note slots place pass note)
+
+-- ---- merging
+
+takes_other : (place other : ℕ) (first second : NoteView) → Joins Rule place (Noted first) other (Noted second) (Merging first second) Spent
+takes_other place other first second = λ s rule at apart there.
+    (let o = is_open s.words s.views place (Noted first) rule (λ e. absurd (cc e)) at in
+    let known : Fits o.0 o.1 o.2 place (Noted first) = o.3.fits place (Noted first) at in
+    let stood : get_elem? s.views other ≡ some (Noted second) = sym (set_else s.views place other (Merging first second) apart) ∙ there in
+    let said : Fits o.0 o.1 o.2 other (Noted second) = o.3.fits other (Noted second) stood in
+    inr (
+      o.0,
+      o.1,
+      o.2,
+      record {
+        word = o.3.word;
+        first = o.3.first;
+        below = o.3.below;
+        fits = reset (Fits o.0 o.1 o.2) (Fits o.0 o.1 o.2) (slice_set s.views place (Merging first second)) other Spent
+            (reset (Fits o.0 o.1 o.2) (Fits o.0 o.1 o.2) s.views place (Merging first second) o.3.fits (λ j v away fits. fits) (known, said))
+            (λ j v away fits. fits)
+            tt;
+      },
+    ))
+
+pub takes_other_as : (place other : ℕ) (me : Me (Unit {0}) View) (view : View) (first second : NoteView) → me ≡ (Noted first, []) → view ≡ Noted second →
+    Joins Rule place me.0 other view (Merging (note_of me.0) (note_of view)) Spent
+takes_other_as place other me view first second is noted_is =
+    subst₂ (λ (m : Me (Unit {0}) View) (v : View). Joins Rule place m.0 other v (Merging (note_of m.0) (note_of v)) Spent) (sym is) (sym noted_is)
+    (takes_other place other first second)
+
+reads_both : (slots place : ℕ) (first second : NoteView) →
+    Allows Rule slots place (Merging first second, []) 0 (λ n. n) (Turns (Merging first second, []) (Noted (merged first second)))
+reads_both slots place first second = λ s rule homes at within.
+    (let o = is_open s.words s.views place (Merging first second) rule (λ e. absurd (cc e)) at in
+    let known : Fits o.0 o.1 o.2 place (Merging first second) = o.3.fits place (Merging first second) at in
+    let both : IsLonger first.list second.list o.1.list = longer_is first.list second.list o.1.list known.0.front known.1.front in (
+      Noted (merged first second),
+      keeps,
+      tt,
+      inr (
+        o.0,
+        o.1,
+        o.2,
+        record {
+          word = word_set s.words (length o.1.list) (length o.1.list) (λ n. n) o.3.word refl;
+          first = o.3.first;
+          below = o.3.below;
+          fits = reset (Fits o.0 o.1 o.2) (Fits o.0 o.1 o.2) s.views place (Noted (merged first second)) o.3.fits (λ j v away fits. fits)
+              (record { start = known.0.start; front = both.front });
+        },
+      ),
+      (refl, (both.first, both.other, known.1.start ∙ sym known.0.start)),
+    ))
+
+pub reads_both_as : (slots place : ℕ) (me : Me (Unit {0}) View) (want : View) (first second : NoteView) → me ≡ (Merging first second, []) →
+    want ≡ Noted (merged first second) → Allows Rule slots place me 0 (λ n. n) (Turns me want)
+reads_both_as slots place me want first second is wanted =
+    subst₂ (λ (m : Me (Unit {0}) View) (w : View). Allows Rule slots place m 0 (λ n. n) (Turns m w)) (sym is) (sym wanted)
+    (reads_both slots place first second)

@@ -13,7 +13,7 @@ use Rattle.desk_history.specs.declared.views.PassView.{PassView}
 use Rattle.desk_history.specs.declared.views.NoteView.{NoteView}
 use Rattle.desk_history.specs.declared.views.HoldingView.{HoldingView}
 use Rattle.desk_history.specs.declared.views.View.{View}
-use Rattle.desk_history.specs.declared.views.View.TheVariants.{Blank, Free, Holding, Home, Learning, Noted, Spent}
+use Rattle.desk_history.specs.declared.views.View.TheVariants.{Blank, Free, Holding, Home, Learning, Noted, Merging, Spent}
 use Rattle.desk_history.specs.Seen.{entries_of}
 use Rattle.desk_history.specs.Moves.{GrowsBy, booked, looked}
 use Rattle.desk_history.specs.Rule.{IsNoteOf, IsHome, IsHeld, Fits, IsOpenAs, IsOpen, Keeps, Turns}
@@ -59,6 +59,8 @@ others_grow number seat old new home grows here place (Home pass) away fits =
 others_grow number seat old new home grows here place (Learning pass note) away fits =
     (fits.0, home_stays number old new pass grows (λ same. away (sym fits.0 ∙ (ap home same ∙ here))) fits.1, note_stays number old new note grows fits.2)
 others_grow number seat old new home grows here place (Noted note) away fits = note_stays number old new note grows fits
+others_grow number seat old new home grows here place (Merging first other) away fits =
+    (note_stays number old new first grows fits.0, note_stays number old new other grows fits.1)
 others_grow number seat old new home grows here place Spent away fits = fits
 
 pub others_move : (number seat from to : ℕ) (book : BookView) (home : ℕ → ℕ) → home number ≡ from →
@@ -71,6 +73,7 @@ others_move number seat from to book home here place (Home pass) away apart fits
 others_move number seat from to book home here place (Learning pass note) away apart fits =
     (moved_else number to home pass.number (λ same. apart (sym fits.0 ∙ (ap home same ∙ here))) ∙ fits.0, fits.1, fits.2)
 others_move number seat from to book home here place (Noted note) away apart fits = fits
+others_move number seat from to book home here place (Merging first other) away apart fits = fits
 others_move number seat from to book home here place Spent away apart fits = fits
 
 -- ---- the seat that steps

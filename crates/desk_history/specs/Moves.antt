@@ -57,6 +57,10 @@ longer first other = if nat_lt (length first) (length other) then other else fir
 abbrev pub learned : PassView → NoteView → PassView
 learned pass note = record { number = pass.number; start = pass.start; list = longer pass.list note.list; found = pass.found; left = pass.left }
 
+-- one note of two: it says what each of them says
+abbrev pub merged : NoteView → NoteView → NoteView
+merged first other = record { start = first.start; list = longer first.list other.list }
+
 -- Between two steps at which the pass of a number is held, a book grows by rows of that number alone. The keeper's faults
 -- don't fall.
 pub record GrowsBy (number : ℕ) (old new : BookView) : Type 0 where

@@ -9,7 +9,7 @@ use Rattle.desk_history.specs.declared.views.PassView.{PassView}
 use Rattle.desk_history.specs.declared.views.NoteView.{NoteView}
 use Rattle.desk_history.specs.declared.views.HoldingView.{HoldingView}
 use Rattle.desk_history.specs.declared.views.View.{View}
-use Rattle.desk_history.specs.declared.views.View.TheVariants.{Blank, Free, Holding, Home, Learning, Noted, Spent}
+use Rattle.desk_history.specs.declared.views.View.TheVariants.{Blank, Free, Holding, Home, Learning, Noted, Merging, Spent}
 use Rattle.desk_history.specs.Seen.{entries_of}
 use Rattle.desk_history.specs.Moves.{longer}
 
@@ -48,6 +48,7 @@ Fits seat book home place (Holding held) = (place ≡ seat) × (held.book ≡ bo
 Fits seat book home place (Home pass) = (home pass.number ≡ place) × IsHome book pass
 Fits seat book home place (Learning pass note) = (home pass.number ≡ place) × IsHome book pass × IsNoteOf book note
 Fits seat book home place (Noted note) = IsNoteOf book note
+Fits seat book home place (Merging first other) = IsNoteOf book first × IsNoteOf book other
 Fits seat book home place Spent = Unit {0}
 
 -- the number that threads share is that of the book's rows, every row is of a pass that there is, and every view fits
@@ -72,6 +73,10 @@ Tells (Learning pass note) found =
     × IsPrefix note.list (longer pass.list note.list)
     × (entries_of pass.number (longer pass.list note.list) ≡ entries_of pass.number pass.list)
     × (note.start ≡ pass.start)
+Tells (Merging first other) found =
+    IsPrefix first.list (longer first.list other.list)
+    × IsPrefix other.list (longer first.list other.list)
+    × (other.start ≡ first.start)
 Tells _ found = Unit {0}
 
 -- the step to a view that is wanted

@@ -8,7 +8,7 @@ use Rattle.desk_history.specs.declared.views.PassView.{PassView}
 use Rattle.desk_history.specs.declared.views.NoteView.{NoteView}
 use Rattle.desk_history.specs.declared.views.HoldingView.{HoldingView}
 use Rattle.desk_history.specs.declared.views.View.{View}
-use Rattle.desk_history.specs.declared.views.View.TheVariants.{Free, Holding, Home, Learning, Noted}
+use Rattle.desk_history.specs.declared.views.View.TheVariants.{Free, Holding, Home, Learning, Noted, Merging}
 
 -- the entries of a number: the rows of that session, in the order in which they came
 abbrev pub entries_of : ℕ → List ActRow → List ActRow
@@ -56,7 +56,12 @@ pass_of _ = no_pass
 abbrev pub note_of : View → NoteView
 note_of (Noted note) = note
 note_of (Learning pass note) = note
+note_of (Merging first other) = first
 note_of _ = no_note
+
+abbrev pub other_of : View → NoteView
+other_of (Merging first other) = other
+other_of _ = no_note
 
 -- of the views of a badge, of which there is one
 abbrev pub pass_in : List View → PassView

@@ -74,6 +74,8 @@ pub enum View {
     /// A pass that is about to learn what a note says.
     Learning(PassView, NoteView),
     Noted(NoteView),
+    /// Two notes that are about to become one.
+    Merging(NoteView, NoteView),
     /// What it knew is another seat's now.
     Spent,
 }

@@ -4,7 +4,7 @@ ghost use Rattle.office_core.specs.Below.office_answers.{Answered.Answers, Answe
 ghost use Rattle.office_core.specs.Below.office_step.Step.{is_fit_call};
 ghost use Rattle.clerk_desk.specs.Serving.{ReplyCause};
 ghost use Rattle.desk_history.specs.Laws.{GoesOn};
-ghost use Rattle.desk_history.specs.Moves.{noted, learned};
+ghost use Rattle.desk_history.specs.Moves.{noted, learned, merged};
 ghost use Rattle.desk_history.specs.Seen.{entries_of, point_of};
 ghost use Rattle.shared_desk.specs.History.{IsLegalHistory, tables_at};
 ghost use Rattle.shared_desk.specs.Calls.{IsCalled, KnowsMore};
@@ -12,7 +12,7 @@ ghost use Rattle.shared_desk.specs.Calls.{IsCalled, KnowsMore};
 use crate::locked::{AskOutcome, Locked, Outcome};
 use crate::naming::Naming;
 use crate::pass::{Note, Pass};
-use desk_history::{HistoryTable, learn, write_note};
+use desk_history::{HistoryTable, learn, merge, write_note};
 use keeper_core::Keeper;
 use office_core::{Call, Question};
 use office_io::Clock;
@@ -110,6 +110,22 @@ impl<K: Keeper + Drop, B: Naming> SharedDesk<K, B> {
         learn(&self.history.shared, &mut pass.badge, badge);
         if pass.seen < seen {
             pass.seen = seen;
+        }
+    }
+
+    /// Makes one note of two: of what they say the longer, which the other begins. It doesn't wait.
+    pub fn merge(&self, first: Note<B>, other: Note<B>) -> Note<B>
+        ensures note { result ≡ merged first other }
+        ensures front { IsPrefix first.list result.list }
+        ensures told { IsPrefix other.list result.list }
+        ensures start { other.start ≡ first.start }
+    {
+        let badge = merge(&self.history.shared, first.badge, other.badge);
+        let seen = first.seen.max(other.seen);
+        Note {
+            badge,
+            seen,
+            of: PhantomData,
         }
     }
 }
