@@ -76,6 +76,9 @@ fn by_three_threads<B: Naming + Send, R: Abort + Wait + Threads + Sync>(
     let note = shared.note(&mut third);
     shared.learn(&mut first, note);
     assert!(rt; first.seen() == 10);
+    let note = shared.merge(shared.note(&mut first), shared.note(&mut third));
+    shared.learn(&mut second, note);
+    assert!(rt; second.seen() == 10);
     assert!(rt; by_sessions(desk.finish(first)) == (10, 4, 3, 3));
 }
 
