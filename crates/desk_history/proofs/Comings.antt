@@ -8,6 +8,7 @@ use Rattle.std.proofs.lemmas.List.Elements.{All-nil}
 use Rattle.atomic_table.specs.Table.{Me, Allows, Splits, Joins, keeps}
 use Rattle.atomic_table.proofs.Lists.{set_else}
 use Rattle.book_rows.specs.declared.rows.ActRow.{ActRow}
+use Rattle.book_rows.specs.declared.rows.Batch.{Batch}
 use Rattle.desk_history.specs.declared.views.Start.{Start}
 use Rattle.desk_history.specs.declared.views.BookView.{BookView}
 use Rattle.desk_history.specs.declared.views.PassView.{PassView}
@@ -17,9 +18,10 @@ use Rattle.desk_history.specs.declared.views.View.{View}
 use Rattle.desk_history.specs.declared.views.View.TheVariants.{Blank, Free, Holding, Home, Learning, Noted, Merging, Spent}
 use Rattle.desk_history.specs.Seen.{entries_of, book_of, holding_of, pass_of}
 use Rattle.desk_history.specs.Moves.{opened, one_handed_out, new_pass, holding, returned}
-use Rattle.desk_history.specs.Rule.{IsNoteOf, IsHome, IsHeld, Fits, Keeps, Turns}
+use Rattle.desk_history.specs.Rule.{IsNoteOf, IsHome, IsHeld, AreOfPasses, Fits, Keeps, Turns}
 use Rattle.desk_history.proofs.Steps.{Rule, others_move, at_free, at_holding}
 use Rattle.desk_history.proofs.Fronts.{prefix_self}
+use Rattle.desk_history.proofs.Entries.{of_rows, those_none}
 use Rattle.desk_history.proofs.Places.{reset, pushed, moved, moved_here, moved_else, word_set}
 
 -- ---- opening
@@ -46,6 +48,7 @@ opens slots place start faults = λ s rule homes at within.
             word = word_set words 0 0 (λ n. n) new.0 refl;
             first = omega arith;
             below = All-nil (λ (row : ActRow). row.session < 1);
+            tried = All-nil (λ (rows : Batch). (1 ≤ rows.act.session) × (rows.act.session < 1));
             fits = reset (λ j v. j ≡ place) (Fits place (opened start faults) (λ n. n)) views place (Free (opened start faults))
                 (λ j v there. first j v (subst (λ (l : List View). get_elem? l j ≡ some v) new.1 there) ∙ sym here)
                 (λ j v away same. absurd (away same))
@@ -68,6 +71,7 @@ home_numbered book pass home = record {
   low = home.low;
   high = omega (arith, home.high);
   own = home.own;
+  tried = home.tried;
   found = home.found;
   left = home.left;
 }
@@ -91,13 +95,14 @@ others_numbered seat to book home place (Noted note) away fits = note_numbered b
 others_numbered seat to book home place (Merging first other) away fits = (note_numbered book first fits.0, note_numbered book other fits.1)
 others_numbered seat to book home place Spent away fits = fits
 
-home_new : (book : BookView) → 1 ≤ book.next → IsHome (one_handed_out book) (new_pass book)
-home_new book some_number = record {
+home_new : (book : BookView) → 1 ≤ book.next → AreOfPasses book.next book.tried → IsHome (one_handed_out book) (new_pass book)
+home_new book some_number of_passes = record {
   start = refl;
   front = prefix_self book.list;
   low = some_number;
   high = omega arith;
   own = refl;
+  tried = those_none of_rows book.next book.tried (λ i d within. (let known = of_passes i d within in λ same. absurd (omega (arith, same, known.1))));
   found = omega arith;
   left = omega arith;
 }
@@ -115,12 +120,13 @@ hands_out place book = λ s rule at.
         word = here.open_as.word;
         first = omega arith;
         below = λ i d within. (let known = here.open_as.below i d within in omega (arith, known));
+        tried = λ i d within. (let known = here.open_as.tried i d within in (known.0, omega (arith, known.1)));
         fits = pushed (Fits place (one_handed_out book) home) (Fits place (one_handed_out book) home) views (Home (new_pass book))
             (reset (Fits place book here.home) (Fits place (one_handed_out book) home) s.views place (Free (one_handed_out book)) here.open_as.fits
             (λ j v away fits. others_numbered place (length views) book here.home j v away fits)
             (refl, refl))
             (λ j v fits. fits)
-            (moved_here book.next (length views) here.home, home_new book here.open_as.first);
+            (moved_here book.next (length views) here.home, home_new book here.open_as.first here.open_as.tried);
       },
     ))
 
@@ -138,6 +144,7 @@ held_new book pass home = record {
   low = home.low;
   high = home.high;
   own = home.own ∙ sym (append-nil (entries_of pass.number pass.list));
+  tried = home.tried ∙ sym (append-nil pass.tried);
   left = home.left;
   found = omega arith;
 }
@@ -156,6 +163,7 @@ comes_in place other book pass = λ s rule at apart there.
         word = here.open_as.word;
         first = here.open_as.first;
         below = here.open_as.below;
+        tried = here.open_as.tried;
         fits = reset (λ j v. j ≢ other → Fits place book home j v) (Fits place book home) (slice_set s.views place (Holding (holding book pass))) other Spent
             (reset (Fits place book here.home) (λ j v. j ≢ other → Fits place book home j v) s.views place (Holding (holding book pass)) here.open_as.fits
             (λ j v away fits elsewhere. others_move pass.number place other place book here.home known.0 j v away elsewhere fits)
@@ -180,6 +188,7 @@ home_returned held is = record {
   low = is.low;
   high = is.high;
   own = refl;
+  tried = is.tried;
   found = is.found;
   left = omega arith;
 }
@@ -197,6 +206,7 @@ goes_back place held = λ s rule at.
         word = here.open_as.word;
         first = here.open_as.first;
         below = here.open_as.below;
+        tried = here.open_as.tried;
         fits = pushed (Fits place held.book home) (Fits place held.book home) views (Home (returned held))
             (reset (Fits place held.book here.home) (Fits place held.book home) s.views place (Free held.book) here.open_as.fits
             (λ j v away fits. others_move held.pass.number place place (length views) held.book here.home here.here j v away away fits)

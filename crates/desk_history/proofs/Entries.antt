@@ -1,39 +1,51 @@
--- The entries of a number.
+-- Those of a list that have a number by a key, as the entries and the tries of a number.
 use Rattle.std.proofs.Common.{◌≡◌, ◌≢◌, ℕ, List, [], ◌∷◌, ◌++◌, refl, ap, sym, ◌∙◌, append_assoc}
-use Rattle.std.specs.Prelude.{◌==◌, All}
+use Rattle.std.specs.Prelude.{◌==◌, All, filter}
 use mathlib.Core.List.{IsPrefix}
 use Rattle.std.proofs.lemmas.Bool.{eq-eqb, ne_eqb}
 use Rattle.std.proofs.lemmas.List.{append-nil}
 use Rattle.std.proofs.lemmas.List.Elements.{All-head, All-tail, filter-append}
 use Rattle.book_rows.specs.declared.rows.ActRow.{ActRow}
+use Rattle.book_rows.specs.declared.rows.Batch.{Batch}
 use Rattle.desk_history.specs.Seen.{entries_of}
 
-pub entries_append : (number : ℕ) (xs ys : List ActRow) → entries_of number (xs ++ ys) ≡ entries_of number xs ++ entries_of number ys
-entries_append number xs ys = filter-append (λ (row : ActRow). row.session == number) xs ys
+-- the key of an entry
+abbrev pub of_row : ActRow → ℕ
+of_row row = row.session
 
--- rows of a number are its entries
-pub entries_own : (number : ℕ) (rows : List ActRow) → All (λ row. row.session ≡ number) rows → entries_of number rows ≡ rows
-entries_own number [] own = refl
-entries_own number (x ∷ xs) own =
-    rw (eq-eqb x.session number (All-head (λ (row : ActRow). row.session ≡ number) x xs own))
-    (ap (λ (rest : List ActRow). x ∷ rest) (entries_own number xs (All-tail (λ (row : ActRow). row.session ≡ number) x xs own)))
+-- and of a try
+abbrev pub of_rows : Batch → ℕ
+of_rows rows = rows.act.session
 
--- and rows of other numbers aren't
-pub entries_none : (number : ℕ) (rows : List ActRow) → All (λ row. row.session ≢ number) rows → entries_of number rows ≡ []
-entries_none number [] other = refl
-entries_none number (x ∷ xs) other =
-    rw (ne_eqb x.session number (All-head (λ (row : ActRow). row.session ≢ number) x xs other))
-    (entries_none number xs (All-tail (λ (row : ActRow). row.session ≢ number) x xs other))
+module _ {A : Type 0} (key : A → ℕ) (number : ℕ) where
+  abbrev pub those_of : List A → List A
+  those_of list = filter (λ x. key x == number) list
 
--- rows of another number leave the entries
-pub entries_stay : (number : ℕ) (list rows : List ActRow) → All (λ row. row.session ≢ number) rows → entries_of number (list ++ rows) ≡ entries_of number list
-entries_stay number list rows other =
-    entries_append number list rows ∙ (ap (λ (w : List ActRow). entries_of number list ++ w) (entries_none number rows other) ∙ append-nil (entries_of number list))
+  pub those_append : (xs ys : List A) → those_of (xs ++ ys) ≡ those_of xs ++ those_of ys
+  those_append xs ys = filter-append (λ (x : A). key x == number) xs ys
 
--- rows of the number are further entries
-pub entries_more : (number : ℕ) (list rows : List ActRow) → All (λ row. row.session ≡ number) rows → entries_of number (list ++ rows) ≡ entries_of number list ++ rows
-entries_more number list rows own =
-    entries_append number list rows ∙ ap (λ (w : List ActRow). entries_of number list ++ w) (entries_own number rows own)
+  -- where all have the number, those are all
+  pub those_own : (xs : List A) → All (λ x. key x ≡ number) xs → those_of xs ≡ xs
+  those_own [] own = refl
+  those_own (x ∷ xs) own =
+      rw (eq-eqb (key x) number (All-head (λ (y : A). key y ≡ number) x xs own))
+      (ap (λ (rest : List A). x ∷ rest) (those_own xs (All-tail (λ (y : A). key y ≡ number) x xs own)))
+
+  -- and where none has it, those are none
+  pub those_none : (xs : List A) → All (λ x. key x ≢ number) xs → those_of xs ≡ []
+  those_none [] other = refl
+  those_none (x ∷ xs) other =
+      rw (ne_eqb (key x) number (All-head (λ (y : A). key y ≢ number) x xs other))
+      (those_none xs (All-tail (λ (y : A). key y ≢ number) x xs other))
+
+  -- what is of another number leaves them
+  pub those_stay : (xs ys : List A) → All (λ x. key x ≢ number) ys → those_of (xs ++ ys) ≡ those_of xs
+  those_stay xs ys other =
+      those_append xs ys ∙ (ap (λ (w : List A). those_of xs ++ w) (those_none ys other) ∙ append-nil (those_of xs))
+
+  -- what is of the number is added to them
+  pub those_more : (xs ys : List A) → All (λ x. key x ≡ number) ys → those_of (xs ++ ys) ≡ those_of xs ++ ys
+  those_more xs ys own = those_append xs ys ∙ ap (λ (w : List A). those_of xs ++ w) (those_own ys own)
 
 nothing_more : {A : Type 0} (xs ys : List A) → xs ++ ys ≡ xs → ys ≡ []
 nothing_more [] ys same = same
@@ -50,7 +62,7 @@ entries_between number xs ys zs p q same =
     let E : List ActRow → List ActRow = entries_of number in
     let whole : E xs ++ (E p.0 ++ E q.0) ≡ E xs =
     sym (append_assoc (E xs) (E p.0) (E q.0))
-    ∙ (ap (λ (w : List ActRow). w ++ E q.0) (sym (entries_append number xs p.0) ∙ ap E p.1)
-    ∙ (sym (entries_append number ys q.0) ∙ (ap E q.1 ∙ same))) in
+    ∙ (ap (λ (w : List ActRow). w ++ E q.0) (sym (those_append of_row number xs p.0) ∙ ap E p.1)
+    ∙ (sym (those_append of_row number ys q.0) ∙ (ap E q.1 ∙ same))) in
     let none : E p.0 ≡ [] = front_is_empty (E p.0) (E q.0) (nothing_more (E xs) (E p.0 ++ E q.0) whole) in
-    ap E (sym p.1) ∙ (entries_append number xs p.0 ∙ (ap (λ (w : List ActRow). E xs ++ w) none ∙ append-nil (E xs)))
+    ap E (sym p.1) ∙ (those_append of_row number xs p.0 ∙ (ap (λ (w : List ActRow). E xs ++ w) none ∙ append-nil (E xs)))

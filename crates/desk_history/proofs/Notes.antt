@@ -33,6 +33,7 @@ writes_note place pass = λ s rule at.
         word = o.3.word;
         first = o.3.first;
         below = o.3.below;
+        tried = o.3.tried;
         fits = pushed (Fits o.0 o.1 o.2) (Fits o.0 o.1 o.2) (slice_set s.views place (Home pass)) (Noted (noted pass))
             (reset (Fits o.0 o.1 o.2) (Fits o.0 o.1 o.2) s.views place (Home pass) o.3.fits (λ j v away fits. fits) known)
             (λ j v fits. fits)
@@ -59,6 +60,7 @@ takes_note place other pass note = λ s rule at apart there.
         word = o.3.word;
         first = o.3.first;
         below = o.3.below;
+        tried = o.3.tried;
         fits = reset (Fits o.0 o.1 o.2) (Fits o.0 o.1 o.2) (slice_set s.views place (Learning pass note)) other Spent
             (reset (Fits o.0 o.1 o.2) (Fits o.0 o.1 o.2) s.views place (Learning pass note) o.3.fits (λ j v away fits. fits) (known.0, known.1, said))
             (λ j v away fits. fits)
@@ -81,6 +83,7 @@ home_learned book pass note home is =
       low = home.low;
       high = home.high;
       own = home.own ∙ sym (entries_between pass.number pass.list (longer pass.list note.list) book.list both.first both.front home.own);
+      tried = home.tried;
       found = home.found;
       left = home.left;
     }
@@ -102,6 +105,7 @@ reads_note slots place pass note = λ s rule homes at within.
           word = word_set s.words (length o.1.list) (length o.1.list) (λ n. n) o.3.word refl;
           first = o.3.first;
           below = o.3.below;
+          tried = o.3.tried;
           fits = reset (Fits o.0 o.1 o.2) (Fits o.0 o.1 o.2) s.views place (Home (learned pass note)) o.3.fits (λ j v away fits. fits)
               (known.0, home_learned o.1 pass note known.1 known.2);
         },
@@ -139,6 +143,7 @@ takes_other place other first second = λ s rule at apart there.
         word = o.3.word;
         first = o.3.first;
         below = o.3.below;
+        tried = o.3.tried;
         fits = reset (Fits o.0 o.1 o.2) (Fits o.0 o.1 o.2) (slice_set s.views place (Merging first second)) other Spent
             (reset (Fits o.0 o.1 o.2) (Fits o.0 o.1 o.2) s.views place (Merging first second) o.3.fits (λ j v away fits. fits) (known, said))
             (λ j v away fits. fits)
@@ -169,6 +174,7 @@ reads_both slots place first second = λ s rule homes at within.
           word = word_set s.words (length o.1.list) (length o.1.list) (λ n. n) o.3.word refl;
           first = o.3.first;
           below = o.3.below;
+          tried = o.3.tried;
           fits = reset (Fits o.0 o.1 o.2) (Fits o.0 o.1 o.2) s.views place (Noted (merged first second)) o.3.fits (λ j v away fits. fits)
               (record { start = known.0.start; front = both.front });
         },

@@ -8,17 +8,18 @@ use Rattle.std.proofs.lemmas.List.{append-nil}
 use Rattle.std.proofs.lemmas.List.Elements.{All-nil, All-cons, All-append}
 use Rattle.atomic_table.specs.Table.{State, Me, Allows, keeps}
 use Rattle.book_rows.specs.declared.rows.ActRow.{ActRow}
+use Rattle.book_rows.specs.declared.rows.Batch.{Batch}
 use Rattle.desk_history.specs.declared.views.BookView.{BookView}
 use Rattle.desk_history.specs.declared.views.PassView.{PassView}
 use Rattle.desk_history.specs.declared.views.NoteView.{NoteView}
 use Rattle.desk_history.specs.declared.views.HoldingView.{HoldingView}
 use Rattle.desk_history.specs.declared.views.View.{View}
 use Rattle.desk_history.specs.declared.views.View.TheVariants.{Blank, Free, Holding, Home, Learning, Noted, Merging, Spent}
-use Rattle.desk_history.specs.Seen.{entries_of}
-use Rattle.desk_history.specs.Moves.{GrowsBy, booked, looked}
-use Rattle.desk_history.specs.Rule.{IsNoteOf, IsHome, IsHeld, Fits, IsOpenAs, IsOpen, Keeps, Turns}
+use Rattle.desk_history.specs.Seen.{entries_of, tries_of}
+use Rattle.desk_history.specs.Moves.{GrowsBy, booked, looked, unkept}
+use Rattle.desk_history.specs.Rule.{IsNoteOf, IsHome, IsHeld, AreOfPasses, Fits, IsOpenAs, IsOpen, Keeps, Turns}
 use Rattle.desk_history.proofs.Fronts.{prefix_more}
-use Rattle.desk_history.proofs.Entries.{entries_stay, entries_more}
+use Rattle.desk_history.proofs.Entries.{of_row, of_rows, those_stay, those_more}
 use Rattle.desk_history.proofs.Places.{reset, moved, moved_else, word_set, word_found}
 
 abbrev pub Rule : State (Unit {0}) View → Type 0
@@ -26,8 +27,8 @@ Rule s = Keeps s.words s.views
 
 -- ---- what stays with the others
 
-more_rows : (p : ActRow → Type 0) (q : ActRow → Type 0) → ((row : ActRow) → p row → q row) → (rows : List ActRow) → All p rows → All q rows
-more_rows p q each rows all = λ i d within. each _ (all i d within)
+all_more : {A : Type 0} (p q : A → Type 0) → ((x : A) → p x → q x) → (xs : List A) → All p xs → All q xs
+all_more p q each xs all = λ i d within. each _ (all i d within)
 
 pub home_stays : (number : ℕ) (old new : BookView) (pass : PassView) → GrowsBy number old new → pass.number ≢ number → IsHome old pass → IsHome new pass
 home_stays number old new pass grows other home = record {
@@ -36,9 +37,13 @@ home_stays number old new pass grows other home = record {
   low = home.low;
   high = subst (λ (n : ℕ). pass.number < n) (sym grows.next) home.high;
   own = ap (entries_of pass.number) grows.list
-      ∙ (entries_stay pass.number old.list grows.rows
-      (more_rows (λ row. row.session ≡ number) (λ row. row.session ≢ pass.number) (λ row is same. other (sym same ∙ is)) grows.rows grows.own)
+      ∙ (those_stay of_row pass.number old.list grows.rows
+      (all_more (λ (row : ActRow). row.session ≡ number) (λ row. row.session ≢ pass.number) (λ row is same. other (sym same ∙ is)) grows.rows grows.own)
       ∙ home.own);
+  tried = ap (tries_of pass.number) grows.tried
+      ∙ (those_stay of_rows pass.number old.tried grows.tries
+      (all_more (λ (rows : Batch). rows.act.session ≡ number) (λ rows. rows.act.session ≢ pass.number) (λ rows is same. other (sym same ∙ is)) grows.tries grows.own_tries)
+      ∙ home.tried);
   found = home.found;
   left = omega (arith, home.left, grows.faults);
 }
@@ -116,7 +121,7 @@ at_holding words views place held rule at =
       kept = fits.3;
     }
 
--- ---- append and look
+-- ---- append, look and write a try
 
 held_grows : (words now : List ℕ) (views : List View) (place : ℕ) (held after : HoldingView) (at : IsHoldingAt words views place held) →
     after.pass ≡ held.pass → GrowsBy held.pass.number held.book after.book → IsHeld after → now ≡ length after.book.list ∷ [] →
@@ -131,8 +136,12 @@ held_grows words now views place held after at pass grows is_held word =
         first = subst (λ (n : ℕ). 1 ≤ n) (sym grows.next) at.open_as.first;
         below = subst₂ (λ (n : ℕ) (list : List ActRow). All (λ row. row.session < n) list) (sym grows.next) (sym grows.list)
             (All-append (λ (row : ActRow). row.session < held.book.next) held.book.list grows.rows at.open_as.below
-            (more_rows (λ row. row.session ≡ held.pass.number) (λ row. row.session < held.book.next)
+            (all_more (λ (row : ActRow). row.session ≡ held.pass.number) (λ row. row.session < held.book.next)
             (λ row is. subst (λ (n : ℕ). n < held.book.next) (sym is) at.kept.high) grows.rows grows.own));
+        tried = subst₂ (λ (n : ℕ) (tried : List Batch). AreOfPasses n tried) (sym grows.next) (sym grows.tried)
+            (All-append (λ (rows : Batch). (1 ≤ rows.act.session) × (rows.act.session < held.book.next)) held.book.tried grows.tries at.open_as.tried
+            (all_more (λ (rows : Batch). rows.act.session ≡ held.pass.number) (λ rows. (1 ≤ rows.act.session) × (rows.act.session < held.book.next))
+            (λ rows is. subst (λ (n : ℕ). (1 ≤ n) × (n < held.book.next)) (sym is) (at.kept.low, at.kept.high)) grows.tries grows.own_tries));
         fits = reset (Fits place held.book at.home) (Fits place after.book at.home) views place (Holding after) at.open_as.fits
             (λ j v away fits. others_grow held.pass.number place held.book after.book at.home grows at.here j v away fits)
             (refl, refl, ap (λ (p : PassView). at.home p.number) pass ∙ at.here, is_held);
@@ -148,6 +157,9 @@ booked_grows held row own = record {
   rows = row ∷ [];
   list = refl;
   own = one_own held.pass.number row own;
+  tries = [];
+  tried = sym (append-nil held.book.tried);
+  own_tries = All-nil (λ (r : Batch). r.act.session ≡ held.pass.number);
   next = refl;
   faults = omega arith;
 }
@@ -158,6 +170,26 @@ looked_grows held faults rose = record {
   rows = [];
   list = sym (append-nil held.book.list);
   own = All-nil (λ (r : ActRow). r.session ≡ held.pass.number);
+  tries = [];
+  tried = sym (append-nil held.book.tried);
+  own_tries = All-nil (λ (r : Batch). r.act.session ≡ held.pass.number);
+  next = refl;
+  faults = rose;
+}
+
+one_try : (number : ℕ) (rows : Batch) → rows.act.session ≡ number → All (λ r. r.act.session ≡ number) (rows ∷ [])
+one_try number rows own = All-cons (λ (r : Batch). r.act.session ≡ number) rows [] own (All-nil (λ (r : Batch). r.act.session ≡ number))
+
+pub unkept_grows : (held : HoldingView) (rows : Batch) (faults : ℕ) → rows.act.session ≡ held.pass.number → held.book.faults ≤ faults →
+    GrowsBy held.pass.number held.book (unkept held rows faults).book
+unkept_grows held rows faults own rose = record {
+  start = refl;
+  rows = [];
+  list = sym (append-nil held.book.list);
+  own = All-nil (λ (r : ActRow). r.session ≡ held.pass.number);
+  tries = rows ∷ [];
+  tried = refl;
+  own_tries = one_try held.pass.number rows own;
   next = refl;
   faults = rose;
 }
@@ -168,8 +200,9 @@ held_booked held row own is = record {
   front = prefix_more held.pass.list held.book.list (row ∷ []) is.front;
   low = is.low;
   high = is.high;
-  own = entries_more held.pass.number held.book.list (row ∷ []) (one_own held.pass.number row own)
+  own = those_more of_row held.pass.number held.book.list (row ∷ []) (one_own held.pass.number row own)
       ∙ (ap (λ (w : List ActRow). w ++ row ∷ []) is.own ∙ append_assoc (entries_of held.pass.number held.pass.list) held.since (row ∷ []));
+  tried = is.tried;
   left = is.left;
   found = is.found;
 }
@@ -181,6 +214,21 @@ held_looked held faults rose is = record {
   low = is.low;
   high = is.high;
   own = is.own;
+  tried = is.tried;
+  left = is.left;
+  found = omega (arith, is.found, rose);
+}
+
+pub held_unkept : (held : HoldingView) (rows : Batch) (faults : ℕ) → rows.act.session ≡ held.pass.number → held.book.faults ≤ faults → IsHeld held →
+    IsHeld (unkept held rows faults)
+held_unkept held rows faults own rose is = record {
+  start = is.start;
+  front = is.front;
+  low = is.low;
+  high = is.high;
+  own = is.own;
+  tried = those_more of_rows held.pass.number held.book.tried (rows ∷ []) (one_try held.pass.number rows own)
+      ∙ (ap (λ (w : List Batch). w ++ rows ∷ []) is.tried ∙ append_assoc held.pass.tried held.tries (rows ∷ []));
   left = is.left;
   found = omega (arith, is.found, rose);
 }
@@ -196,7 +244,7 @@ books slots place held row own few = λ s rule homes at within.
           (booked_grows held row own) (held_booked held row own here.kept)
           (word_set s.words (length held.book.list) (length (held.book.list ++ row ∷ [])) (λ n. (n + 1) % 2 ^ 64) here.open_as.word
           (omega (arith, few, length-append held.book.list (row ∷ [])))),
-      (refl, (here.kept, word_found s.words (length held.book.list) here.open_as.word)),
+      (refl, (here.kept, here.open_as.tried, word_found s.words (length held.book.list) here.open_as.word)),
     ))
 
 pub books_as : (slots place : ℕ) (me : Me (Unit {0}) View) (want : View) (held : HoldingView) (row : ActRow) → me ≡ (Holding held, []) →
@@ -216,7 +264,7 @@ looks slots place held faults rose = λ s rule homes at within.
       held_grows s.words (slice_set s.words 0 (slice_index s.words 0)) s.views place held (looked held faults) here refl
           (looked_grows held faults rose) (held_looked held faults rose here.kept)
           (word_set s.words (length held.book.list) (length held.book.list) (λ n. n) here.open_as.word refl),
-      (refl, (here.kept, word_found s.words (length held.book.list) here.open_as.word)),
+      (refl, (here.kept, here.open_as.tried, word_found s.words (length held.book.list) here.open_as.word)),
     ))
 
 pub looks_as : (slots place : ℕ) (me : Me (Unit {0}) View) (want : View) (held : HoldingView) (faults : ℕ) → me ≡ (Holding held, []) →
@@ -224,3 +272,23 @@ pub looks_as : (slots place : ℕ) (me : Me (Unit {0}) View) (want : View) (held
 looks_as slots place me want held faults is rose wanted =
     subst₂ (λ (m : Me (Unit {0}) View) (w : View). Allows Rule slots place m 0 (λ n. n) (Turns m w)) (sym is) (sym wanted)
     (looks slots place held faults rose)
+
+tries : (slots place : ℕ) (held : HoldingView) (rows : Batch) (faults : ℕ) → rows.act.session ≡ held.pass.number → held.book.faults ≤ faults →
+    Allows Rule slots place (Holding held, []) 0 (λ n. n) (Turns (Holding held, []) (Holding (unkept held rows faults)))
+tries slots place held rows faults own rose = λ s rule homes at within.
+    (let here = at_holding s.words s.views place held rule at in (
+      Holding (unkept held rows faults),
+      keeps,
+      tt,
+      held_grows s.words (slice_set s.words 0 (slice_index s.words 0)) s.views place held (unkept held rows faults) here refl
+          (unkept_grows held rows faults own rose) (held_unkept held rows faults own rose here.kept)
+          (word_set s.words (length held.book.list) (length held.book.list) (λ n. n) here.open_as.word refl),
+      (refl, (here.kept, here.open_as.tried, word_found s.words (length held.book.list) here.open_as.word)),
+    ))
+
+pub tries_as : (slots place : ℕ) (me : Me (Unit {0}) View) (want : View) (held : HoldingView) (rows : Batch) (faults : ℕ) → me ≡ (Holding held, []) →
+    rows.act.session ≡ held.pass.number → held.book.faults ≤ faults → want ≡ Holding (unkept held rows faults) →
+    Allows Rule slots place me 0 (λ n. n) (Turns me want)
+tries_as slots place me want held rows faults is own rose wanted =
+    subst₂ (λ (m : Me (Unit {0}) View) (w : View). Allows Rule slots place m 0 (λ n. n) (Turns m w)) (sym is) (sym wanted)
+    (tries slots place held rows faults own rose)

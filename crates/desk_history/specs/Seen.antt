@@ -1,6 +1,7 @@
 -- What is seen of a history.
 use Rattle.std.specs.Prelude.{ℕ, ◌+◌, ◌==◌, List, [], ◌∷◌, length, filter}
 use Rattle.book_rows.specs.declared.rows.ActRow.{ActRow}
+use Rattle.book_rows.specs.declared.rows.Batch.{Batch}
 use Rattle.book_rows.specs.Book.{Book}
 use Rattle.desk_history.specs.declared.views.Start.{Start}
 use Rattle.desk_history.specs.declared.views.BookView.{BookView}
@@ -13,6 +14,10 @@ use Rattle.desk_history.specs.declared.views.View.TheVariants.{Free, Holding, Ho
 -- the entries of a number: the rows of that session, in the order in which they came
 abbrev pub entries_of : ℕ → List ActRow → List ActRow
 entries_of number list = filter (λ row. row.session == number) list
+
+-- the tries of a number: of what was tried, the rows of the acts of that session
+abbrev pub tries_of : ℕ → List Batch → List Batch
+tries_of number tried = filter (λ rows. rows.act.session == number) tried
 
 -- the point that a pass has seen: the number of acts in the book that it knows
 abbrev pub point_of : PassView → ℕ
@@ -32,10 +37,10 @@ abbrev pub no_start : Start
 no_start = start_on (record { acts = []; records = []; lines = [] }) 0 0
 
 abbrev pub no_book : BookView
-no_book = record { start = no_start; list = []; next = 0; faults = 0 }
+no_book = record { start = no_start; list = []; tried = []; next = 0; faults = 0 }
 
 abbrev pub no_pass : PassView
-no_pass = record { number = 0; start = no_start; list = []; found = 0; left = 0 }
+no_pass = record { number = 0; start = no_start; list = []; tried = []; found = 0; left = 0 }
 
 abbrev pub no_note : NoteView
 no_note = record { start = no_start; list = [] }
@@ -46,7 +51,7 @@ book_of _ = no_book
 
 abbrev pub holding_of : View → HoldingView
 holding_of (Holding held) = held
-holding_of _ = record { book = no_book; pass = no_pass; since = []; found = 0 }
+holding_of _ = record { book = no_book; pass = no_pass; since = []; tries = []; found = 0 }
 
 abbrev pub pass_of : View → PassView
 pass_of (Home pass) = pass

@@ -1,13 +1,13 @@
 ghost use Rattle.std.specs.Prelude.{◌≡◌, ◌≤◌, ◌<◌, ◌^◌, [], ◌∷◌, length};
 ghost use Rattle.desk_history.specs.declared.views.View.TheVariants.{Free, Holding, Home};
 ghost use Rattle.desk_history.specs.Seen.{book_of, holding_of, pass_in};
-ghost use Rattle.desk_history.specs.Moves.{holding, booked, looked, returned};
-ghost use Rattle.desk_history.specs.Rule.{IsHeld};
+ghost use Rattle.desk_history.specs.Moves.{holding, booked, looked, unkept, returned};
+ghost use Rattle.desk_history.specs.Rule.{IsHeld, AreOfPasses};
 
 use crate::rule::{Becomes, HistoryBadge, HistorySeat, SharedHistory, Wanted};
 use crate::views::View;
 use atomic_table::{Badge, Join, Split};
-use book_rows::ActRow;
+use book_rows::{ActRow, Batch};
 use keeper_core::Keeper;
 use std::marker::Brand;
 use std::mem;
@@ -73,6 +73,7 @@ fn look_as<A: Wanted, K: Keeper>(history: &SharedHistory, book: &mut HistorySeat
     ensures same { book.new.table_id ≡ book.old.table_id }
     ensures view { book.new.me ≡ (Holding (looked (holding_of book.old.me.0) (K.faults keeper.now)), []) }
     ensures before { IsHeld (holding_of book.old.me.0) }
+    ensures passes { AreOfPasses (holding_of book.old.me.0).book.next (holding_of book.old.me.0).book.tried }
 {
     history.load::<Becomes<A>>(book, 0);
 }
@@ -85,9 +86,48 @@ pub fn look<K: Keeper>(history: &SharedHistory, book: &mut HistorySeat, keeper: 
     ensures same { book.new.table_id ≡ book.old.table_id }
     ensures view { book.new.me ≡ (Holding (looked (holding_of book.old.me.0) (K.faults keeper.now)), []) }
     ensures before { IsHeld (holding_of book.old.me.0) }
+    ensures passes { AreOfPasses (holding_of book.old.me.0).book.next (holding_of book.old.me.0).book.tried }
     ensures held { IsHeld (holding_of book.new.me.0) }
 {
     look_as::<Brand, K>(history, book, keeper);
+}
+
+fn write_try_as<A: Wanted, K: Keeper>(
+    history: &SharedHistory,
+    book: &mut HistorySeat,
+    rows: &Batch,
+    keeper: &K,
+)
+    requires table { (book.old.table_id ≡ history.now.table_id) × (history.now.table_id.words ≡ 1) }
+    requires held { book.old.me ≡ (Holding (holding_of book.old.me.0), []) }
+    requires own { rows.now.act.session ≡ (holding_of book.old.me.0).pass.number }
+    requires rose { (holding_of book.old.me.0).book.faults ≤ K.faults keeper.now }
+    requires wanted { A.view ≡ Holding (unkept (holding_of book.old.me.0) rows.now (K.faults keeper.now)) }
+    ensures same { book.new.table_id ≡ book.old.table_id }
+    ensures view { book.new.me ≡ (Holding (unkept (holding_of book.old.me.0) rows.now (K.faults keeper.now)), []) }
+    ensures before { IsHeld (holding_of book.old.me.0) }
+{
+    history.load::<Becomes<A>>(book, 0);
+}
+
+/// Writes down rows of the pass that is held which the keeper was sent and did not say it kept. It sees the keeper's count of
+/// faults.
+pub fn write_try<K: Keeper>(
+    history: &SharedHistory,
+    book: &mut HistorySeat,
+    rows: &Batch,
+    keeper: &K,
+)
+    requires table { (book.old.table_id ≡ history.now.table_id) × (history.now.table_id.words ≡ 1) }
+    requires held { book.old.me ≡ (Holding (holding_of book.old.me.0), []) }
+    requires own { rows.now.act.session ≡ (holding_of book.old.me.0).pass.number }
+    requires rose { (holding_of book.old.me.0).book.faults ≤ K.faults keeper.now }
+    ensures same { book.new.table_id ≡ book.old.table_id }
+    ensures view { book.new.me ≡ (Holding (unkept (holding_of book.old.me.0) rows.now (K.faults keeper.now)), []) }
+    ensures before { IsHeld (holding_of book.old.me.0) }
+    ensures held { IsHeld (holding_of book.new.me.0) }
+{
+    write_try_as::<Brand, K>(history, book, rows, keeper);
 }
 
 /// How the pass that is held goes back.

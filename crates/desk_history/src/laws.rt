@@ -1,11 +1,12 @@
 ghost use Rattle.desk_history.specs.Laws.{EntriesAreOfTheNumber, HeldBooksGrow, OneBeginsTheOther, OthersStay, PassesGoOn, NotesAreLearned, NewNumbersHaveNoEntries};
 
-/// The entries of a number are exactly the rows of that session, in their order. It does nothing.
+/// The entries of a number are exactly the rows of that session, in their order. So are its tries, of what was tried. It does
+/// nothing.
 pub fn entries_are_those_of_the_number()
     ensures { EntriesAreOfTheNumber }
 {}
 
-/// While a pass is held, the book grows by its rows alone. It does nothing.
+/// While a pass is held, the book grows by its rows alone, and what was tried by its tries. It does nothing.
 pub fn held_books_grow()
     ensures { HeldBooksGrow }
 {}
@@ -20,7 +21,8 @@ pub fn others_stay()
     ensures { OthersStay }
 {}
 
-/// What a pass knows only rises, and of its own entries it has just those that were appended. It does nothing.
+/// What a pass knows only rises. Of its own entries it has just those that were appended, and of its tries just those that were
+/// made. It does nothing.
 pub fn passes_go_on()
     ensures { PassesGoOn }
 {}

@@ -11,7 +11,7 @@ mod rule;
 mod turns;
 mod views;
 
-pub use holding::{append, come_in, go_back, look};
+pub use holding::{append, come_in, go_back, look, write_try};
 pub use laws::{
     entries_are_those_of_the_number, held_books_grow, new_numbers_have_no_entries,
     notes_are_learned, one_begins_the_other, others_stay, passes_go_on,

@@ -1,8 +1,9 @@
 ghost use Rattle.std.specs.Prelude.{◌≡◌, ◌≤◌, [], ◌∷◌};
 ghost use mathlib.Core.List.{IsPrefix};
 ghost use Rattle.desk_history.specs.declared.views.View.TheVariants.{Free, Home, Learning, Noted};
-ghost use Rattle.desk_history.specs.Seen.{entries_of, book_of, pass_of, note_of, pass_in, note_in};
+ghost use Rattle.desk_history.specs.Seen.{entries_of, tries_of, book_of, pass_of, note_of, pass_in, note_in};
 ghost use Rattle.desk_history.specs.Moves.{noted, longer, learned};
+ghost use Rattle.desk_history.specs.Rule.{AreOfPasses};
 
 use crate::holding::{come_in, look};
 use crate::rule::{Becomes, HistoryBadge, HistorySeat, HistoryTable, SharedHistory, Wanted};
@@ -108,7 +109,8 @@ pub fn learn(history: &SharedHistory, pass: &mut HistoryBadge, note: HistoryBadg
     *pass = seat.into_badge();
 }
 
-/// Ends a history with a pass: the book's list goes on from what the pass knows, and has no further entry of its number.
+/// Ends a history with a pass: the book's list goes on from what the pass knows, and has no further entry of its number; of
+/// what was tried, just the pass's tries are of its number.
 pub fn finish<K: Keeper>(
     table: HistoryTable,
     mut book: HistorySeat,
@@ -122,6 +124,8 @@ pub fn finish<K: Keeper>(
     ensures start { (pass_in pass.views).start ≡ (book_of book.me.0).start }
     ensures front { IsPrefix (pass_in pass.views).list (book_of book.me.0).list }
     ensures own { entries_of (pass_in pass.views).number (book_of book.me.0).list ≡ entries_of (pass_in pass.views).number (pass_in pass.views).list }
+    ensures tried { tries_of (pass_in pass.views).number (book_of book.me.0).tried ≡ (pass_in pass.views).tried }
+    ensures passes { AreOfPasses (book_of book.me.0).next (book_of book.me.0).tried }
 {
     come_in(&table.shared, &mut book, &mut pass);
     look(&table.shared, &mut book, keeper);

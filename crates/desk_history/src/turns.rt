@@ -25,7 +25,7 @@ pub fn book_row(
     ensures same { (book.new.table_id ≡ book.old.table_id) × (pass.new.table_id ≡ pass.old.table_id) }
     ensures book { book.new.me ≡ (Free (booked (holding (book_of book.old.me.0) (pass_in pass.old.views)) row.now).book, []) }
     ensures pass { pass.new.views ≡ Home (returned (booked (holding (book_of book.old.me.0) (pass_in pass.old.views)) row.now)) ∷ [] }
-    ensures goes_on { GoesOn (pass_in pass.old.views) (pass_in pass.new.views) (row.now ∷ []) }
+    ensures goes_on { GoesOn (pass_in pass.old.views) (pass_in pass.new.views) (row.now ∷ []) [] }
 {
     passes_go_on();
     come_in(history, book, pass);
@@ -49,8 +49,8 @@ pub fn book_in_turn(
     requires first_own { row.now.session ≡ (pass_in first.old.views).number }
     requires second_own { other.now.session ≡ (pass_in second.old.views).number }
     requires few { length (book_of book.old.me.0).list + 1 < 2 ^ 32 }
-    ensures first { GoesOn (pass_in first.old.views) (pass_in first.new.views) (row.now ∷ []) }
-    ensures second { GoesOn (pass_in second.old.views) (pass_in second.new.views) (other.now ∷ []) }
+    ensures first { GoesOn (pass_in first.old.views) (pass_in first.new.views) (row.now ∷ []) [] }
+    ensures second { GoesOn (pass_in second.old.views) (pass_in second.new.views) (other.now ∷ []) [] }
     ensures one { IsPrefix (pass_in first.new.views).list (pass_in second.new.views).list }
 {
     book_row(history, book, first, row);

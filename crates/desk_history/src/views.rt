@@ -1,4 +1,4 @@
-use book_rows::ActRow;
+use book_rows::{ActRow, Batch};
 use days_core::Day;
 use plain_data::Text;
 use record_history::{Dates, Record};
@@ -26,6 +26,8 @@ pub struct BookView {
     pub start: Start,
     /// The rows appended since the desk was opened.
     pub list: LinkedList<ActRow>,
+    /// The rows that the keeper was sent since then and did not say it kept.
+    pub tried: LinkedList<Batch>,
     /// The number of the next new pass.
     pub next: u32,
     /// The faults that the keeper has counted.
@@ -38,6 +40,8 @@ pub struct PassView {
     pub start: Start,
     /// The rows that it knows.
     pub list: LinkedList<ActRow>,
+    /// Those of its own calls that the keeper was sent and did not say it kept.
+    pub tried: LinkedList<Batch>,
     /// The keeper's faults as its last call found them.
     pub found: u64,
     /// And as that call left them.
@@ -57,6 +61,8 @@ pub struct HoldingView {
     pub pass: PassView,
     /// The rows appended since it came.
     pub since: LinkedList<ActRow>,
+    /// Those that the keeper was sent since then and did not say it kept.
+    pub tries: LinkedList<Batch>,
     /// The keeper's faults when it came.
     pub found: u64,
 }

@@ -4,7 +4,7 @@ use Rattle.std.specs.Prelude.{Result, Ok, Err}
 use Rattle.std.proofs.lemmas.List.{length_push}
 use Rattle.std.proofs.Math.Seq.{take-append_seam}
 use mathlib.Core.List.{IsPrefix}
-use Rattle.book_rows.specs.{declared.rows.ActRow.ActRow, Book.Book}
+use Rattle.book_rows.specs.{declared.rows.ActRow.ActRow, declared.rows.Batch.Batch, Book.Book}
 use Rattle.clerk_desk.specs.Below.{office_answers.Answering.answer_to, office_answers.declared.question.Question.Question, office_answers.declared.reply.Reply.Reply as OfficeReply, office_step.declared.call.Call.Call, office_step.Step.Outcome, office_step.Step.appends, office_step.Step.step}
 use Rattle.clerk_desk.specs.Serving.{reply_of as reply_of_office}
 use Rattle.desk_history.proofs.Fronts.{prefix_length, prefix_more}
@@ -26,7 +26,7 @@ body_further shows (Ok call) old new said (inr (same, silent)) = inl same
 body_further shows (Err path) old new said (same, right) = inl same
 
 asked_further : (shows : ℕ → Type 0) (body : List ℕ) (asked : Option Question) (old new : PassView) (said : Result Said Silence) → SaysAsked shows body asked old new said → Further old new
-asked_further shows body (Some question) old new said says = inr ([], says.goes_on)
+asked_further shows body (Some question) old new said says = inr ([], [], says.goes_on)
 asked_further shows body None old new said says = body_further shows (call_from body) old new said says
 
 says_further : (shows : ℕ → Type 0) (body : List ℕ) (routed : Routed) (old new : PassView) (said : Result Said Silence) → SaysTo shows body routed old new said → Further old new
@@ -53,7 +53,7 @@ module _ (were : HistoriesWereLegal) (start : Start) (history : List ActRow) (le
 
   knew : (old new : PassView) → Further old new → Knows new → Knows old
   knew old new (inl same) knows = subst Knows same knows
-  knew old new (inr (booked, on)) knows = record {
+  knew old new (inr (booked, tries, on)) knows = record {
     start_is = sym on.start ∙ knows.start_is;
     number_is = sym on.number ∙ knows.number_is;
     front = begins_with old.list new.list history on.front knows.front;
@@ -86,12 +86,12 @@ module _ (were : HistoriesWereLegal) (start : Start) (history : List ActRow) (le
   -- ---- a reply
 
   module _ (old new : PassView) (knows_old : Knows old) (knows : Knows new) where
-    acts_then : (since : List ActRow) → GoesOn old new since → acts_behind history (length new.list) number ≡ acts_behind history (length old.list) number ++ since
-    acts_then since on =
+    acts_then : (since : List ActRow) (tries : List Batch) → GoesOn old new since tries → acts_behind history (length new.list) number ≡ acts_behind history (length old.list) number ++ since
+    acts_then since tries on =
         sym (acts_are new knows) ∙ on.own ∙ ap (λ (rows : List ActRow). rows ++ since) (acts_are old knows_old)
 
-    acts_stay : GoesOn old new [] → acts_behind history (length new.list) number ≡ acts_behind history (length old.list) number
-    acts_stay on = acts_then [] on ∙ append-nil (acts_behind history (length old.list) number)
+    acts_stay : (tries : List Batch) → GoesOn old new [] tries → acts_behind history (length new.list) number ≡ acts_behind history (length old.list) number
+    acts_stay tries on = acts_then [] tries on ∙ append-nil (acts_behind history (length old.list) number)
 
     booked_at : (day : ℕ) (call : Call) (reply : OfficeReply) → IsBooked day call old new reply
         → IsBookedAt start history number (length old.list) (length new.list) day call reply
@@ -107,14 +107,14 @@ module _ (were : HistoriesWereLegal) (start : Start) (history : List ActRow) (le
           replied = b.replied ∙ ap (λ (tables : Book). reply_of_office tables (appends b.rows)) (tables_are new knows b.earlier front);
           point = b.point ∙ point_is new knows;
           session = b.session ∙ knows.number_is;
-          own = acts_then (b.rows.act ∷ []) b.goes_on;
+          own = acts_then (b.rows.act ∷ []) [] b.goes_on;
         }
 
     unbooked_at : (day : ℕ) (call : Call) (reply : OfficeReply) → IsUnbooked day call old new reply
         → IsUnbookedAt start history number (length old.list) (length new.list) day call reply
     unbooked_at day call reply u = record {
       replied = subst (λ (outcome : Outcome). IsReplied outcome reply) (step_is new knows new.list knows.front day call) u.replied;
-      own = acts_stay u.goes_on;
+      own = acts_stay u.tries u.goes_on;
     }
 
     called_at : (day : ℕ) (call : Call) (reply : OfficeReply) → IsCalled day call old new reply
@@ -141,7 +141,7 @@ module _ (were : HistoriesWereLegal) (start : Start) (history : List ActRow) (le
     asked_at : (shows : ℕ → Type 0) (body : List ℕ) (asked : Option Question) (said : Result Said Silence) → SaysAsked shows body asked old new said
         → SaysAskedAt start history number (length old.list) (length new.list) shows body asked said
     asked_at shows body (Some question) said says = record {
-      own = acts_stay says.goes_on;
+      own = acts_stay [] says.goes_on;
       told = subst (λ (tables : Book). IsSaid (said_of_answer (answer_to tables question)) said) (tables_are new knows new.list knows.front) says.told;
     }
     asked_at shows body None said says = body_at shows (call_from body) said says

@@ -28,9 +28,9 @@ pub record SaysCall (shows : ℕ → Type 0) (call : Call) (old new : PassView) 
   pub cause : ReplyCause new.found new.left reply
   pub told : IsToldAs reply said
 
--- a question: the answer is the one at the point, where the pass has booked nothing
+-- a question: the answer is the one at the point, where the pass has booked and tried nothing
 pub record SaysAnswer (question : Question) (old new : PassView) (said : Result Said Silence) : Type 0 where
-  pub goes_on : GoesOn old new []
+  pub goes_on : GoesOn old new [] []
   pub legal : IsLegalHistory new.start new.list
   pub told : IsSaid (said_of_answer (answer_to (tables_at new.start new.list) question)) said
 

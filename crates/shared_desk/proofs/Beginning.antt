@@ -1,7 +1,7 @@
 -- What the lock keeps when a desk is opened.
 use Rattle.std.proofs.Common.{◌≡◌, ◌∙◌, sym, ap, subst, inl, ℕ, Option, Some, List, []}
 use Rattle.atomic_table.specs.Table.{Me}
-use Rattle.book_rows.specs.{declared.rows.ActRow.ActRow, Book.Book}
+use Rattle.book_rows.specs.{declared.rows.ActRow.ActRow, declared.rows.Batch.Batch, Book.Book}
 use Rattle.keeper_core.specs.Keeping.{LeavesTold}
 use Rattle.office_core.specs.Below.office_step.{declared.call.Capacity.Capacity, Step.IsReached}
 use Rattle.desk_history.specs.declared.views.{Start.Start, BookView.BookView, View.View, View.TheVariants.Free}
@@ -43,7 +43,7 @@ settled_first capacity held told holds well faults book start list counted reach
       faults_are = counted;
     }
 
-pub survives_first : (sound : Type 0) (capacity : Capacity) (held : Book) (holds : Book → Type 0) (tells : Type 0) (leaves : Option Book → Type 0) →
-    ((now : Book) → holds now → now ≡ held) → (sound → tells → LeavesTold holds leaves) → Survives sound capacity held holds tells leaves
-survives_first sound capacity held holds tells leaves kept known =
+pub survives_first : (sound : Type 0) (capacity : Capacity) (held : Book) (tried : List Batch) (holds : Book → Type 0) (tells : Type 0) (leaves : Option Book → Type 0) →
+    ((now : Book) → holds now → now ≡ held) → (sound → tells → LeavesTold holds leaves) → Survives sound capacity held tried holds tells leaves
+survives_first sound capacity held tried holds tells leaves kept known =
     λ sure telling now holding after left. inl (known sure telling now holding after left ∙ ap Some (kept now holding))

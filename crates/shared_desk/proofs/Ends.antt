@@ -1,7 +1,7 @@
 -- What a call leaves, from what was decided while its pass was held.
 use Rattle.std.proofs.Common.{◌≡◌, ◌∙◌, sym, ap, subst, subst₂, inl, inr, ⊎_elim, ℕ, arith, List, [], ◌∷◌, length, Result}
 use Rattle.std.proofs.lemmas.List.{length_push}
-use Rattle.book_rows.specs.{declared.rows.ActRow.ActRow, Book.Book}
+use Rattle.book_rows.specs.{declared.rows.ActRow.ActRow, declared.rows.Batch.Batch, Book.Book}
 use Rattle.office_core.specs.Below.office_answers.{declared.question.Question.Question, declared.answer.Answer.Answer, declared.answer.Asked.Asked, declared.reply.Reply.Reply, Answered.Answers, Answering.answer_to}
 use Rattle.office_core.specs.Below.office_step.{declared.call.Call.Call, declared.call.Capacity.Capacity, Step.Outcome, Step.appends, Step.step}
 use Rattle.office_core.specs.Below.office_laws.Replay.{RowsAreOfTheSession}
@@ -9,7 +9,7 @@ use Rattle.clerk_desk.specs.Serving.{reply_of}
 use Rattle.desk_history.specs.declared.views.{Start.Start, BookView.BookView, PassView.PassView, HoldingView.HoldingView}
 use Rattle.desk_history.specs.{Moves.holding, Moves.returned, Rule.IsHeld, Laws.GoesOn, Laws.PassesGoOn}
 use Rattle.shared_desk.specs.History.{capacity_of, tables_at, IsLegalHistory, HistoriesAreReached}
-use Rattle.shared_desk.specs.Deciding.{HoldsOn, Books, Rests, IsReplied, Decides}
+use Rattle.shared_desk.specs.Deciding.{HoldsOn, Books, Rests, IsReplied, AreTries, Decides}
 use Rattle.shared_desk.specs.Calls.{step_at, IsBooked, IsUnbooked, IsCalled}
 
 module _ (b : BookView) (p : PassView) (k : HoldingView) (held : IsHeld k) (on : HoldsOn (holding b p) k) where
@@ -20,11 +20,12 @@ module _ (b : BookView) (p : PassView) (k : HoldingView) (held : IsHeld k) (on :
   number_is : k.pass.number ≡ p.number
   number_is = ap (λ (pass : PassView). pass.number) on.pass
 
-  goes_on_since : PassesGoOn → GoesOn p (returned k) k.since
-  goes_on_since law = subst (λ (pass : PassView). GoesOn pass (returned k) k.since) on.pass (law k held)
+  goes_on_since : PassesGoOn → GoesOn p (returned k) k.since k.tries
+  goes_on_since law = subst (λ (pass : PassView). GoesOn pass (returned k) k.since k.tries) on.pass (law k held)
 
-  goes_on_by : PassesGoOn → (rows : List ActRow) → k.since ≡ rows → GoesOn p (returned k) rows
-  goes_on_by law rows is = subst (λ (since : List ActRow). GoesOn p (returned k) since) is (goes_on_since law)
+  goes_on_by : PassesGoOn → (rows : List ActRow) (tries : List Batch) → k.since ≡ rows → k.tries ≡ tries → GoesOn p (returned k) rows tries
+  goes_on_by law rows tries is same =
+      subst₂ (λ (since : List ActRow) (tried : List Batch). GoesOn p (returned k) since tried) is same (goes_on_since law)
 
   pub called : PassesGoOn → RowsAreOfTheSession → HistoriesAreReached → (capacity : Capacity) (book : Book) (number clock : ℕ) (call : Call) (reply : Reply) →
       book ≡ tables_at b.start b.list → capacity ≡ capacity_of b.start → number ≡ p.number → IsLegalHistory b.start b.list →
@@ -53,15 +54,18 @@ module _ (b : BookView) (p : PassView) (k : HoldingView) (held : IsHeld k) (on :
             replied = books.replied ∙ ap (λ (t : Book). reply_of t (appends books.rows)) (sym same_tables);
             point = (let n = of.1 in omega (arith, n, acts, before, after, opened));
             session = of.0 ∙ is ∙ sym number_is;
-            goes_on = goes_on_by law (books.rows.act ∷ []) books.since;
+            goes_on = goes_on_by law (books.rows.act ∷ []) [] books.since books.tries_since;
           }
 
       unbooked : Rests (step book capacity number clock call) (holding b p) k reply → IsUnbooked clock call p (returned k) reply
-      unbooked rests = record {
-        replied = subst (λ (outcome : Outcome). IsReplied outcome reply)
-            (sym same_step ∙ ap (λ (list : List ActRow). step_at (returned k) list clock call) (sym rests.list)) rests.replied;
-        goes_on = goes_on_by law [] rests.since;
-      }
+      unbooked rests =
+          let at_point = sym same_step ∙ ap (λ (list : List ActRow). step_at (returned k) list clock call) (sym rests.list) in
+          record {
+            replied = subst (λ (outcome : Outcome). IsReplied outcome reply) at_point rests.replied;
+            tries = rests.tries;
+            tried = subst (λ (outcome : Outcome). AreTries outcome rests.tries reply) at_point rests.tried;
+            goes_on = goes_on_by law [] rests.tries rests.since rests.tries_since;
+          }
 
 -- ---- the same, where the views are known by equations
 

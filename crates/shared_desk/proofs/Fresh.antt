@@ -21,5 +21,6 @@ handed_out start book passes more pass same none next is pushed fresh =
       number_is = ap (λ (p : PassView). p.number) is;
       start_is = ap (λ (p : PassView). p.start) is ∙ same;
       list = ap (λ (p : PassView). p.list) is ∙ none;
+      tried = ap (λ (p : PassView). p.tried) is;
       left = ap (λ (p : PassView). p.left) is ∙ sym (ap (λ (p : PassView). p.found) is);
     }))

@@ -1,15 +1,17 @@
 -- What a desk leaves.
 use Rattle.std.specs.Prelude.{◌≡◌, Option, List}
 use mathlib.Core.List.{IsPrefix}
-use Rattle.book_rows.specs.{declared.rows.ActRow.ActRow, Book.Book}
+use Rattle.book_rows.specs.{declared.rows.ActRow.ActRow, declared.rows.Batch.Batch, Book.Book}
 use Rattle.desk_history.specs.declared.views.PassView.{PassView}
-use Rattle.desk_history.specs.Seen.{entries_of}
-use Rattle.clerk_desk.specs.Serving.{IsLeft}
+use Rattle.desk_history.specs.{Seen.entries_of, Seen.tries_of, Rule.AreOfPasses}
 use Rattle.shared_desk.specs.History.{book_in, capacity_of, tables_at, IsLegalHistory}
+use Rattle.shared_desk.specs.Deciding.{IsLeftBy}
 
 -- What a desk leaves that ends with a pass: the tables after a legal history that goes on from what the pass knows, and in
 -- which its own entries are all there. The keeper tells these tables and no others, where it told the opening ones, and if it
--- is well, then it tells them where it told a book; and a stop leaves them, or these and the rows of one further act.
+-- is well, then it tells them where it told a book. A stop leaves them, or these and the rows of one act that was tried: the
+-- keeper was sent them and did not say it kept them. Each of what was tried is of a pass's number, from 1 to 32, and those of
+-- the pass's own number are just its tries.
 pub record IsFinished (pass : PassView) (tables : Book) (told holds : Book → Type 0) (well sound tells : Type 0) (leaves : Option Book → Type 0) : Type 0 where
   pub history : List ActRow
   pub legal : IsLegalHistory pass.start history
@@ -19,4 +21,7 @@ pub record IsFinished (pass : PassView) (tables : Book) (told holds : Book → T
   pub kept : (now : Book) → holds now → now ≡ tables
   pub first : (now : Book) → holds now → told (book_in pass.start.opening)
   pub on : well → (was : Book) → told was → holds tables
-  pub stopped : sound → tells → (now : Book) → holds now → (after : Option Book) → leaves after → IsLeft (capacity_of pass.start) tables after
+  pub tried : List Batch
+  pub own_tries : tries_of pass.number tried ≡ pass.tried
+  pub of_passes : AreOfPasses 33 tried
+  pub stopped : sound → tells → (now : Book) → holds now → (after : Option Book) → leaves after → IsLeftBy (capacity_of pass.start) tables tried after

@@ -7,11 +7,12 @@ pub record DeskView : Type 0 where
   pub start : Start
   pub made : ℕ
 
--- a new pass of that number: it has seen the opening acts alone
+-- a new pass of that number: it has seen the opening acts alone, and tried nothing
 pub record IsFresh (start : Start) (number : ℕ) (pass : PassView) : Type 0 where
   pub number_is : pass.number ≡ number
   pub start_is : pass.start ≡ start
   pub list : pass.list ≡ []
+  pub tried : pass.tried ≡ []
   pub left : pass.left ≡ pass.found
 
 -- new passes, with the numbers from the next one on

@@ -45,7 +45,7 @@ impl<K: Keeper + Drop, B: Naming> Model for Locked<K, B> {
 
     ghost view = { λ locked. record { book = book_of locked.book.me.0; keeper = locked.keeper } };
 
-    ghost invariant = { λ locked. (locked.book.table_id ≡ B.table) × (locked.book.me ≡ (Free (book_of locked.book.me.0), [])) × IsSettled locked.office.capacity locked.office.book B.told (K.holds locked.keeper) (K.is_well locked.keeper) (K.faults locked.keeper) (book_of locked.book.me.0) × Survives B.sound locked.office.capacity locked.office.book (K.holds locked.keeper) (K.tells_crash locked.keeper) (K.leaves locked.keeper) × (B.table.words ≡ 1) };
+    ghost invariant = { λ locked. (locked.book.table_id ≡ B.table) × (locked.book.me ≡ (Free (book_of locked.book.me.0), [])) × IsSettled locked.office.capacity locked.office.book B.told (K.holds locked.keeper) (K.is_well locked.keeper) (K.faults locked.keeper) (book_of locked.book.me.0) × Survives B.sound locked.office.capacity locked.office.book (book_of locked.book.me.0).tried (K.holds locked.keeper) (K.tells_crash locked.keeper) (K.leaves locked.keeper) × (B.table.words ≡ 1) × ((book_of locked.book.me.0).next ≡ 33) };
 }
 
 /// What a session is told of a call.
@@ -118,7 +118,7 @@ impl<K: Keeper + Drop, B: Naming> Locked<K, B> {
         question: &Question,
     ) -> AskOutcome
         requires table { history.now.table_id ≡ B.table }
-        ensures goes_on { GoesOn pass.old pass.new [] }
+        ensures goes_on { GoesOn pass.old pass.new [] [] }
         ensures legal { IsLegalHistory pass.new.start pass.new.list }
         ensures point { result.point ≡ point_of pass.new }
         ensures answered { Answers (answer_to (tables_at pass.new.start pass.new.list) question.now) result.answer }

@@ -4,8 +4,8 @@ use std::marker::{Model, PhantomData};
 
 /// What one session knows of a desk, and the right to call and ask in its number. It is used with the desk that made it.
 ///
-/// Contracts see its number, the start of the desk, the acts that it has seen since, and the keeper's faults as its last call
-/// found and left them.
+/// Contracts see its number, the start of the desk, the acts that it has seen since, the rows of its calls that the keeper was
+/// sent and did not say it kept, and the keeper's faults as its last call found and left them.
 #[derive(Drop)]
 pub struct Pass<B: Naming> {
     pub(crate) badge: HistoryBadge,

@@ -29,6 +29,7 @@ pub(crate) fn all_passes<B: Naming>(
     ensures free { book.new.me ≡ (Free (book_of book.new.me.0), []) }
     ensures start { (book_of book.new.me.0).start ≡ (book_of book.old.me.0).start }
     ensures list { (book_of book.new.me.0).list ≡ [] }
+    ensures next { (book_of book.new.me.0).next ≡ 33 }
     ensures faults { (book_of book.new.me.0).faults ≡ (book_of book.old.me.0).faults }
     ensures fresh { AreFresh (book_of book.old.me.0).start 1 result.items }
     ensures all { length result.items ≡ 32 }

@@ -64,7 +64,7 @@ impl<K: Keeper + Drop, B: Naming> SharedDesk<K, B> {
         pass: &mut Pass<B>,
         question: &Question,
     ) -> AskOutcome
-        ensures goes_on { GoesOn pass.old pass.new [] }
+        ensures goes_on { GoesOn pass.old pass.new [] [] }
         ensures legal { IsLegalHistory pass.new.start pass.new.list }
         ensures point { result.point ≡ point_of pass.new }
         ensures answered { Answers (answer_to (tables_at pass.new.start pass.new.list) question.now) result.answer }

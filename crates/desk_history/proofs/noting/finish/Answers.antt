@@ -9,3 +9,9 @@ returns-clause-front g c = search rules
 
 pub returns-clause-own : goal.returns-clause-own
 returns-clause-own g c = search rules
+
+pub returns-clause-tried : goal.returns-clause-tried
+returns-clause-tried g c = search rules
+
+pub returns-clause-passes : goal.returns-clause-passes
+returns-clause-passes g c = search rules

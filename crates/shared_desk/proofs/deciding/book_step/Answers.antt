@@ -1,11 +1,9 @@
-use Rattle.std.proofs.Common.{rules, ◌∙◌, arith, ap, length, sym, subst₂}
+use Rattle.std.proofs.Common.{rules, ◌∙◌, arith, ap, length, ◌++◌, ◌∷◌, []}
 use Rattle.atomic_table.specs.Table.{Me}
 use Rattle.book_rows.specs.{declared.rows.Batch.Batch, Book.Book, Book.appended}
-use Rattle.office_core.specs.Below.office_step.declared.call.Capacity.{Capacity}
-use Rattle.clerk_desk.specs.Serving.{IsLeft}
 use Rattle.desk_history.specs.declared.views.View.{View}
 use Rattle.desk_history.specs.Seen.{holding_of}
-use Rattle.shared_desk.proofs.Settled.{batch_of_act, batch_follows, settled_more, settled_still, survives_kept, survives_unkept}
+use Rattle.shared_desk.proofs.Settled.{batch_of_act, batch_follows, settled_more, settled_still, survives_as, survives_kept, survives_unkept}
 use Rattle.shared_desk.proofs.deciding.book_step.Goals as goal
 
 pub commit-requires-clause-batch : goal.commit-requires-clause-batch
@@ -25,13 +23,15 @@ append-requires-clause-few g c =
 
 pub returns-in_default-clause-survives : goal.returns-in_default-clause-survives
 returns-in_default-clause-survives g c =
-    λ sure telling now holding after left.
-    subst₂ (λ (most : Capacity) (tables : Book). IsLeft most tables after) (sym c.reserve.ensures.capacity) (sym c.reserve.ensures.book)
-    (c.requires.survives sure telling now holding after left)
+    survives_as g.B.Naming.sound c.args.office.now.capacity c.reserve.new.self.capacity c.args.office.now.book c.reserve.new.self.book
+    (holding_of c.args.book.now.me.0).book.tried (holding_of c.look.new.book.me.0).book.tried
+    (g.K.Keeper.holds c.args.keeper.now) (g.K.Keeper.tells_crash c.args.keeper.now) (g.K.Keeper.leaves c.args.keeper.now)
+    c.requires.survives c.reserve.ensures.capacity c.reserve.ensures.book
+    (ap (λ (me : Me (Unit {0}) View). (holding_of me.0).book.tried) c.look.ensures.view)
 
 pub returns-in-Done-clause-survives : goal.returns-in-Done-clause-survives
 returns-in-Done-clause-survives g c =
-    survives_kept g.B.Naming.sound c.apply.new.self.capacity c.args.office.now.book c.apply.new.self.book
+    survives_kept g.B.Naming.sound c.apply.new.self.capacity c.args.office.now.book c.apply.new.self.book (holding_of c.append.new.book.me.0).book.tried
     (g.K.Keeper.holds c.args.keeper.now) (g.K.Keeper.holds c.commit.new.self) (g.K.Keeper.tells_crash c.commit.new.self) (g.K.Keeper.leaves c.commit.new.self)
     c.args.step.rows c.batch.result.now c.batch.ensures
     (c.apply.ensures.book ∙ ap (λ (tables : Book). appended tables c.args.step.rows) c.reserve.ensures.book)
@@ -40,17 +40,21 @@ returns-in-Done-clause-survives g c =
 pub returns-in-Failed-clause-survives : goal.returns-in-Failed-clause-survives
 returns-in-Failed-clause-survives g c =
     survives_unkept g.B.Naming.sound c.args.office.now.capacity c.reserve.new.self.capacity c.args.office.now.book c.reserve.new.self.book
+    (holding_of c.args.book.now.me.0).book.tried (holding_of c.set_aside-in-Failed.new.book.me.0).book.tried
     (g.K.Keeper.holds c.args.keeper.now) (g.K.Keeper.holds c.commit.new.self) (g.K.Keeper.tells_crash c.args.keeper.now) (g.K.Keeper.tells_crash c.commit.new.self)
     (g.K.Keeper.leaves c.args.keeper.now) (g.K.Keeper.leaves c.commit.new.self) c.args.step.rows c.batch.result.now
     c.requires.survives c.requires.planned.appends c.batch.ensures c.reserve.ensures.capacity c.reserve.ensures.book
+    (ap (λ (me : Me (Unit {0}) View). (holding_of me.0).book.tried) c.set_aside-in-Failed.ensures.tried)
     c.requires.settled.kept c.in-Failed.ensures.leaves c.in-Failed.ensures.told c.in-Failed.ensures.crash
 
 pub returns-in-NoMemory-clause-survives : goal.returns-in-NoMemory-clause-survives
 returns-in-NoMemory-clause-survives g c =
     survives_unkept g.B.Naming.sound c.args.office.now.capacity c.reserve.new.self.capacity c.args.office.now.book c.reserve.new.self.book
+    (holding_of c.args.book.now.me.0).book.tried (holding_of c.set_aside-in-NoMemory.new.book.me.0).book.tried
     (g.K.Keeper.holds c.args.keeper.now) (g.K.Keeper.holds c.commit.new.self) (g.K.Keeper.tells_crash c.args.keeper.now) (g.K.Keeper.tells_crash c.commit.new.self)
     (g.K.Keeper.leaves c.args.keeper.now) (g.K.Keeper.leaves c.commit.new.self) c.args.step.rows c.batch.result.now
     c.requires.survives c.requires.planned.appends c.batch.ensures c.reserve.ensures.capacity c.reserve.ensures.book
+    (ap (λ (me : Me (Unit {0}) View). (holding_of me.0).book.tried) c.set_aside-in-NoMemory.ensures.tried)
     c.requires.settled.kept c.in-NoMemory.ensures.leaves c.in-NoMemory.ensures.told c.in-NoMemory.ensures.crash
 
 pub returns-in-Done-clause-settled : goal.returns-in-Done-clause-settled
@@ -67,17 +71,17 @@ pub returns-in-Failed-clause-settled : goal.returns-in-Failed-clause-settled
 returns-in-Failed-clause-settled g c =
     settled_still c.args.office.now.capacity c.reserve.new.self.capacity c.args.office.now.book c.reserve.new.self.book g.B.Naming.told
     (g.K.Keeper.holds c.args.keeper.now) (g.K.Keeper.holds c.commit.new.self) (g.K.Keeper.is_well c.args.keeper.now) (g.K.Keeper.is_well c.commit.new.self)
-    (g.K.Keeper.faults c.args.keeper.now) (g.K.Keeper.faults c.commit.new.self) (holding_of c.args.book.now.me.0).book (holding_of c.look-in-Failed.new.book.me.0).book
-    c.requires.settled c.reserve.ensures.capacity c.in-Failed.ensures.well c.reserve.ensures.book
-    (ap (λ (me : Me (Unit {0}) View). (holding_of me.0).book) c.look-in-Failed.ensures.view) c.in-Failed.ensures.leaves c.in-Failed.ensures.goes_on
+    (g.K.Keeper.faults c.args.keeper.now) (g.K.Keeper.faults c.commit.new.self) (holding_of c.args.book.now.me.0).book (holding_of c.set_aside-in-Failed.new.book.me.0).book
+    c.requires.settled c.reserve.ensures.capacity c.in-Failed.ensures.well ((holding_of c.args.book.now.me.0).book.tried ++ c.args.step.rows ∷ []) c.reserve.ensures.book
+    (ap (λ (me : Me (Unit {0}) View). (holding_of me.0).book) c.set_aside-in-Failed.ensures.tried) c.in-Failed.ensures.leaves c.in-Failed.ensures.goes_on
 
 pub returns-in-NoMemory-clause-settled : goal.returns-in-NoMemory-clause-settled
 returns-in-NoMemory-clause-settled g c =
     settled_still c.args.office.now.capacity c.reserve.new.self.capacity c.args.office.now.book c.reserve.new.self.book g.B.Naming.told
     (g.K.Keeper.holds c.args.keeper.now) (g.K.Keeper.holds c.commit.new.self) (g.K.Keeper.is_well c.args.keeper.now) (g.K.Keeper.is_well c.commit.new.self)
-    (g.K.Keeper.faults c.args.keeper.now) (g.K.Keeper.faults c.commit.new.self) (holding_of c.args.book.now.me.0).book (holding_of c.look-in-NoMemory.new.book.me.0).book
-    c.requires.settled c.reserve.ensures.capacity c.in-NoMemory.ensures.well c.reserve.ensures.book
-    (ap (λ (me : Me (Unit {0}) View). (holding_of me.0).book) c.look-in-NoMemory.ensures.view) c.in-NoMemory.ensures.leaves c.in-NoMemory.ensures.goes_on
+    (g.K.Keeper.faults c.args.keeper.now) (g.K.Keeper.faults c.commit.new.self) (holding_of c.args.book.now.me.0).book (holding_of c.set_aside-in-NoMemory.new.book.me.0).book
+    c.requires.settled c.reserve.ensures.capacity c.in-NoMemory.ensures.well ((holding_of c.args.book.now.me.0).book.tried ++ c.args.step.rows ∷ []) c.reserve.ensures.book
+    (ap (λ (me : Me (Unit {0}) View). (holding_of me.0).book) c.set_aside-in-NoMemory.ensures.tried) c.in-NoMemory.ensures.leaves c.in-NoMemory.ensures.goes_on
 
 pub returns-in_default-clause-cause : goal.returns-in_default-clause-cause
 returns-in_default-clause-cause g c = search rules

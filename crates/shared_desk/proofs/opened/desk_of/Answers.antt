@@ -17,9 +17,10 @@ invariant_of-locked g c =
           (book_of c.all_passes-waiting.new.book.me.0)
           (passes.start ∙ (opened.start ∙ (λ i. start_on (rows i) (limits i).acts (limits i).lines)))
           passes.list (sym (passes.faults ∙ opened.faults)) c.tables-tables.ensures.reached c.requires.kept c.requires.told c.requires.on,
-      survives_first g.B.Naming.sound c.args.office.capacity c.args.office.book (g.K.Keeper.holds c.args.keeper) (g.K.Keeper.tells_crash c.args.keeper)
+      survives_first g.B.Naming.sound c.args.office.capacity c.args.office.book (book_of c.all_passes-waiting.new.book.me.0).tried (g.K.Keeper.holds c.args.keeper) (g.K.Keeper.tells_crash c.args.keeper)
           (g.K.Keeper.leaves c.args.keeper) c.requires.kept c.requires.sound,
       c.requires.table.2,
+      passes.next,
     )
 
 pub returns-clause-legal : goal.returns-clause-legal

@@ -1,9 +1,8 @@
-use Rattle.std.proofs.Common.{rules, ◌∙◌, ap, sym, subst, subst₂}
+use Rattle.std.proofs.Common.{rules, ◌∙◌, ap, sym, subst, subst₂, ℕ}
 use Rattle.book_rows.specs.Book.{Book}
-use Rattle.clerk_desk.specs.Serving.{IsLeft}
-use Rattle.desk_history.specs.{declared.views.PassView.PassView, Seen.book_of}
+use Rattle.desk_history.specs.{declared.views.PassView.PassView, Rule.AreOfPasses, Seen.book_of}
 use Rattle.office_core.specs.Below.office_step.declared.call.Capacity.{Capacity}
-use Rattle.shared_desk.specs.History.{capacity_of}
+use Rattle.shared_desk.specs.{Deciding.IsLeftBy, History.capacity_of}
 use Rattle.shared_desk.proofs.locked.Locked.finish.Goals as goal
 
 pub returns : goal.returns
@@ -17,8 +16,11 @@ returns g c = record {
   first = search rules;
   on = λ is_well was telling.
       subst (g.K.Keeper.holds c.self.inside.keeper) (sym c.into_tables.ensures.book) (c.self.invariant.2.on is_well was telling);
+  tried = (book_of c.self.inside.book.me.0).tried;
+  own_tries = search rules;
+  of_passes = subst (λ (next : ℕ). AreOfPasses next (book_of c.self.inside.book.me.0).tried) c.self.invariant.5 c.finish.ensures.passes;
   stopped = λ sure telling now holding after left.
-      subst₂ (λ (most : Capacity) (tables : Book). IsLeft most tables after)
+      subst₂ (λ (most : Capacity) (tables : Book). IsLeftBy most tables (book_of c.self.inside.book.me.0).tried after)
       (c.self.invariant.2.capacity_is ∙ ap capacity_of (sym c.finish.ensures.start ∙ ap (λ (pass : PassView). pass.start) c.pass.view_is))
       (sym c.into_tables.ensures.book) (c.self.invariant.3 sure telling now holding after left);
 }
