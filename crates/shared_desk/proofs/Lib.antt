@@ -4,3 +4,4 @@ pub mod Ends
 pub mod Fresh
 pub mod Beginning
 pub mod Further
+pub mod Unbooked

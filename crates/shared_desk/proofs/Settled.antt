@@ -8,7 +8,7 @@ use Rattle.office_core.specs.Below.office_step.{declared.call.Capacity.Capacity,
 use Rattle.office_core.specs.Below.office_laws.Kept.{BatchesFollow}
 use Rattle.desk_history.specs.declared.views.BookView.{BookView}
 use Rattle.shared_desk.specs.History.{GoesOnBy, HistoriesGoOn}
-use Rattle.shared_desk.specs.Deciding.{IsSettled, IsTriedOn, IsLeftBy, Survives}
+use Rattle.shared_desk.specs.Deciding.{IsSettled, IsLeftBy, Survives}
 
 -- ---- the keeper is asked to keep what follows the book that it tells
 
