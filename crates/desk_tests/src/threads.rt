@@ -79,7 +79,10 @@ fn by_three_threads<B: Naming + Send, R: Abort + Wait + Threads + Sync>(
     let note = shared.merge(shared.note(&mut first), shared.note(&mut third));
     shared.learn(&mut second, note);
     assert!(rt; second.seen() == 10);
-    assert!(rt; by_sessions(desk.finish(first)) == (10, 4, 3, 3));
+    let mut others = Vec::with_capacity(alloc, 2).expect(rt, "memory");
+    others.push_reserved(second);
+    others.push_reserved(third);
+    assert!(rt; by_sessions(desk.finish_with(first, others)) == (10, 4, 3, 3));
 }
 
 fn of_session(tables: &Tables, session: u32) -> usize {

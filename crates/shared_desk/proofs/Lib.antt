@@ -4,4 +4,5 @@ pub mod Ends
 pub mod Fresh
 pub mod Beginning
 pub mod Further
+pub mod Retired
 pub mod Unbooked

@@ -1,12 +1,14 @@
-ghost use Rattle.std.specs.Prelude.{◌≡◌, true, [], length};
+ghost use Rattle.std.specs.Prelude.{◌≡◌, ℕ, ◌+◌, true, [], All, length};
 ghost use Rattle.office_core.specs.Below.office_answers.{Answered.Answers, Answering.answer_to};
 ghost use Rattle.office_core.specs.Below.office_step.Step.{is_fit_call};
 ghost use Rattle.clerk_desk.specs.Serving.{ReplyCause};
 ghost use Rattle.desk_history.specs.Laws.{GoesOn};
+ghost use Rattle.desk_history.specs.declared.views.Start.{Start};
 ghost use Rattle.desk_history.specs.Seen.{point_of};
 ghost use Rattle.shared_desk.specs.History.{IsLegalHistory, tables_at};
 ghost use Rattle.shared_desk.specs.Calls.{IsCalled, KnowsMore};
-ghost use Rattle.shared_desk.specs.Desk.{IsFinished};
+ghost use Rattle.shared_desk.specs.Desk.{HasItsOwn, IsFinished};
+ghost use Rattle.shared_desk.specs.Passes.{AreFresh};
 ghost use Rattle.book_rows.specs.Book.{book_of};
 
 use crate::deciding::decide;
@@ -16,13 +18,15 @@ use crate::opened::Finished;
 use crate::pass::Pass;
 use days_core::Day;
 use desk_history::{
-    HistorySeat, HistoryTable, SharedHistory, come_in, finish, go_back, look, passes_go_on,
+    HistorySeat, HistoryTable, SharedHistory, come_in, entries_are_those_of_the_number, finish,
+    go_back, look, passes_go_on,
 };
 use keeper_core::Keeper;
 use office_core::office_answers::Reply;
 use office_core::office_laws::acts_give_the_book;
 use office_core::{Answer, Asked, Call, Office, Question};
 use std::alloc::Global;
+use std::collections::VecDeque;
 use std::marker::{Model, PhantomData};
 
 /// What the lock keeps: the office, its keeper, and the book of the history.
@@ -136,11 +140,43 @@ impl<K: Keeper + Drop, B: Naming> Locked<K, B> {
         }
     }
 
-    /// Ends the desk with a pass, and gives back the tables and the keeper.
-    pub(crate) fn finish(self, history: HistoryTable, pass: Pass<B>) -> Finished<K>
-        requires table { history.shared.table_id ≡ B.table }
-        ensures { IsFinished pass (book_of result.tables) B.told (K.holds result.keeper) (K.is_well result.keeper) B.sound (K.tells_crash result.keeper) (K.leaves result.keeper) }
+    /// Takes a pass in for good.
+    fn retire(&mut self, history: &SharedHistory, pass: Pass<B>)
+        requires table { history.now.table_id ≡ B.table }
+        ensures same { self.new ≡ self.old }
+        ensures own { HasItsOwn self.old.book.list self.old.book.tried pass }
     {
+        let Pass { mut badge, .. } = pass;
+        come_in(history, &mut self.book, &mut badge);
+        look(history, &mut self.book, &self.keeper);
+        let _retired = go_back(history, &mut self.book);
+    }
+
+    /// Takes these passes in for good.
+    pub(crate) fn retire_each(&mut self, history: &SharedHistory, mut passes: VecDeque<Pass<B>>)
+        requires table { history.now.table_id ≡ B.table }
+        ensures same { self.new ≡ self.old }
+        ensures own { All (HasItsOwn self.old.book.list self.old.book.tried) passes.items }
+    {
+        while let Some(pass) = passes.pop_front() {
+            self.retire(history, pass);
+        }
+    }
+
+    /// Ends the desk with a pass, and gives back the tables and the keeper. The passes that wait were not handed out.
+    pub(crate) fn finish(
+        mut self,
+        history: HistoryTable,
+        waiting: VecDeque<Pass<B>>,
+        pass: Pass<B>,
+    ) -> Finished<K>
+        requires table { history.shared.table_id ≡ B.table }
+        ensures { (start : Start) (made : ℕ) → AreFresh start (made + 1) waiting.items → made + length waiting.items ≡ 32 →
+            (end : IsFinished pass made (book_of result.tables) B.told (K.holds result.keeper) (K.is_well result.keeper) B.sound (K.tells_crash result.keeper) (K.leaves result.keeper))
+            × (end.history ≡ self.book.list) × (end.tried ≡ self.book.tried) }
+    {
+        entries_are_those_of_the_number();
+        self.retire_each(&history.shared, waiting);
         let Locked {
             office,
             keeper,

@@ -7,7 +7,7 @@ ghost use Rattle.clerk_desk.specs.Opening.{Opens, IsUnopened, BlamesKeeper};
 ghost use Rattle.desk_history.specs.declared.views.View.TheVariants.{Blank};
 ghost use Rattle.desk_history.specs.Seen.{start_on};
 ghost use Rattle.shared_desk.specs.History.{book_in, capacity_of, IsLegalHistory};
-ghost use Rattle.shared_desk.specs.Desk.{IsFinished};
+ghost use Rattle.shared_desk.specs.Desk.{IsFinished, IsFinishedWith};
 ghost use Rattle.shared_desk.specs.Passes.{IsFresh};
 
 use crate::locked::Locked;
@@ -136,11 +136,30 @@ impl<K: Keeper + Drop, B: Naming> Desk<K, B> {
 
     /// Ends the desk with a pass.
     pub fn finish(self, pass: Pass<B>) -> Finished<K>
-        ensures { IsFinished pass (rows_of result.tables) B.told (K.holds result.keeper) (K.is_well result.keeper) B.sound (K.tells_crash result.keeper) (K.leaves result.keeper) }
+        ensures { IsFinished pass self.made (rows_of result.tables) B.told (K.holds result.keeper) (K.is_well result.keeper) B.sound (K.tells_crash result.keeper) (K.leaves result.keeper) }
     {
-        let Desk { shared, .. } = self;
+        let Desk {
+            shared,
+            waiting,
+            ..
+        } = self;
         let SharedDesk { history, lock } = shared;
-        lock.into_inner().finish(history, pass)
+        lock.into_inner().finish(history, waiting, pass)
+    }
+
+    /// Ends the desk with a pass, and is given others that were handed out.
+    pub fn finish_with(self, pass: Pass<B>, others: Vec<Pass<B>>) -> Finished<K>
+        ensures { IsFinishedWith others.items pass self.made (rows_of result.tables) B.told (K.holds result.keeper) (K.is_well result.keeper) B.sound (K.tells_crash result.keeper) (K.leaves result.keeper) }
+    {
+        let Desk {
+            shared,
+            waiting,
+            ..
+        } = self;
+        let SharedDesk { history, lock } = shared;
+        let mut locked = lock.into_inner();
+        locked.retire_each(&history.shared, VecDeque::from(others));
+        locked.finish(history, waiting, pass)
     }
 }
 
