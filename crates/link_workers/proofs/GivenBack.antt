@@ -3,7 +3,7 @@ use Rattle.std.proofs.Common.{◌≡◌, ◌∙◌, ℕ, ◌+◌, ◌<◌, nat_l
 use Rattle.std.specs.{Prelude.Option, Prelude.Some, Prelude.None, Prelude.IfSome, Prelude.All, Prelude.Contains, Prelude.slice_index_or}
 use Rattle.std.proofs.lemmas.List.{append-nil, append_assoc, map-append, Elements.All-append, Elements.All-nil, Elements.All-push, Elements.Contains-append_right, Elements.Contains-get_or, Elements.All-contains_itself}
 use Rattle.office_links.specs.{Links.Links, Links.Standing, Links.Accepts, Links.after_giving_back, Links.unused, declared.listener.Accepted.Accepted}
-use Rattle.link_workers.specs.{Links.Served, Links.GivesBack, Links.IsServedByOne, Links.TellsBack, Seats.FollowsEach, Seats.MakesOnly}
+use Rattle.link_workers.specs.{Links.Served, Links.GivesBack, Links.IsLogged, Links.IsServedByOne, Links.KnowsStill, Links.TellsBack, Seats.FollowsEach, Seats.MakesOnly}
 
 -- ---- what is told
 
@@ -144,16 +144,29 @@ pub tells_otherwise : (IsMade Other : Served → Type 0) → ((link : Served) �
     → TellsBack IsMade links now → TellsBack Other links now
 tells_otherwise IsMade Other means links now tells = tells_joins Other IsMade means links links now (tells_none Other links) tells
 
+-- what the log knew it knows still
+pub logged_still : {Seat : Type 0} (IsMade : Served → Seat → Type 0) (IsKnown IsKnownNow : Seat → Type 0) → KnowsStill IsKnown IsKnownNow
+    → (links now : Option Links) → TellsBack (IsLogged IsMade IsKnown) links now → TellsBack (IsLogged IsMade IsKnownNow) links now
+logged_still IsMade IsKnown IsKnownNow still links now tells =
+    tells_otherwise (IsLogged IsMade IsKnown) (IsLogged IsMade IsKnownNow) (λ link logged. (logged.0, logged.1, still logged.0 logged.2)) links now tells
+
+-- what seats made, said otherwise
+pub logged_otherwise : {Seat : Type 0} (IsMade Other : Served → Seat → Type 0) (IsKnown : Seat → Type 0)
+    → ((link : Served) (seat : Seat) → IsMade link seat → Other link seat)
+    → (links now : Option Links) → TellsBack (IsLogged IsMade IsKnown) links now → TellsBack (IsLogged Other IsKnown) links now
+logged_otherwise IsMade Other IsKnown means links now tells =
+    tells_otherwise (IsLogged IsMade IsKnown) (IsLogged Other IsKnown) (λ link logged. (logged.0, means link logged.0 logged.1, logged.2)) links now tells
+
 -- ---- seats
 
 module _ {Seat : Type 0} (serves : Seat → Served → Seat → Type 0) (follows : Seat → Seat → Type 0) where
   -- a seat that this one came to makes only what this one makes
-  pub makes_on : (joins : (seat mid seat_now : Seat) → follows seat mid → follows mid seat_now → follows seat seat_now) (IsMade : Served → Type 0)
+  pub makes_on : (joins : (seat mid seat_now : Seat) → follows seat mid → follows mid seat_now → follows seat seat_now) (IsMade : Served → Seat → Type 0)
       (seat seat_now : Seat) → follows seat seat_now → MakesOnly serves follows IsMade seat → MakesOnly serves follows IsMade seat_now
-  makes_on joins IsMade seat seat_now goes makes = λ link served.
-      makes link (served.0, served.1, joins seat seat_now served.0 goes served.2, served.3)
+  makes_on joins IsMade seat seat_now goes makes = λ link after served.
+      makes link after (served.0, joins seat seat_now served.0 goes served.1, served.2)
 
-  pub makes_each : (joins : (seat mid seat_now : Seat) → follows seat mid → follows mid seat_now → follows seat seat_now) (IsMade : Served → Type 0)
+  pub makes_each : (joins : (seat mid seat_now : Seat) → follows seat mid → follows mid seat_now → follows seat seat_now) (IsMade : Served → Seat → Type 0)
       (seats seats_now : List Seat) → FollowsEach follows seats seats_now → All (MakesOnly serves follows IsMade) seats → All (MakesOnly serves follows IsMade) seats_now
   makes_each joins IsMade seats seats_now goes makes = λ k d within.
       let among : k < length seats = omega (arith, within, goes.many) in
@@ -161,4 +174,4 @@ module _ {Seat : Type 0} (serves : Seat → Served → Seat → Type 0) (follows
 
   -- what each of these seats makes is made by one of them
   pub makes_all : (seats : List Seat) → All (MakesOnly serves follows (IsServedByOne serves follows seats)) seats
-  makes_all seats = λ k d within. λ link served. (_, All-contains_itself seats k d within, served)
+  makes_all seats = λ k d within. λ link after served. (_, All-contains_itself seats k d within, served)

@@ -1,2 +1,2 @@
 mod SoFar
-mod GivenBack
+pub mod GivenBack

@@ -41,10 +41,18 @@ module _ {Seat : Type 0} (serves : Seat → Served → Seat → Type 0) where
     pub count : left ≡ length served + left_now
     pub told : IfSome links (λ told. (told_now : Links) × (links_now ≡ Some told_now) × Fits left_now told_now × TellsServed served told told_now)
 
-  -- a seat to which this one had come made that of a link
-  abbrev pub IsServedFrom : (Seat → Seat → Type 0) → Seat → Served → Type 0
-  IsServedFrom follows seat link = (mid : Seat) × (seat_now : Seat) × follows seat mid × serves mid link seat_now
+  -- a seat to which this one had come made that of a link, and such it was afterwards
+  abbrev pub IsServedFrom : (Seat → Seat → Type 0) → Seat → Served → Seat → Type 0
+  IsServedFrom follows seat link seat_now = (mid : Seat) × follows seat mid × serves mid link seat_now
 
   -- and it was one of these
-  abbrev pub IsServedByOne : (Seat → Seat → Type 0) → List Seat → Served → Type 0
-  IsServedByOne follows seats link = (seat : Seat) × Contains seats seat × IsServedFrom follows seat link
+  abbrev pub IsServedByOne : (Seat → Seat → Type 0) → List Seat → Served → Seat → Type 0
+  IsServedByOne follows seats link seat_now = (seat : Seat) × Contains seats seat × IsServedFrom follows seat link seat_now
+
+-- what a log says of seats it says still
+abbrev pub KnowsStill : {Seat : Type 0} → (Seat → Type 0) → (Seat → Type 0) → Type 0
+KnowsStill {Seat} knows knows_now = (seat : Seat) → knows seat → knows_now seat
+
+-- that was made of a link, and what the seat was afterwards is known
+abbrev pub IsLogged : {Seat : Type 0} → (Served → Seat → Type 0) → (Seat → Type 0) → Served → Type 0
+IsLogged {Seat} IsMade IsKnown link = (seat_now : Seat) × IsMade link seat_now × IsKnown seat_now

@@ -16,5 +16,5 @@ module _ {Seat : Type 0} where
       → (seat_now : Seat) × (seats_now ≡ seat_now ∷ []) × ServesLinks serves seat seat_now left left_now links links_now
 
   -- whatever this seat makes of a link from now on, is such
-  abbrev pub MakesOnly : (Seat → Served → Seat → Type 0) → (Seat → Seat → Type 0) → (Served → Type 0) → Seat → Type 0
-  MakesOnly serves follows IsMade seat = (link : Served) → IsServedFrom serves follows seat link → IsMade link
+  abbrev pub MakesOnly : (Seat → Served → Seat → Type 0) → (Seat → Seat → Type 0) → (Served → Seat → Type 0) → Seat → Type 0
+  MakesOnly serves follows IsMade seat = (link : Served) (seat_now : Seat) → IsServedFrom serves follows seat link seat_now → IsMade link seat_now

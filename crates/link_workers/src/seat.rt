@@ -3,10 +3,15 @@ use std::alloc::Global;
 
 /// Who serves a link from a worker's place.
 ///
-/// It says what it made of a link, and what it is afterwards. One that waits for others holds the handle for that.
+/// It says what it made of a link, and what it is afterwards. The seats at one listener have a log, into which each enters
+/// what it has come to. One that waits for others holds the handle for that.
 pub trait Seat {
+    ghost use Rattle.std.specs.Prelude.{◌≡◌};
     ghost use Rattle.office_links.specs.Links.{standing_by};
-    ghost use Rattle.link_workers.specs.Links.{Served};
+    ghost use Rattle.link_workers.specs.Links.{KnowsStill, Served};
+
+    /// Where the seats write down what they have come to, one after another.
+    type Log;
 
     // It is as it has to be when it is to serve.
     ghost in_order: { Self → Type 0 };
@@ -17,6 +22,9 @@ pub trait Seat {
     // This is the seat after some links.
     ghost follows: { Self → Self → Type 0 };
 
+    // The log says what such a seat has come to.
+    ghost knows: { Self.Log → Self → Type 0 };
+
     /// Serves one link, however that ends.
     fn serve<S: Source, W: Sink>(&mut self, alloc: Global, source: &mut S, sink: &mut W)
         requires in_order { in_order self.old }
@@ -26,6 +34,12 @@ pub trait Seat {
           given_back = standing_by S.left S.faults W.held W.faults source.new sink.new;
         }) self.new }
         ensures follows { follows self.old self.new };
+
+    /// Enters into the log what it has come to. What the log knew, it knows still.
+    fn enter(&mut self, log: &mut Self::Log)
+        ensures same { self.new ≡ self.old }
+        ensures knows { knows log.new self.old }
+        ensures knows_still { KnowsStill (knows log.old) (knows log.new) };
 
     // After none it is as it was.
     ghost stays: { (seat : Self) → follows seat seat };

@@ -1,6 +1,6 @@
 use Rattle.std.proofs.Common.{rules}
 use Rattle.office_links.specs.Links.{standing_by}
-use Rattle.link_workers.proofs.GivenBack.{tells_came, tells_more, tells_none, tells_same, tells_taken}
+use Rattle.link_workers.proofs.GivenBack.{logged_still, tells_came, tells_more, tells_none, tells_same, tells_taken}
 use Rattle.link_workers.proofs.SoFar.{so_far_all, so_far_more, so_far_none}
 use Rattle.link_workers.proofs.alone.serve_links.Goals as goal
 
@@ -9,6 +9,7 @@ loop-source-init g c = record {
   served = so_far_none g.T.Seat.serves _ _ _;
   given_back = tells_none _ _;
   unfaulted = search rules;
+  knows_still = λ entered known. known;
   in_order = c.requires.in_order;
   follows = g.met.T.Seat.stays _;
 }
@@ -16,7 +17,7 @@ loop-source-init g c = record {
 pub loop-source-preserved : goal.loop-source-preserved
 loop-source-preserved g c =
     let standing = standing_by g.L.In.Source.left g.L.In.Source.faults g.L.Out.Sink.held g.L.Out.Sink.faults in
-    let before = c.loop-source.invariant.given_back in
+    let before = logged_still _ _ _ c.serve_link.ensures.knows_still _ _ c.loop-source.invariant.given_back in
     let served = c.serve_link.ensures.served in
     record {
       served = so_far_more g.T.Seat.serves standing _ _ _ _ _ _ _ _ _ _ _
@@ -26,8 +27,9 @@ loop-source-preserved g c =
           (tells_taken standing _ _ _ _ c.in-Link.source c.in-Link.sink before c.in-Link.ensures.links)
           served.2
           (tells_came standing _ _ _ _ c.in-Link.source c.in-Link.sink before c.in-Link.ensures.links)
-          (_, _, c.loop-source.invariant.follows, served.1);
+          (_, (_, c.loop-source.invariant.follows, served.1), c.serve_link.ensures.knows);
       unfaulted = search rules;
+      knows_still = λ entered known. c.serve_link.ensures.knows_still entered (c.loop-source.invariant.knows_still entered known);
       in_order = c.serve_link.ensures.in_order;
       follows = g.met.T.Seat.joins _ _ _ c.loop-source.invariant.follows c.serve_link.ensures.follows;
     }

@@ -9,7 +9,7 @@ done-requires g c =
       served = (
         standing c.in-Some-next.source c.in-Some-next.sink,
         c.in-Some-next.ensures.came,
-        hung_up g.B.Start.is_made _ _ _ _ _ _ _ c.hang_up.ensures.held c.hang_up.ensures.faults
-            (c.requires.makes _ (_, _, c.loop.invariant.follows, c.serve.ensures.serves)),
+        hung_up (λ link. g.B.Start.is_made link c.serve.new.self) _ _ _ _ _ _ _ c.hang_up.ensures.held c.hang_up.ensures.faults
+            (c.requires.makes _ _ (_, c.loop.invariant.follows, c.serve.ensures.serves)),
       );
     }

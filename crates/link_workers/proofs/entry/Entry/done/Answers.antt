@@ -1,7 +1,8 @@
 use Rattle.std.proofs.Common.{◌∙◌, arith, sym, subst}
 use Rattle.office_io.specs.Outside.{Faulted}
 use Rattle.office_links.specs.Links.{standing_by}
-use Rattle.link_workers.proofs.GivenBack.{tells_more}
+use Rattle.link_workers.specs.Links.{IsLogged}
+use Rattle.link_workers.proofs.GivenBack.{logged_still, tells_more}
 use Rattle.link_workers.proofs.entry.Entry.done.Goals as goal
 
 pub invariant_of-self : goal.invariant_of-self
@@ -15,6 +16,6 @@ invariant_of-self g c =
       λ is. let fails = c.self.invariant.2 is in
           let some = fails.0 in
           (omega (arith, some, count), subst (Faulted g.B.Start.faults) (sym c.done.ensures.cause) fails.1),
-      tells_more g.B.Start.is_made (record { came = served.0; given_back = standing c.args.source c.args.sink }) _ _ _ c.self.invariant.3
-          c.done.ensures.links served.1 served.2,
+      tells_more (IsLogged g.B.Start.is_made (g.T.Seat.knows c.enter.new.log)) (record { came = served.0; given_back = standing c.args.source c.args.sink }) _ _ _
+          (logged_still _ _ _ c.enter.ensures.knows_still _ _ c.self.invariant.3) c.done.ensures.links served.1 (_, served.2, c.enter.ensures.knows),
     )
