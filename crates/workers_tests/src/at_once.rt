@@ -20,7 +20,7 @@ fn two_links_are_served_at_once(rt: HostRuntime) {
     let listener = MemoryListener::new(alloc, links, Vec::new(alloc)).expect(&rt, "memory");
     let served = Mutex::new(0);
     let mut seats = [Echo::new(&rt, &served), Echo::new(&rt, &served)];
-    let ended = serve_all(&rt, alloc, listener, &mut seats);
+    let ended = serve_all(&rt, alloc, listener, &mut seats, 0);
     assert!(rt; !ended.failed);
     assert!(rt; ended.listener.given_back().len() == 2);
     for link in ended.listener.given_back() {

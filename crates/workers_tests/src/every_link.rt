@@ -44,6 +44,20 @@ struct Outcome {
     listener: InMemory,
     failed: bool,
     served: u32,
+    /// What the log says at the end, and what it should say.
+    entered: u32,
+    most_given: u32,
+}
+
+/// How many links the seat was given that was given the most.
+fn most_given<R: Wait>(seats: &[Echo<'_, R>]) -> u32 {
+    let mut most = 0;
+    for seat in seats {
+        if most < seat.given {
+            most = seat.given;
+        }
+    }
+    most
 }
 
 /// Serves the texts by this many workers. The calls of `accept` with the numbers in `failing` fail.
@@ -62,12 +76,15 @@ fn served_by<R: Threads + Wait + Abort + Sync>(
     }
     assert!(rt; seats.len() == workers);
     let listener = listener(rt, alloc, &TEXTS, failing);
-    let ended = serve_all(rt, alloc, listener, seats.as_mut_slice());
+    let ended = serve_all(rt, alloc, listener, seats.as_mut_slice(), 0);
+    let most_given = most_given(&seats);
     drop(seats);
     Outcome {
         listener: ended.listener,
         failed: ended.failed,
         served: served.into_inner(),
+        entered: ended.log,
+        most_given,
     }
 }
 
@@ -94,6 +111,17 @@ fn each_link_is_served_once_and_given_back(rt: HostRuntime) {
         }
         assert!(rt; outcome.listener.faults() == 0);
         assert!(rt; left(outcome.listener) == 0);
+    }
+}
+
+// Twelve links are given to at most eight seats, so one is given two or more.
+#[test]
+fn the_log_knows_each_seat_at_its_last_link(rt: HostRuntime) {
+    for workers in [1, 2, 8] {
+        let outcome = served_by(&rt, rt.alloc(), workers, &[]);
+        assert!(rt; outcome.entered == outcome.most_given);
+        assert!(rt; outcome.entered >= 2);
+        assert!(rt; workers > 1 || outcome.entered == 12);
     }
 }
 

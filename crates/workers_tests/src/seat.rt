@@ -4,10 +4,14 @@ use std::alloc::Global;
 use std::sync::{Mutex, Wait};
 
 /// A seat that writes back what comes, and counts the links that it served to their end, together with other seats.
+///
+/// Into the log goes the most that one seat was given.
 #[derive(Drop)]
 pub struct Echo<'a, R: Wait> {
     rt: &'a R,
     served: &'a Mutex<u32>,
+    /// How many links this seat was given.
+    pub given: u32,
 }
 
 /// The most pieces of a link that are written back.
@@ -16,13 +20,19 @@ const MOST_PIECES: u32 = 1000;
 impl<'a, R: Wait> Echo<'a, R> {
     /// A seat with this count.
     pub fn new(rt: &'a R, served: &'a Mutex<u32>) -> Echo<'a, R> {
-        Echo { rt, served }
+        Echo {
+            rt,
+            served,
+            given: 0,
+        }
     }
 }
 
 impl<'a, R: Wait> Seat for Echo<'a, R> {
-    ghost use Rattle.std.specs.Prelude.{⊤};
+    ghost use Rattle.std.specs.Prelude.{⊤, ◌≤◌};
     ghost use Rattle.std.proofs.Common.{rules};
+
+    type Log = u32;
 
     ghost in_order = { λ seat. ⊤ };
 
@@ -30,10 +40,19 @@ impl<'a, R: Wait> Seat for Echo<'a, R> {
 
     ghost follows = { λ seat seat_now. ⊤ };
 
+    ghost knows = { λ log seat. seat.given ≤ log };
+
     fn serve<S: Source, W: Sink>(&mut self, _alloc: Global, source: &mut S, sink: &mut W) {
+        self.given = self.given.saturating_add(1);
         if echoed_whole(source, sink) {
             let mut served = self.served.lock(self.rt);
             *served = served.saturating_add(1);
+        }
+    }
+
+    fn enter(&mut self, log: &mut u32) {
+        if *log < self.given {
+            *log = self.given;
         }
     }
 

@@ -36,7 +36,7 @@ fn connections_are_served_by_two_workers(rt: HostRuntime) -> io::Result<()> {
     let three = client(&rt, port, b"three")?;
     let served = Mutex::new(0);
     let mut seats = [Echo::new(&rt, &served), Echo::new(&rt, &served)];
-    let ended = serve_all(&rt, rt.alloc(), links, &mut seats);
+    let ended = serve_all(&rt, rt.alloc(), links, &mut seats, 0);
     assert!(rt; !ended.failed && ended.listener.faults() == 0);
     assert!(rt; hears(rt.alloc(), &one, "one")?);
     assert!(rt; hears(rt.alloc(), &two, "two")?);
@@ -64,7 +64,7 @@ fn one_after_another<N: Net<Listener = TcpListener, Stream = TcpStream> + Clock>
 fn by_two<R: Threads + Wait + Sync>(rt: &R, alloc: Global, links: TcpLinks) -> bool {
     let served = Mutex::new(0);
     let mut seats = [Echo::new(rt, &served), Echo::new(rt, &served)];
-    let ended = serve_all(rt, alloc, links, &mut seats);
+    let ended = serve_all(rt, alloc, links, &mut seats, 0);
     !ended.failed
 }
 
