@@ -1,71 +1,133 @@
 -- What a desk leaves that ends with a pass.
-use Rattle.std.proofs.Common.{◌≡◌, ◌∙◌, ◌⊎◌, ◌<◌, inl, inr, refl, ℕ, List, length, sym, subst}
-use Rattle.std.specs.{Prelude.Option, Prelude.None, Io.KnownBytes.Keeps as KeepsBytes}
+use Rattle.std.proofs.Common.{◌≡◌, ◌∙◌, ◌⊎◌, ◌<◌, ◌≤◌, inl, inr, refl, ℕ, ◌+◌, ◌-◌, List, [], ◌∷◌, ◌++◌, length, get_or, ap, sym, subst, arith}
+use Rattle.std.proofs.lemmas.List.Elements.{All-contains, All-push, Contains-get_or}
+use Rattle.std.specs.{Prelude.All, Prelude.Contains, Prelude.Option, Prelude.None, Io.KnownBytes.Keeps as KeepsBytes}
 use Rattle.office_io.specs.Outside.{Faulted}
-use Rattle.book_rows.specs.{Book.Book}
-use Rattle.desk_history.specs.declared.views.{PassView.PassView, Start.Start}
-use Rattle.link_workers.specs.Links.{ServesLinks}
+use Rattle.book_rows.specs.{declared.rows.Batch.Batch, Book.Book, Book.appended}
+use Rattle.desk_history.proofs.Entries.{of_rows, those_own}
+use Rattle.desk_history.specs.{declared.views.PassView.PassView, declared.views.Start.Start, Laws.EntriesAreOfTheNumber, Rule.AreOfPasses, Seen.entries_of, Seen.tries_of}
+use Rattle.http_front.specs.Together.{KnowsBeginning}
+use Rattle.link_workers.proofs.GivenBack.{tells_otherwise}
+use Rattle.link_workers.specs.Links.{IsLogged, IsServedByOne}
 use Rattle.office_links.specs.Links.{Links}
 use Rattle.http_front.specs.Below.clerk_desk.Serving.{IsLeft}
 use Rattle.program_answers.specs.{Keeping.OutlivesStops, Opening.Door, Opening.door, Opening.largest}
-use Rattle.shared_desk.specs.{Deciding.Survives, Desk.IsFinished, History.IsLegalHistory, History.capacity_of, History.tables_at, Passes.AreFresh, Passes.IsFresh}
+use Rattle.shared_desk.specs.{Calls.Further, Deciding.IsLeftBy, Desk.HasItsOwn, Desk.IsFinishedWith, History.IsLegalHistory, History.capacity_of, History.tables_at, Passes.AreFresh, Passes.IsFresh}
 use mathlib.Core.List.{IsPrefix}
 use Rattle.book_rows.specs.declared.rows.ActRow.{ActRow}
-use Rattle.desk_history.proofs.Fronts.{prefix_more}
 use Rattle.keeper_core.specs.Keeping.{LeavesTold}
-use Rattle.office_server.specs.{Links.IsServed, Links.LeavesDesk, Links.ServesInTurn, Links.ServesTogether, Links.WorksBy, Server.EndsBy, Server.IsUnserved, Server.Writes, Server.book_line, declared.desk.How.How}
+use Rattle.office_server.proofs.Logs.{knows_on, prefix_joins}
+use Rattle.office_server.proofs.SeatLemmas.{fresh_at, further_number}
+use Rattle.office_server.specs.{Links.HasLearned, Links.IsLeftByOne, Links.IsServed, Links.LeavesDesk, Links.LeavesTried, Links.MayLeave, Links.MayLeaveNow, Links.ServesAlone, Links.ServesInTurn, Links.ServesTogether, Links.WorksBy, Server.EndsBy, Server.IsUnserved, Server.Writes, Server.book_line, declared.desk.How.How}
 
--- a beginning of a beginning
-pub prefix_joins : (a b c : List ActRow) → IsPrefix a b → IsPrefix b c → IsPrefix a c
-prefix_joins a b c first (rest, is) = subst (λ (l : List ActRow). IsPrefix a l) is (prefix_more a b rest first)
+-- what is tried of the first session alone is all of its number
+tried_alone : (number : ℕ) (tried : List Batch) → number ≡ 1 → AreOfPasses 2 tried → tries_of number tried ≡ tried
+tried_alone number tried one all =
+    those_own of_rows number tried (λ k d within. let bounds = all k d within in let low = bounds.0 in let high = bounds.1 in omega (arith, low, high, one))
 
-module _ (start : Start) (pass : PassView) (tables : Book) (told holds : Book → Type 0) (well sound tells : Type 0) (leaves : Option Book → Type 0) (same : pass.start ≡ start)
-    (finished : IsFinished pass tables told holds well sound tells leaves) where
+module _ (start : Start) (pass : PassView) (made : ℕ) (tables : Book) (told holds : Book → Type 0) (well sound tells : Type 0) (leaves : Option Book → Type 0) (same : pass.start ≡ start)
+    (others : List PassView) (ends : IsFinishedWith others pass made tables told holds well sound tells leaves) where
   pub leaves_desk : capacity_of start ≡ largest → LeavesDesk told holds tables
   leaves_desk capacity = record {
     start = pass.start;
     capacity = subst (λ (s : Start). capacity_of s ≡ largest) (sym same) capacity;
-    history = finished.history;
-    legal = finished.legal;
-    whole = finished.whole;
-    kept = finished.kept;
-    first = finished.first;
+    history = ends.end.history;
+    legal = ends.end.legal;
+    whole = ends.end.whole;
+    kept = ends.end.kept;
+    first = ends.end.first;
   }
 
-  pub survives : capacity_of start ≡ largest → Survives sound largest tables holds tells leaves
-  survives capacity is_sound tell now is after left =
-      subst (λ capacity. IsLeft capacity tables after) (subst (λ (s : Start). capacity_of s ≡ largest) (sym same) capacity) (finished.stopped is_sound tell now is after left)
+  by_tries : capacity_of start ≡ largest → (after : Option Book) → MayLeave sound tells holds leaves after → IsLeftBy largest tables ends.end.tried after
+  by_tries capacity after (is_sound, tell, (now, is), left) =
+      subst (λ capacity. IsLeftBy capacity tables ends.end.tried after) (subst (λ (s : Start). capacity_of s ≡ largest) (sym same) capacity) (ends.end.stopped is_sound tell now is after left)
 
-  pub in_turn : (shows : ℕ → Type 0) (first : PassView) (left left_now : ℕ) (links links_now : Option Links) → IsFresh start 1 first
-      → ServesLinks (λ old link new. IsServed shows old new link) first pass left left_now links links_now → ServesInTurn shows left left_now links links_now tables
-  in_turn shows first left left_now links links_now fresh served = record {
+  pub leaves_tried : (workers : ℕ) → capacity_of start ≡ largest → made ≤ workers → LeavesTried workers (MayLeave sound tells holds leaves) tables
+  leaves_tried workers capacity few = record {
+    tried = ends.end.tried;
+    of_workers = λ k d within. let bounds = ends.end.of_passes k d within in let high = bounds.1 in (bounds.0, omega (arith, high, few));
+    left = by_tries capacity;
+  }
+
+  pub in_turn : (shows : ℕ → Type 0) (first : PassView) (left left_now : ℕ) (links links_now : Option Links) → capacity_of start ≡ largest → made ≤ 1 → IsFresh start 1 first
+      → ServesAlone shows first pass left left_now links links_now → ServesInTurn shows left left_now links links_now (MayLeave sound tells holds leaves) tables
+  in_turn shows first left left_now links links_now capacity few fresh alone = record {
     start = start;
     pass = first;
     fresh = fresh;
-    pass_now = pass;
-    served = served;
-    history = finished.history;
-    legal = subst (λ (s : Start). IsLegalHistory s finished.history) same finished.legal;
-    front = finished.front;
-    whole = subst (λ (s : Start). tables ≡ tables_at s finished.history) same finished.whole;
+    pass_now = alone.pass_now;
+    served = alone.served;
+    history = ends.end.history;
+    legal = subst (λ (s : Start). IsLegalHistory s ends.end.history) same ends.end.legal;
+    front = prefix_joins _ _ _ alone.learned.front ends.end.front;
+    whole = subst (λ (s : Start). tables ≡ tables_at s ends.end.history) same ends.end.whole;
+    stopped = λ after may.
+        let first_alone : AreOfPasses 2 ends.end.tried = λ k d within. let bounds = ends.end.of_passes k d within in let high = bounds.1 in (bounds.0, omega (arith, high, few)) in
+        let own : ends.end.tried ≡ alone.pass_now.tried = sym (tried_alone pass.number ends.end.tried (alone.learned.number ∙ (alone.number ∙ fresh.number_is)) first_alone) ∙ (ends.end.own_tries ∙ alone.learned.tried) in
+        subst (λ tried. IsLeftBy largest tables tried after) own (by_tries capacity after may);
+  }
+
+  -- the pass that ended the desk, before it learned what others know
+  own_of : (ended : PassView) → HasLearned ended pass → HasItsOwn ends.end.history ends.end.tried ended
+  own_of ended learned = record {
+    front = prefix_joins _ _ _ learned.front ends.end.front;
+    own = subst (λ number. entries_of number ends.end.history ≡ entries_of ended.number ended.list) learned.number (ends.end.own ∙ learned.own);
+    own_tries = subst (λ number. tries_of number ends.end.tried ≡ ended.tried) learned.number (ends.end.own_tries ∙ learned.tried);
   }
 
   -- and together, where the pass knows what each of those that served knows
-  pub together : (shows : ℕ → Type 0) (workers : ℕ) (passes : List PassView) (links links_now : Option Links) → length passes ≡ workers → AreFresh start 1 passes
-      → WorksBy shows passes pass links links_now → ServesTogether shows workers links links_now tables
-  together shows workers passes links links_now many fresh works = record {
-    start = start;
-    passes = passes;
-    many = many;
-    fresh = fresh;
-    passes_now = works.passes_now;
-    follows = works.follows;
-    given_back = works.given_back;
-    history = finished.history;
-    legal = subst (λ (s : Start). IsLegalHistory s finished.history) same finished.legal;
-    fronts = λ k d within. prefix_joins _ _ _ (works.fronts k d within) finished.front;
-    whole = subst (λ (s : Start). tables ≡ tables_at s finished.history) same finished.whole;
-  }
+  module _
+      (shows : ℕ → Type 0) (workers : ℕ) (passes : List PassView) (links links_now : Option Links) (many : length passes ≡ workers) (few : made ≤ workers)
+      (capacity : capacity_of start ≡ largest) (fresh : AreFresh start 1 passes) (works : WorksBy shows passes others pass links links_now) (laws : EntriesAreOfTheNumber) where
+    abbrev passes_now : List PassView
+    passes_now = others ++ works.ended ∷ []
+
+    owns : All (HasItsOwn ends.end.history ends.end.tried) passes_now
+    owns = All-push (HasItsOwn ends.end.history ends.end.tried) others works.ended ends.own (own_of works.ended works.learned)
+
+    -- a try of a number is one of the pass that has it
+    is_of_one : (rows : Batch) → Contains ends.end.tried rows → (pass_now : PassView) × Contains passes_now pass_now × Contains pass_now.tried rows
+    is_of_one rows among =
+        let bounds = All-contains (λ (it : Batch). (1 ≤ it.act.session) × (it.act.session < made + 1)) ends.end.tried rows ends.end.of_passes among in
+        let low = bounds.0 in
+        let high = bounds.1 in
+        let place : ℕ = rows.act.session - 1 in
+        let within : place < length passes = omega (arith, low, high, few, many) in
+        let within_now : place < length passes_now = let same = works.follows.many in omega (arith, within, same) in
+        let pass_now = get_or passes_now place works.ended in
+        let goes = further_number (get_or passes place works.ended) pass_now (works.follows.each place works.ended within) in
+        let at = fresh_at start 1 passes fresh place works.ended within in
+        let number : rows.act.session ≡ pass_now.number = omega (arith, goes, at, low) in
+        let of_number = (laws.tries rows.act.session ends.end.tried rows).stands among refl in (
+          pass_now,
+          Contains-get_or passes_now place works.ended within_now,
+          subst (λ tried. Contains tried rows) (ap (λ n. tries_of n ends.end.tried) number ∙ (owns place works.ended within_now).own_tries) of_number,
+        )
+
+    left_by_one : (after : Option Book) → IsLeftBy largest tables ends.end.tried after → IsLeftByOne tables passes_now after
+    left_by_one after (inl same) = inl same
+    left_by_one after (inr on) =
+        let one = is_of_one on.rows on.were_tried in
+        inr (one.0, one.1, record { rows = on.rows; were_tried = one.2; appends_them = on.appends_them; left = on.left })
+
+    pub together : ServesTogether shows workers links links_now (MayLeave sound tells holds leaves) tables
+    together = record {
+      start = start;
+      passes = passes;
+      many = many;
+      fresh = fresh;
+      passes_now = passes_now;
+      follows = works.follows;
+      history = ends.end.history;
+      given_back = (let by = IsServedByOne (λ pass link pass_now. IsServed shows pass pass_now link) Further passes in
+          tells_otherwise (IsLogged by (KnowsBeginning pass.start pass.list)) (IsLogged by (KnowsBeginning start ends.end.history))
+          (λ link logged. (logged.0, logged.1, knows_on pass.start start pass.list ends.end.history logged.0 (sym same) ends.end.front logged.2)) links links_now works.given_back);
+      legal = subst (λ (s : Start). IsLegalHistory s ends.end.history) same ends.end.legal;
+      fronts = λ k d within. (owns k d within).front;
+      own = λ k d within. (owns k d within).own;
+      whole = subst (λ (s : Start). tables ≡ tables_at s ends.end.history) same ends.end.whole;
+      stopped = λ after may. left_by_one after (by_tries capacity after may);
+    }
 
 -- the book that the desk was told of, said otherwise
 pub told_otherwise : (told other holds : Book → Type 0) (tables : Book) → ((book : Book) → told book → other book) → LeavesDesk told holds tables → LeavesDesk other holds tables
@@ -79,13 +141,63 @@ told_otherwise told other holds tables means leaves = record {
   first = λ now is. means _ (leaves.first now is);
 }
 
+-- what a stop may leave, said otherwise
+pub leaves_otherwise : (workers : ℕ) (may_leave other : Option Book → Type 0) (tables : Book) → ((after : Option Book) → other after → may_leave after)
+    → LeavesTried workers may_leave tables → LeavesTried workers other tables
+leaves_otherwise workers may_leave other tables means leaves = record {
+  tried = leaves.tried;
+  of_workers = leaves.of_workers;
+  left = λ after may. leaves.left after (means after may);
+}
+
+pub in_turn_otherwise : (shows : ℕ → Type 0) (left left_now : ℕ) (links links_now : Option Links) (may_leave other : Option Book → Type 0) (tables : Book)
+    → ((after : Option Book) → other after → may_leave after) → ServesInTurn shows left left_now links links_now may_leave tables
+    → ServesInTurn shows left left_now links links_now other tables
+in_turn_otherwise shows left left_now links links_now may_leave other tables means turn = record {
+  start = turn.start;
+  pass = turn.pass;
+  fresh = turn.fresh;
+  pass_now = turn.pass_now;
+  served = turn.served;
+  history = turn.history;
+  legal = turn.legal;
+  front = turn.front;
+  whole = turn.whole;
+  stopped = λ after may. turn.stopped after (means after may);
+}
+
+pub together_otherwise : (shows : ℕ → Type 0) (workers : ℕ) (links links_now : Option Links) (may_leave other : Option Book → Type 0) (tables : Book)
+    → ((after : Option Book) → other after → may_leave after) → ServesTogether shows workers links links_now may_leave tables
+    → ServesTogether shows workers links links_now other tables
+together_otherwise shows workers links links_now may_leave other tables means serves = record {
+  start = serves.start;
+  passes = serves.passes;
+  many = serves.many;
+  fresh = serves.fresh;
+  passes_now = serves.passes_now;
+  follows = serves.follows;
+  history = serves.history;
+  given_back = serves.given_back;
+  legal = serves.legal;
+  fronts = serves.fronts;
+  own = serves.own;
+  whole = serves.whole;
+  stopped = λ after may. serves.stopped after (means after may);
+}
+
+-- rows that were tried are those of a further act
+is_left : (held : Book) (tried : List Batch) (after : Option Book) → IsLeftBy largest held tried after → IsLeft largest held after
+is_left held tried after (inl same) = inl same
+is_left held tried after (inr on) =
+    inr (appended held on.rows, record { rows = on.rows; appends_them = on.appends_them; makes = refl; left = on.left })
+
 -- what the desk's tables outlive, the keeper's book does, which is the same
-pub outlives : (sound : Type 0) (tables : Book) (holds : Book → Type 0) (leaves : Option Book → Type 0) (tells : Type 0)
+pub outlives : (workers : ℕ) (tables : Book) (holds : Book → Type 0) (leaves : Option Book → Type 0) (tells : Type 0)
     (holds_now : Book → Type 0) (leaves_now : Option Book → Type 0) (tells_now : Type 0)
-    → ((tells → LeavesTold holds leaves) → sound) → ((now : Book) → holds_now now → now ≡ tables)
-    → Survives sound largest tables holds_now tells_now leaves_now → OutlivesStops holds leaves tells holds_now leaves_now tells_now
-outlives sound tables holds leaves tells holds_now leaves_now tells_now means kept survives is_sound tell now is after left =
-    subst (λ held. IsLeft largest held after) (sym (kept now is)) (survives (means is_sound) tell now is after left)
+    → ((now : Book) → holds_now now → now ≡ tables)
+    → LeavesTried workers (MayLeaveNow holds leaves tells holds_now leaves_now tells_now) tables → OutlivesStops holds leaves tells holds_now leaves_now tells_now
+outlives workers tables holds leaves tells holds_now leaves_now tells_now kept by is_sound tell now is after left =
+    subst (λ held. IsLeft largest held after) (sym (kept now is)) (is_left tables by.tried after (by.left after (is_sound, tell, (now, is), left)))
 
 -- ---- how it ended
 

@@ -1,3 +1,5 @@
 mod Statuses
+mod Logs
 mod SeatLemmas
 mod Leaving
+mod Together

@@ -77,12 +77,12 @@ given_all served (Some links) links_now left_now none (told_now, is, fits, tells
 
 module _
     {L : Type 0} (shows : ℕ → Type 0) (workers : ℕ) (listener listener_now : L) (left : L → ℕ) (links : L → Option Links)
-    (holds holds_now : Book → Type 0) (bad_now : BadRow → Type 0) (old new : Door) (status : ℕ) where
+    (holds holds_now : Book → Type 0) (bad_now : BadRow → Type 0) (may_leave : Option Book → Type 0) (old new : Door) (status : ℕ) where
   abbrev Came : Type 0
-  Came = Comes shows workers listener listener_now left links holds holds_now bad_now old new status
+  Came = Comes shows workers listener listener_now left links holds holds_now bad_now may_leave old new status
 
   abbrev Desk : Type 0
-  Desk = DeskServed shows workers listener listener_now left links holds holds_now old new status
+  Desk = DeskServed shows workers listener listener_now left links holds holds_now may_leave old new status
 
   -- links were served until none was left, and the line was written
   record Whole (d : Desk) : Type 0 where
@@ -115,7 +115,7 @@ module _
   given_back came one zero = let w = whole came zero in by_turn w.1.none_left (w.0.in_turn one)
     where
       by_turn : {tables : Book} → left listener_now ≡ 0
-          → IsUnserved listener listener_now old new status ⊎ ServesInTurn shows (left listener) (left listener_now) (links listener) (links listener_now) tables
+          → IsUnserved listener listener_now old new status ⊎ ServesInTurn shows (left listener) (left listener_now) (links listener) (links listener_now) may_leave tables
           → IfSome (links listener) (λ told. GivesAllBack told (links listener_now))
       by_turn none (inl unserved) = let is = unserved.status_is in absurd (omega (arith, is, zero))
       by_turn none (inr turn) = given_all turn.served.served (links listener) (links listener_now) (left listener_now) none turn.served.told

@@ -1,2 +1,3 @@
 pub mod Links
 pub mod Server
+pub mod Together

@@ -7,7 +7,7 @@ use Rattle.book_rows.specs.Book.{Book}
 use Rattle.keeper_core.specs.Keeping.{BadRow}
 use Rattle.http_front.specs.Below.clerk_desk.{Opening.IsFirstFault, Below.office_step.declared.fault.Fault.Fault}
 use Rattle.program_answers.specs.{Answer.Answer, Answer.Ends, Opening.Door, Opening.Fails, Opening.bad_book, Opening.largest}
-use Rattle.office_server.specs.Links.{LeavesDesk, ServesInTurn, ServesTogether}
+use Rattle.office_server.specs.Links.{LeavesDesk, LeavesTried, ServesInTurn, ServesTogether}
 
 -- how many acts a book has
 abbrev pub book_line : Book → Answer
@@ -48,20 +48,22 @@ EndsBy listener listener_now left_now tables old new status =
     ServesAll left_now tables old new status ⊎ (BreaksOff left_now old new status ⊎ IsUnserved listener listener_now old new status)
 
 -- A desk was opened on the keeper's book, and its workers served the links, each by its own pass. One worker alone served them
--- in their turn.
+-- in their turn. A stop leaves the tables, or these and rows that a session of one of the workers tried.
 pub record DeskServed {L : Type 0}
-    (shows : ℕ → Type 0) (workers : ℕ) (listener listener_now : L) (left : L → ℕ) (links : L → Option Links) (holds holds_now : Book → Type 0) (old new : Door) (status : ℕ) : Type 0 where
+    (shows : ℕ → Type 0) (workers : ℕ) (listener listener_now : L) (left : L → ℕ) (links : L → Option Links) (holds holds_now : Book → Type 0)
+    (may_leave : Option Book → Type 0) (old new : Door) (status : ℕ) : Type 0 where
   pub tables : Book
   pub leaves : LeavesDesk holds holds_now tables
+  pub stopped : LeavesTried workers may_leave tables
   pub ended : EndsBy listener listener_now (left listener_now) tables old new status
-  pub together : IsUnserved listener listener_now old new status ⊎ ServesTogether shows workers (links listener) (links listener_now) tables
+  pub together : IsUnserved listener listener_now old new status ⊎ ServesTogether shows workers (links listener) (links listener_now) may_leave tables
   pub in_turn : workers ≡ 1 → IsUnserved listener listener_now old new status
-      ⊎ ServesInTurn shows (left listener) (left listener_now) (links listener) (links listener_now) tables
+      ⊎ ServesInTurn shows (left listener) (left listener_now) (links listener) (links listener_now) may_leave tables
 
 -- or the book wasn't opened, and the listener is as it was
-abbrev pub Comes : {L : Type 0} → (ℕ → Type 0) → ℕ → L → L → (L → ℕ) → (L → Option Links) → (Book → Type 0) → (Book → Type 0) → (BadRow → Type 0) → Door → Door → ℕ → Type 0
-Comes shows workers listener listener_now left links holds holds_now bad_now old new status =
-    DeskServed shows workers listener listener_now left links holds holds_now old new status
+abbrev pub Comes : {L : Type 0} → (ℕ → Type 0) → ℕ → L → L → (L → ℕ) → (L → Option Links) → (Book → Type 0) → (Book → Type 0) → (BadRow → Type 0) → (Option Book → Type 0) → Door → Door → ℕ → Type 0
+Comes shows workers listener listener_now left links holds holds_now bad_now may_leave old new status =
+    DeskServed shows workers listener listener_now left links holds holds_now may_leave old new status
     ⊎ ((listener_now ≡ listener) × Fails holds holds_now bad_now old new status)
 
 -- ---- what a status says by itself

@@ -3,12 +3,12 @@ ghost use Rattle.book_rows.specs.Book.{Book, book_of as rows_of};
 ghost use Rattle.office_io.specs.Outside.{Faulted};
 ghost use Rattle.program_answers.specs.Opening.{largest};
 ghost use Rattle.desk_history.specs.declared.views.{PassView.PassView, Start.Start};
-ghost use Rattle.link_workers.specs.Links.{ServesLinks};
-ghost use Rattle.shared_desk.specs.{Deciding.Survives, Desk.IsFinished, History.capacity_of};
-ghost use Rattle.office_server.specs.Links.{IsServed, LeavesDesk, ServesInTurn, ServesTogether, WorksBy};
+ghost use Rattle.shared_desk.specs.{Desk.IsFinishedWith, History.capacity_of};
+ghost use Rattle.office_server.specs.Links.{LeavesDesk, LeavesTried, MayLeave, ServesAlone, ServesInTurn, ServesTogether, WorksBy};
 ghost use Rattle.office_server.specs.declared.desk.How.TheVariants as how;
 
-use crate::seats::{gathered, passes_of, seats_by};
+use crate::seats::{SeatPasses, Seated, gathered, passes_of, seats_by};
+use desk_history::entries_are_those_of_the_number;
 use http_front::shared_desk::{Desk, Finished, Naming, Pass, SharedDesk};
 use keeper_core::Keeper;
 use link_workers::{Ended, serve_all};
@@ -53,16 +53,18 @@ where
     requires capacity { capacity_of desk.start ≡ largest }
     ensures leaves { LeavesDesk B.told (K.holds result.finished.keeper) (rows_of result.finished.tables) }
     ensures tells_on { K.is_well result.finished.keeper → (was : Book) → B.told was → K.holds result.finished.keeper (rows_of result.finished.tables) }
-    ensures stopped { Survives B.sound largest (rows_of result.finished.tables) (K.holds result.finished.keeper)
-        (K.tells_crash result.finished.keeper) (K.leaves result.finished.keeper) }
+    ensures stopped { LeavesTried workers (MayLeave B.sound (K.tells_crash result.finished.keeper) (K.holds result.finished.keeper) (K.leaves result.finished.keeper))
+        (rows_of result.finished.tables) }
     ensures whole { result.how ≡ how.Whole → (L.left result.listener ≡ 0) × (L.faults result.listener ≡ L.faults listener) }
     ensures failed { result.how ≡ how.AcceptFailed → (0 < L.left result.listener) × Faulted (L.faults listener) (L.faults result.listener) }
     ensures unserved { result.how ≡ how.Unserved → result.listener ≡ listener }
-    ensures together { (result.how ≡ how.Unserved) ⊎ ServesTogether (C.may_show clock.now) workers
-        (L.links listener) (L.links result.listener) (rows_of result.finished.tables) }
+    ensures together { (result.how ≡ how.Unserved) ⊎ ServesTogether (C.may_show clock.now) workers (L.links listener) (L.links result.listener)
+        (MayLeave B.sound (K.tells_crash result.finished.keeper) (K.holds result.finished.keeper) (K.leaves result.finished.keeper)) (rows_of result.finished.tables) }
     ensures in_turn { workers ≡ 1 → (result.how ≡ how.Unserved) ⊎ ServesInTurn (C.may_show clock.now)
-        (L.left listener) (L.left result.listener) (L.links listener) (L.links result.listener) (rows_of result.finished.tables) }
+        (L.left listener) (L.left result.listener) (L.links listener) (L.links result.listener)
+        (MayLeave B.sound (K.tells_crash result.finished.keeper) (K.holds result.finished.keeper) (K.leaves result.finished.keeper)) (rows_of result.finished.tables) }
 {
+    entries_are_those_of_the_number();
     match passes_of(alloc, &mut desk, workers) {
         Ok(passes) => {
             let worked = serve_by(rt, alloc, desk.shared(), passes, listener, clock);
@@ -72,6 +74,7 @@ where
             desk,
             Worked {
                 pass,
+                others: Vec::new(alloc),
                 listener,
                 how: How::Unserved,
             },
@@ -79,28 +82,30 @@ where
     }
 }
 
-/// What the workers leave: the pass that has seen what all have.
+/// What the workers leave: the pass that has seen what all have, and the others.
 #[derive(Drop)]
 struct Worked<L, B: Naming> {
     pass: Pass<B>,
+    others: Vec<Pass<B>>,
     listener: L,
     how: How,
 }
 
-/// Ends a desk with a pass.
+/// Ends a desk with the passes.
 fn left_by<K: Keeper + Drop, B: Naming, L>(desk: Desk<K, B>, worked: Worked<L, B>) -> Left<K, L>
-    ensures finished { IsFinished worked.pass (rows_of result.finished.tables) B.told (K.holds result.finished.keeper) (K.is_well result.finished.keeper)
+    ensures finished { IsFinishedWith worked.others.items worked.pass desk.made (rows_of result.finished.tables) B.told (K.holds result.finished.keeper) (K.is_well result.finished.keeper)
         B.sound (K.tells_crash result.finished.keeper) (K.leaves result.finished.keeper) }
     ensures listener { result.listener ≡ worked.listener }
     ensures how { result.how ≡ worked.how }
 {
     let Worked {
         pass,
+        others,
         listener,
         how,
     } = worked;
     Left {
-        finished: desk.finish(pass),
+        finished: desk.finish_with(pass, others),
         listener,
         how,
     }
@@ -129,16 +134,22 @@ where
     ensures whole { result.how ≡ how.Whole → (L.left result.listener ≡ 0) × (L.faults result.listener ≡ L.faults listener) }
     ensures failed { result.how ≡ how.AcceptFailed → (0 < L.left result.listener) × Faulted (L.faults listener) (L.faults result.listener) }
     ensures unserved { result.how ≡ how.Unserved → result.listener ≡ listener }
-    ensures works { (result.how ≡ how.Unserved) ⊎ WorksBy (C.may_show clock.now) passes.items result.pass (L.links listener) (L.links result.listener) }
-    ensures alone { (pass : PassView) → passes.items ≡ pass ∷ [] → (result.how ≡ how.Unserved)
-        ⊎ ServesLinks (λ old link new. IsServed (C.may_show clock.now) old new link) pass result.pass
+    ensures works { (result.how ≡ how.Unserved) ⊎ WorksBy (C.may_show clock.now) passes.items result.others.items result.pass (L.links listener) (L.links result.listener) }
+    ensures alone { (pass : PassView) → passes.items ≡ pass ∷ [] → (result.how ≡ how.Unserved) ⊎ ServesAlone (C.may_show clock.now) pass result.pass
         (L.left listener) (L.left result.listener) (L.links listener) (L.links result.listener) }
 {
     match seats_by(rt, alloc, desk, passes, clock) {
-        Ok(mut seats) => {
-            let Ended { listener, failed } = serve_all(rt, alloc, listener, &mut seats);
+        Ok(seated) => {
+            let Seated { mut seats, room } = seated;
+            let Ended {
+                listener,
+                log,
+                failed,
+            } = serve_all(rt, alloc, listener, &mut seats, None);
+            let SeatPasses { last, others } = gathered(seats, room, log);
             Worked {
-                pass: gathered(seats),
+                pass: last,
+                others,
                 listener,
                 how: if failed {
                     How::AcceptFailed
@@ -149,6 +160,7 @@ where
         }
         Err(pass) => Worked {
             pass,
+            others: Vec::new(alloc),
             listener,
             how: How::Unserved,
         },

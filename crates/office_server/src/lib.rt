@@ -2,8 +2,10 @@
 #![tactic(auto)]
 
 mod desk;
+mod laws;
 mod seat;
 mod seats;
 mod server;
 
+pub use laws::links_share_a_history;
 pub use server::{Served, run_serve};

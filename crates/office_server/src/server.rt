@@ -7,6 +7,7 @@ ghost use Rattle.office_io.specs.Outside.{Faulted};
 ghost use Rattle.program_answers.specs.{Keeping.OutlivesStops, Keeping.StillTells, Opening.door, Opening.largest};
 ghost use Rattle.shared_desk.specs.History.{capacity_of};
 ghost use Rattle.office_server.specs.declared.desk.How.TheVariants as ended;
+ghost use Rattle.office_server.specs.Links.{MayLeaveNow};
 ghost use Rattle.office_server.specs.Server.{Comes, DeskServed, GivesAllBack, IsWritten, NamesFault, Writes, book_line};
 
 use crate::desk::{How, Left, serve_desk};
@@ -57,9 +58,11 @@ where
     requires workers { (1 ≤ workers) × (workers ≤ 32) }
 
     // The links are served at a desk on the book that the keeper told, and each that is given back is a session's, by a
-    // worker's pass; or the book isn't opened, and the listener is as it was.
+    // worker's pass; or the book isn't opened, and the listener is as it was. A further act that a stop may leave is one that a
+    // session of one of the workers tried; of one worker, one of its own session's.
     ensures comes { Comes (C.may_show clock.now) workers listener result.listener L.left L.links
         (K.holds keeper) (K.holds result.keeper) (K.bad result.keeper)
+        (MayLeaveNow (K.holds keeper) (K.leaves keeper) (K.tells_crash keeper) (K.holds result.keeper) (K.leaves result.keeper) (K.tells_crash result.keeper))
         (door None (W.held sink.old) (L.faults listener) (W.faults sink.old) (K.faults keeper))
         (door None (W.held sink.new) (L.faults result.listener) (W.faults sink.new) (K.faults result.keeper)) result.status }
 
@@ -128,6 +131,7 @@ where
     requires sound_by { (K.tells_crash keeper → LeavesTold (K.holds keeper) (K.leaves keeper)) → B.sound }
     ensures comes { Comes (C.may_show clock.now) workers listener result.listener L.left L.links
         (K.holds keeper) (K.holds result.keeper) (K.bad result.keeper)
+        (MayLeaveNow (K.holds keeper) (K.leaves keeper) (K.tells_crash keeper) (K.holds result.keeper) (K.leaves result.keeper) (K.tells_crash result.keeper))
         (door None (W.held sink.old) (L.faults listener) (W.faults sink.old) (K.faults keeper))
         (door None (W.held sink.new) (L.faults result.listener) (W.faults sink.new) (K.faults result.keeper)) result.status }
     ensures tells_on { StillTells (K.holds keeper) (K.is_well result.keeper) (K.holds result.keeper) }

@@ -10,8 +10,8 @@ use Rattle.office_server.specs.Server.{Comes, GivesAllBack, IsWritten, NamesFaul
 
 pub record RunsServer {L : Type 0}
     (shows : ℕ → Type 0) (workers : ℕ) (listener listener_now : L) (left : L → ℕ) (links : L → Option Links)
-    (holds holds_now : Book → Type 0) (bad_now : BadRow → Type 0) (old new : Door) (status : ℕ) : Type 0 where
-  pub comes : Comes shows workers listener listener_now left links holds holds_now bad_now old new status
+    (holds holds_now : Book → Type 0) (bad_now : BadRow → Type 0) (may_leave : Option Book → Type 0) (old new : Door) (status : ℕ) : Type 0 where
+  pub comes : Comes shows workers listener listener_now left links holds holds_now bad_now may_leave old new status
   pub none_left : status ≡ 0 → left listener_now ≡ 0
   pub given_back : workers ≡ 1 → status ≡ 0 → IfSome (links listener) (λ told. GivesAllBack told (links listener_now))
   pub written : status ≡ 0 → IsWritten holds_now old.held new.held

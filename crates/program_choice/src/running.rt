@@ -2,6 +2,7 @@ ghost use Rattle.std.specs.Prelude.{◌≡◌, ◌≤◌, None, Some, map, strin
 ghost use Rattle.command_words.specs.declared.serving.Serve.{Serve};
 ghost use Rattle.command_words.specs.Words.{serve_in};
 ghost use Rattle.office_prog.specs.Task.{task_in};
+ghost use Rattle.office_server.specs.Links.{MayLeaveNow};
 ghost use Rattle.program_answers.specs.{Keeping.OutlivesStops, Keeping.StillTells, Opening.door};
 ghost use Rattle.program_choice.specs.{Running.RunsProgram, Serving.RunsServer};
 
@@ -62,6 +63,7 @@ where
     ensures served { (serve : Serve) (now : L) → serve_in (map string_bytes words.now) ≡ Some serve → result.listener ≡ Some now →
         (bound : L) × P.binds ports.now serve.port serve.connections (Some bound) × (L.left bound ≡ serve.connections)
         × RunsServer (C.may_show clock.now) serve.workers bound now L.left L.links (K.holds keeper) (K.holds result.keeper) (K.bad result.keeper)
+        (MayLeaveNow (K.holds keeper) (K.leaves keeper) (K.tells_crash keeper) (K.holds result.keeper) (K.leaves result.keeper) (K.tells_crash result.keeper))
         (door None (W.held sink.old) (L.faults bound) (W.faults sink.old) (K.faults keeper))
         (door None (W.held sink.new) (L.faults now) (W.faults sink.new) (K.faults result.keeper)) result.status }
 
@@ -125,6 +127,7 @@ where
     ensures served { (now : L) → result.listener ≡ Some now →
         (bound : L) × P.binds ports.now serve.now.port serve.now.connections (Some bound) × (L.left bound ≡ serve.now.connections)
         × RunsServer (C.may_show clock.now) serve.now.workers bound now L.left L.links (K.holds keeper) (K.holds result.keeper) (K.bad result.keeper)
+        (MayLeaveNow (K.holds keeper) (K.leaves keeper) (K.tells_crash keeper) (K.holds result.keeper) (K.leaves result.keeper) (K.tells_crash result.keeper))
         (door None (W.held sink.old) (L.faults bound) (W.faults sink.old) (K.faults keeper))
         (door None (W.held sink.new) (L.faults now) (W.faults sink.new) (K.faults result.keeper)) result.status }
     ensures unbound { result.listener ≡ None →

@@ -1,7 +1,7 @@
 use Rattle.std.proofs.Common.{inl, inr, ap, refl}
 use Rattle.std.specs.Prelude.{None}
 use Rattle.book_rows.specs.Book.{book_of}
-use Rattle.office_server.proofs.Leaving.{ends_by, outlives, told_otherwise, turn_by}
+use Rattle.office_server.proofs.Leaving.{ends_by, in_turn_otherwise, leaves_otherwise, outlives, together_otherwise, told_otherwise, turn_by, turned}
 use Rattle.office_server.proofs.server.serve_on.Goals as goal
 
 pub returns-in-Ok-clause-comes : goal.returns-in-Ok-clause-comes
@@ -11,10 +11,13 @@ returns-in-Ok-clause-comes g c =
     inl (record {
       tables = book_of c.serve_desk-finished.result.finished.tables;
       leaves = told_otherwise g.B.Naming.told (g.K.Keeper.holds c.args.keeper) _ _ c.requires.told_by served.leaves;
+      stopped = leaves_otherwise _ _ _ _ (λ after may. (c.requires.sound_by may.0, may.1, may.2, may.3)) served.stopped;
       ended = ends_by _ _ _ _ _ _ _ _ _ _ _ _ _ c.serve_desk-finished.result.how served.whole served.failed served.unserved (λ is. ap g.L.Listener.faults (served.unserved is))
           told.whole told.failed told.unserved;
-      together = turn_by c.args.listener c.serve_desk-finished.result.listener (g.L.Listener.left c.serve_desk-finished.result.listener) (book_of c.serve_desk-finished.result.finished.tables) _ _ _ _ _ _ _ _ _ c.serve_desk-finished.result.how _ served.unserved (λ is. ap g.L.Listener.faults (served.unserved is)) told.unserved served.together;
-      in_turn = λ one. turn_by c.args.listener c.serve_desk-finished.result.listener (g.L.Listener.left c.serve_desk-finished.result.listener) (book_of c.serve_desk-finished.result.finished.tables) _ _ _ _ _ _ _ _ _ c.serve_desk-finished.result.how _ served.unserved (λ is. ap g.L.Listener.faults (served.unserved is)) told.unserved (served.in_turn one);
+      together = turn_by c.args.listener c.serve_desk-finished.result.listener (g.L.Listener.left c.serve_desk-finished.result.listener) (book_of c.serve_desk-finished.result.finished.tables) _ _ _ _ _ _ _ _ _ c.serve_desk-finished.result.how _ served.unserved (λ is. ap g.L.Listener.faults (served.unserved is)) told.unserved
+          (turned _ _ _ _ refl (together_otherwise _ _ _ _ _ _ _ (λ after may. (c.requires.sound_by may.0, may.1, may.2, may.3))) served.together);
+      in_turn = λ one. turn_by c.args.listener c.serve_desk-finished.result.listener (g.L.Listener.left c.serve_desk-finished.result.listener) (book_of c.serve_desk-finished.result.finished.tables) _ _ _ _ _ _ _ _ _ c.serve_desk-finished.result.how _ served.unserved (λ is. ap g.L.Listener.faults (served.unserved is)) told.unserved
+          (turned _ _ _ _ refl (in_turn_otherwise _ _ _ _ _ _ _ _ (λ after may. (c.requires.sound_by may.0, may.1, may.2, may.3))) (served.in_turn one));
     })
 
 pub returns-in-Ok-clause-tells_on : goal.returns-in-Ok-clause-tells_on
@@ -24,7 +27,7 @@ returns-in-Ok-clause-tells_on g c = λ well book holds.
 pub returns-in-Ok-clause-stopped : goal.returns-in-Ok-clause-stopped
 returns-in-Ok-clause-stopped g c =
     let served = c.serve_desk-finished.ensures in
-    outlives _ _ _ _ _ _ _ _ c.requires.sound_by served.leaves.kept served.stopped
+    outlives _ _ _ _ _ _ _ _ served.leaves.kept (leaves_otherwise _ _ _ _ (λ after may. (c.requires.sound_by may.0, may.1, may.2, may.3)) served.stopped)
 
 pub returns-in-Err-clause-comes : goal.returns-in-Err-clause-comes
 returns-in-Err-clause-comes g c = inr (
