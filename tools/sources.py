@@ -49,8 +49,8 @@ class Call:
 class Crate:
     """A crate: its name, the crates that it uses, the lines that it begins with, and what its files hold."""
 
-    def __init__(self, name, uses, part):
-        self.name, self.uses, self.part = name, uses, part
+    def __init__(self, name, uses):
+        self.name, self.uses = name, uses
         self.folder = os.path.join(TOP, "crates", name)
         self.files = {it: read(it) for it in files_under(os.path.join(self.folder, "src"), ".rt")}
         self.lib = next((text for path, text in self.files.items() if path.endswith(("/src/lib.rt", "/src/main.rt"))), "")
@@ -191,16 +191,10 @@ def closing_brace(text, at):
 
 
 def crates():
-    """The crates in the order of crates.txt, each with the comment that its part begins with."""
-    found, part, before = [], "", ""
-    for line in read(os.path.join(TOP, "crates.txt")).splitlines():
-        if line.startswith("#"):
-            part = f"{part} {line[1:].strip()}" if before.startswith("#") else line[1:].strip()
-        elif line.strip():
-            name, _, uses = line.partition(":")
-            found.append(Crate(name.strip(), uses.split(), part))
-        before = line
-    return found
+    """The crates in the order of crates.txt."""
+    lines = [line.split("#")[0].strip() for line in read(os.path.join(TOP, "crates.txt")).splitlines()]
+    pairs = [line.split(":", 1) for line in lines if line]
+    return [Crate(name.strip(), uses.split()) for name, uses in pairs]
 
 
 def programs_in(all_crates):
