@@ -112,10 +112,7 @@ fn run_on_files<
         return STORE_FAILED;
     }
     match Connection::open_files(rt.alloc(), files, options) {
-        Ok(mut connection) => {
-            connection.set_clock(rt);
-            closed(run_on(rt, handles, words, connection))
-        }
+        Ok(connection) => closed(run_on(rt, handles, words, connection)),
         Err((error, _)) => status_of(error),
     }
 }
