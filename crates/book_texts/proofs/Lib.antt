@@ -4,3 +4,6 @@ pub mod Creates
 pub mod Inserts
 pub mod Selects
 pub mod Changes
+pub mod Wholes
+pub mod Refusals
+pub mod Taken

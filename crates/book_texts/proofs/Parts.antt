@@ -1,5 +1,9 @@
 -- What went well at the end went well at each step.
-use Rattle.std.proofs.Common.{◌≡◌, ◌⊎◌, inl, inr, Bool, true, false, cond, Some, None, Ok, Err, Result, refl}
+use Rattle.std.proofs.Common.{◌<◌, ℕ, pos, arith, int_cmp, Ordering, Less, Equal, Greater, ◌≡◌, ◌⊎◌, inl, inr, Bool, true, false, cond, Some, None, Ok, Err, Result, refl}
+use Rattle.std.specs.Prelude.{◌<ℤ◌}
+use Rattle.std.specs.Ordering.{MatchOrdering}
+use Rattle.std.proofs.lemmas.Int.{ints}
+use Rattle.std.proofs.lemmas.Cmp.{int_ranked}
 use Rattle.sqlite.specs.declared.types.Value.{Value}
 use Rattle.sqlite.specs.declared.types.Value.TheVariants.{Null, Int}
 use Rattle.sqlite.specs.Kind.TheVariants.{Integer}
@@ -31,3 +35,12 @@ cast_int n = either _ (Int n)
 pub cast_perhaps : (n : _) → cast Integer (or_null Int n) ≡ or_null Int n
 cast_perhaps None = cast_null
 cast_perhaps (Some n) = cast_int n
+
+-- a smaller number comes first
+pub less : (m n : ℕ) → m < n → int_cmp (pos m) (pos n) ≡ Less
+less m n low = go (int_cmp (pos m) (pos n)) (int_ranked (pos m) (pos n) (int_cmp (pos m) (pos n)) refl)
+  where
+    go : (r : Ordering) → MatchOrdering r (pos m <ℤ pos n) (pos m ≡ pos n) (pos n <ℤ pos m) → r ≡ Less
+    go Less h = refl
+    go Equal h = absurd (omega (arith, ints, h, low))
+    go Greater h = absurd (omega (arith, ints, h, low))

@@ -3,3 +3,4 @@ pub mod Rows
 pub mod Schema
 pub mod Texts
 pub mod Trees
+pub mod Takes
