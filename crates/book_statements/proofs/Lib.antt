@@ -1,4 +1,5 @@
 mod Results
 mod Filled
+mod Causes
 mod Transactions
 mod Made

@@ -1,9 +1,12 @@
-ghost use Rattle.std.specs.Prelude.{◌≡◌, [], ◌∷◌, pos, OnOk};
+ghost use Rattle.std.specs.Prelude.{◌≡◌, ◌<◌, ◌^◌, ℕ, suc, List, [], ◌∷◌, map, pos, IsTrue, IsPermutation, OnOk, IfErr};
 ghost use Rattle.sqlite.specs.declared.types.Value.TheVariants.{Int, Text as Words};
 ghost use Rattle.sqlite_value.specs.Value.{owned};
 ghost use Rattle.sqlite.specs.{Values.bound, Values.bound_value, Values.or_null, State.HasCleanDisk, State.KeepsCommit, State.Survives, Held.state, Effect.IsDatabase};
-ghost use Rattle.book_texts.specs.{Wide.wide_act, Wide.wide_record, Wide.wide_line, Rows.stored_act, Rows.stored_record, Rows.line_values, Schema.no_schema};
+ghost use Rattle.book_texts.specs.{Wide.wide_act, Wide.wide_record, Wide.wide_line, Rows.stored_act, Rows.stored_record, Rows.line_values, Schema.no_schema, Schema.book_schema, Trees.record_rows, Trees.line_rows};
+ghost use Rattle.book_texts.specs.declared.wide.{WideRecord.WideRecord as FileRecord, WideLine.WideLine as FileLine};
+ghost use Rattle.book_texts.specs.Takes.{IsExcused, IsServing, IsNewRecord, IsNewLine, HasNumbers};
 ghost use Rattle.book_statements.specs.Effects.{Inserts, Fills, line_part, made_part};
+ghost use Rattle.book_statements.specs.Causes.{IsRejected, TakesAct, TakesMade, TakesLines};
 
 use book_rows::ActRow;
 use book_texts::{WideLine, WideRecord, wide_day, wide_line, wide_record};
@@ -13,7 +16,8 @@ use sqlite::{Alter, Error, Transaction};
 use voucher_core::Line;
 
 fn count<'a>(number: u32) -> ValueRef<'a>
-    ensures { bound_value (owned result) ≡ Int (pos number) }
+    ensures value { bound_value (owned result) ≡ Int (pos number) }
+    ensures fits { number < 2 ^ 32 }
 {
     ValueRef::Int(i64::from(number))
 }
@@ -47,6 +51,7 @@ fn insert_row<S: Alter>(
 ) -> Result<(), Error>
     ensures same_reference { tx.new.conn.ghost_name ≡ tx.old.conn.ghost_name }
     ensures inserted { HasCleanDisk (state S.Store tx.new.conn.now) → OnOk result (Inserts sql.now (bound values.now) (state S.Store tx.old.conn.now) (state S.Store tx.new.conn.now)) }
+    ensures refused { HasCleanDisk (state S.Store tx.new.conn.now) → IfErr result (λ e. IsTrue (state S.Store tx.old.conn.now).in_transaction → IsRejected sql.now (bound values.now) (state S.Store tx.old.conn.now) (state S.Store tx.new.conn.now) e) }
     ensures kept { HasCleanDisk (state S.Store tx.new.conn.now) → KeepsCommit (state S.Store tx.old.conn.now) (state S.Store tx.new.conn.now) }
     ensures survives { Survives (state S.Store tx.old.conn.now) (state S.Store tx.new.conn.now) (λ _. ⊥) }
 {
@@ -63,6 +68,8 @@ pub fn insert_act<S: Alter>(tx: &mut Transaction<'_, S>, act: &ActRow) -> Result
     ensures filled { HasCleanDisk (state S.Store tx.new.conn.now) → OnOk result (Fills (stored_act (wide_act act.now) ∷ []) [] [] (state S.Store tx.old.conn.now) (state S.Store tx.new.conn.now)) }
     ensures live { HasCleanDisk (state S.Store tx.new.conn.now) → OnOk result (IsDatabase (state S.Store tx.new.conn.now).now) }
     ensures known { HasCleanDisk (state S.Store tx.new.conn.now) → OnOk result ((state S.Store tx.old.conn.now).now.schema ≡ no_schema → ⊥) }
+    ensures cause { HasCleanDisk (state S.Store tx.new.conn.now) → IfErr result (λ e. IsServing (state S.Store tx.old.conn.now) → IsDatabase (state S.Store tx.old.conn.now).now → IsTrue (state S.Store tx.old.conn.now).in_transaction → TakesAct (state S.Store tx.old.conn.now).now.trees act.now → IsExcused (state S.Store tx.old.conn.now) (state S.Store tx.new.conn.now) e) }
+    ensures numbers { HasCleanDisk (state S.Store tx.new.conn.now) → OnOk result ((more : ℕ) → (state S.Store tx.old.conn.now).now.schema ≡ book_schema → HasNumbers ((state S.Store tx.old.conn.now).now.trees 4) more → HasNumbers ((state S.Store tx.new.conn.now).now.trees 4) more) }
     ensures kept { HasCleanDisk (state S.Store tx.new.conn.now) → KeepsCommit (state S.Store tx.old.conn.now) (state S.Store tx.new.conn.now) }
     ensures survives { Survives (state S.Store tx.old.conn.now) (state S.Store tx.new.conn.now) (λ _. ⊥) }
 {
@@ -83,6 +90,8 @@ pub fn insert_act<S: Alter>(tx: &mut Transaction<'_, S>, act: &ActRow) -> Result
 fn insert_record<S: Alter>(tx: &mut Transaction<'_, S>, row: &WideRecord) -> Result<(), Error>
     ensures same_reference { tx.new.conn.ghost_name ≡ tx.old.conn.ghost_name }
     ensures filled { HasCleanDisk (state S.Store tx.new.conn.now) → OnOk result (Fills [] (stored_record row.now ∷ []) [] (state S.Store tx.old.conn.now) (state S.Store tx.new.conn.now)) }
+    ensures cause { HasCleanDisk (state S.Store tx.new.conn.now) → IfErr result (λ e. IsServing (state S.Store tx.old.conn.now) → IsDatabase (state S.Store tx.old.conn.now).now → IsTrue (state S.Store tx.old.conn.now).in_transaction → (records : List FileRecord) → IsPermutation (map stored_record records) (record_rows (state S.Store tx.old.conn.now).now.trees) → IsNewRecord records row.now → IsExcused (state S.Store tx.old.conn.now) (state S.Store tx.new.conn.now) e) }
+    ensures numbers { HasCleanDisk (state S.Store tx.new.conn.now) → OnOk result ((more : ℕ) → (state S.Store tx.old.conn.now).now.schema ≡ book_schema → HasNumbers ((state S.Store tx.old.conn.now).now.trees 4) more → HasNumbers ((state S.Store tx.new.conn.now).now.trees 4) more) }
     ensures kept { HasCleanDisk (state S.Store tx.new.conn.now) → KeepsCommit (state S.Store tx.old.conn.now) (state S.Store tx.new.conn.now) }
     ensures survives { Survives (state S.Store tx.old.conn.now) (state S.Store tx.new.conn.now) (λ _. ⊥) }
 {
@@ -120,6 +129,8 @@ pub fn insert_made<S: Alter>(
 ) -> Result<(), Error>
     ensures same_reference { tx.new.conn.ghost_name ≡ tx.old.conn.ghost_name }
     ensures filled { HasCleanDisk (state S.Store tx.new.conn.now) → OnOk result (Fills [] (made_part made.now) [] (state S.Store tx.old.conn.now) (state S.Store tx.new.conn.now)) }
+    ensures cause { HasCleanDisk (state S.Store tx.new.conn.now) → IfErr result (λ e. IsServing (state S.Store tx.old.conn.now) → IsDatabase (state S.Store tx.old.conn.now).now → IsTrue (state S.Store tx.old.conn.now).in_transaction → TakesMade (state S.Store tx.old.conn.now).now.trees made.now → IsExcused (state S.Store tx.old.conn.now) (state S.Store tx.new.conn.now) e) }
+    ensures numbers { HasCleanDisk (state S.Store tx.new.conn.now) → OnOk result ((more : ℕ) → (state S.Store tx.old.conn.now).now.schema ≡ book_schema → HasNumbers ((state S.Store tx.old.conn.now).now.trees 4) more → HasNumbers ((state S.Store tx.new.conn.now).now.trees 4) more) }
     ensures kept { HasCleanDisk (state S.Store tx.new.conn.now) → KeepsCommit (state S.Store tx.old.conn.now) (state S.Store tx.new.conn.now) }
     ensures survives { Survives (state S.Store tx.old.conn.now) (state S.Store tx.new.conn.now) (λ _. ⊥) }
 {
@@ -132,6 +143,8 @@ pub fn insert_made<S: Alter>(
 fn insert_line<S: Alter>(tx: &mut Transaction<'_, S>, row: &WideLine) -> Result<(), Error>
     ensures same_reference { tx.new.conn.ghost_name ≡ tx.old.conn.ghost_name }
     ensures filled { HasCleanDisk (state S.Store tx.new.conn.now) → OnOk result (Fills [] [] (line_values row.now ∷ []) (state S.Store tx.old.conn.now) (state S.Store tx.new.conn.now)) }
+    ensures cause { HasCleanDisk (state S.Store tx.new.conn.now) → IfErr result (λ e. IsServing (state S.Store tx.old.conn.now) → IsDatabase (state S.Store tx.old.conn.now).now → IsTrue (state S.Store tx.old.conn.now).in_transaction → (there : List FileLine) (more : ℕ) → IsPermutation (map line_values there) (line_rows (state S.Store tx.old.conn.now).now.trees) → IsNewLine there row.now → HasNumbers ((state S.Store tx.old.conn.now).now.trees 4) (suc more) → IsExcused (state S.Store tx.old.conn.now) (state S.Store tx.new.conn.now) e) }
+    ensures numbers { HasCleanDisk (state S.Store tx.new.conn.now) → OnOk result ((more : ℕ) → (state S.Store tx.old.conn.now).now.schema ≡ book_schema → HasNumbers ((state S.Store tx.old.conn.now).now.trees 4) (suc more) → HasNumbers ((state S.Store tx.new.conn.now).now.trees 4) more) }
     ensures kept { HasCleanDisk (state S.Store tx.new.conn.now) → KeepsCommit (state S.Store tx.old.conn.now) (state S.Store tx.new.conn.now) }
     ensures survives { Survives (state S.Store tx.old.conn.now) (state S.Store tx.new.conn.now) (λ _. ⊥) }
 {
@@ -156,6 +169,7 @@ fn insert_line<S: Alter>(tx: &mut Transaction<'_, S>, row: &WideLine) -> Result<
 pub fn insert_lines<S: Alter>(tx: &mut Transaction<'_, S>, lines: &[Line]) -> Result<(), Error>
     ensures same_reference { tx.new.conn.ghost_name ≡ tx.old.conn.ghost_name }
     ensures filled { HasCleanDisk (state S.Store tx.new.conn.now) → OnOk result (Fills [] [] (line_part lines.now) (state S.Store tx.old.conn.now) (state S.Store tx.new.conn.now)) }
+    ensures cause { HasCleanDisk (state S.Store tx.new.conn.now) → IfErr result (λ e. IsServing (state S.Store tx.old.conn.now) → IsDatabase (state S.Store tx.old.conn.now).now → IsTrue (state S.Store tx.old.conn.now).in_transaction → TakesLines (state S.Store tx.old.conn.now).now.trees lines.now → IsExcused (state S.Store tx.old.conn.now) (state S.Store tx.new.conn.now) e) }
     ensures kept { HasCleanDisk (state S.Store tx.new.conn.now) → KeepsCommit (state S.Store tx.old.conn.now) (state S.Store tx.new.conn.now) }
     ensures survives { Survives (state S.Store tx.old.conn.now) (state S.Store tx.new.conn.now) (λ _. ⊥) }
 {

@@ -1,4 +1,5 @@
-use Rattle.std.proofs.Common.{◌≡◌, [], take}
+use Rattle.std.proofs.Common.{◌≡◌, ℕ, ◌+◌, [], take}
+use Rattle.book_texts.specs.{Schema.book_schema, Takes.HasNumbers}
 use Rattle.sqlite.specs.{State.HasCleanDisk, State.KeepsCommit, State.Survives, Held.state}
 use Rattle.book_statements.specs.Effects.{Fills, line_part}
 use Rattle.book_statements.proofs.inserting.insert_lines.Given as goal
@@ -7,4 +8,4 @@ abbrev pub invariant-loop-line : goal.invariant-loop-line
 invariant-loop-line g l =
     let old = state g.S.Store l.initial.tx.conn.now in
     let now = state g.S.Store l.tx.conn.now in
-    (l.tx.conn.ghost_name ≡ l.initial.tx.conn.ghost_name) × Survives old now (λ _. ⊥) × (HasCleanDisk now → KeepsCommit old now) × (HasCleanDisk now → Fills [] [] (line_part (take l.line-index l.lines)) old now)
+    (l.tx.conn.ghost_name ≡ l.initial.tx.conn.ghost_name) × Survives old now (λ _. ⊥) × (HasCleanDisk now → KeepsCommit old now) × (HasCleanDisk now → Fills [] [] (line_part (take l.line-index l.lines)) old now) × (HasCleanDisk now → (more : ℕ) → old.now.schema ≡ book_schema → HasNumbers (old.now.trees 4) (l.line-index + more) → HasNumbers (now.now.trees 4) more)
