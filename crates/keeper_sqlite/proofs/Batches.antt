@@ -26,20 +26,13 @@ use Rattle.book_texts.specs.declared.wide.{WideAct.WideAct, WideRecord.WideRecor
 use Rattle.book_texts.specs.Wide.{wide_act, wide_record, wide_line}
 use Rattle.book_texts.specs.Rows.{stored_act, stored_record, line_values}
 use Rattle.book_texts.specs.Schema.{book_schema}
+use Rattle.book_texts.proofs.Parts.{less}
 use Rattle.book_texts.specs.Trees.{Adds, Rises, record_rows, line_rows, act_cmp, record_cmp, line_cmp}
 use Rattle.book_statements.specs.Effects.{act_part, made_part, line_part}
 use Rattle.book_ranges.specs.Ranges.{fits_act, fits_record, fits_line, named, bad_act, bad_record, bad_line, first_bad, row_of, IsInRange}
 use Rattle.keeper_sqlite.specs.Told.{HoldsRows, IsBookIn, IsBadIn}
 use Rattle.keeper_sqlite.proofs.Landing.{act_only, record_only, line_only, null_only}
 use Rattle.keeper_sqlite.proofs.Books.{was, came, stands_after, rise_after, fit_after, line_total, all_fit, none_first}
-
-less : (m n : ℕ) → m < n → int_cmp (pos m) (pos n) ≡ Less
-less m n low = go (int_cmp (pos m) (pos n)) (int_ranked (pos m) (pos n) (int_cmp (pos m) (pos n)) refl)
-  where
-    go : (r : Ordering) → MatchOrdering r (pos m <ℤ pos n) (pos m ≡ pos n) (pos n <ℤ pos m) → r ≡ Less
-    go Less h = refl
-    go Equal h = absurd (omega (arith, ints, h, low))
-    go Greater h = absurd (omega (arith, ints, h, low))
 
 equal : (n : ℕ) → int_cmp (pos n) (pos n) ≡ Equal
 equal n = go (int_cmp (pos n) (pos n)) (int_ranked (pos n) (pos n) (int_cmp (pos n) (pos n)) refl)

@@ -4,4 +4,5 @@ mod Landing
 mod Books
 mod Batches
 mod Calls
+mod Taking
 mod Schemas

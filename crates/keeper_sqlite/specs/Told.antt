@@ -1,15 +1,16 @@
 -- What a file tells of its book, and what a crash may leave of it.
 use Rattle.std.specs.Coded.{Coded, code_by, coded×, coded_ℕ, coded_bool}
-use Rattle.std.specs.Prelude.{◌≡◌, ◌⊎◌, ◌↔◌, ℕ, ⊤, Bool, false, refl, List, map, Option, None, Some, IsTrue}
+use Rattle.std.specs.Prelude.{◌≡◌, ◌≢◌, ◌⊎◌, ◌↔◌, ◌≤◌, ℕ, ⊤, length, All, IfSome, Bool, false, refl, List, map, Option, None, Some, IsTrue}
 use Rattle.sqlite.specs.{Tree.Trees, Effect.Database, Effect.IsDatabase, State.State, State.HasCleanDisk, State.IsLive, Held.Held, Held.held_code}
 use Rattle.sqlite_schema.specs.declared.schema.Schema.{Schema}
 use Rattle.sqlite_disk.specs.Disk.{MoreFaults}
-use Rattle.book_rows.specs.{declared.rows.Batch.Batch, Book.Book, Book.empty_book, Book.appended}
+use Rattle.book_rows.specs.{declared.rows.Batch.Batch, Book.Book, Book.empty_book, Book.appended, Book.is_request_of}
 use Rattle.keeper_core.specs.{Keeping.BadRow, Keeping.Keeps, declared.keeper.Loaded.Loaded, declared.keeper.Committed.Committed}
 use Rattle.book_texts.specs.declared.wide.{WideAct.WideAct, WideRecord.WideRecord, WideLine.WideLine}
 use Rattle.book_texts.specs.Wide.{wide_act, wide_record, wide_line}
 use Rattle.book_texts.specs.Schema.{no_schema, book_schema}
 use Rattle.book_texts.specs.Trees.{StandsFor}
+use Rattle.book_texts.specs.Takes.{HasNumbers, longest_body}
 use Rattle.book_ranges.specs.Ranges.{first_bad}
 
 -- the three tables hold the rows of the book, and each number is in its range
@@ -108,6 +109,23 @@ CommitsOn old was_beside new is_beside batch Committed.Done =
     HasCleanDisk new → (book : Book) → Holds old was_beside book → Holds new is_beside (appended book batch)
 CommitsOn old was_beside new is_beside batch Committed.Failed = GoesOn old was_beside new is_beside
 CommitsOn old was_beside new is_beside batch Committed.NoMemory = GoesOn old was_beside new is_beside
+
+-- A book's file takes the rows of a batch: its tables are made, and the steps of a query have no limit; no act of the
+-- book has the batch's clerk and request, and no record the household and number of the one that is made; the text of
+-- the act is no longer than a row may be; and the lines stand under the rowids 1, 2 and so on, of which enough are left.
+pub record TakesBatch (s : State) (book : Book) (batch : Batch) : Type 0 where
+  pub made : s.now.schema ≡ book_schema
+  pub unlimited : s.step_limit ≡ None
+  pub request : All (λ act. is_request_of batch.act.clerk batch.act.request act ≡ false) book.acts
+  pub number : IfSome batch.made (λ made. All (λ r. r.household ≡ made.household → r.number ≢ made.number) book.records)
+  pub body : length batch.act.body ≤ longest_body
+  pub rowids : HasNumbers (s.now.trees 4) (length batch.lines)
+
+-- while the disk is clean, a batch that follows a told book and that its file takes fails only where the store counted
+-- a fault
+abbrev pub FailsByFault : State → Bool → State → Batch → Committed → Type 0
+FailsByFault old was_beside new batch result =
+    HasCleanDisk new → result ≡ Committed.Failed → (book : Book) → Holds old was_beside book → TakesBatch old book batch → MoreFaults old.faults new.faults
 
 -- while the disk is clean and the flag down, whatever a crash now may leave is some book's file
 abbrev pub LeavesBooks : State → Bool → Type 0

@@ -78,7 +78,7 @@ impl<S: Alter> Keeper for SqliteKeeper<S> {
     ghost use Rattle.sqlite.specs.Held.{state};
     ghost use Rattle.book_rows.specs.Book.{Book, IsBatch, IsBefore};
     ghost use Rattle.keeper_core.specs.Keeping.{Keeps, Gives, LoadCause, Commits, CommitsOn as AppendsOn, CommitCause, CommitCrash};
-    ghost use Rattle.keeper_sqlite.specs.Told.{Holds, HoldsBad, IsWell, TellsCrash, CrashLeaves, Notes, GoesOn, CommitsOn, StaysOpen, LeavesBooks, CommitsBooks};
+    ghost use Rattle.keeper_sqlite.specs.Told.{Holds, HoldsBad, IsWell, TellsCrash, CrashLeaves, Notes, GoesOn, CommitsOn, StaysOpen, FailsByFault, LeavesBooks, CommitsBooks};
 
     ghost holds = { λ keeper. Holds (state S.Store keeper.file) keeper.is_beside };
 
@@ -122,7 +122,8 @@ impl<S: Alter> Keeper for SqliteKeeper<S> {
     }
 
     // The first seven clauses are the trait's. The others leave the flag, and look forward: what is told is told on, after
-    // Done with the batch, only a fault shuts the connection, and a crash leaves a book's file.
+    // Done with the batch, only a fault shuts the connection or fails a batch that the file takes, and a crash leaves a
+    // book's file.
     fn commit(&mut self, _alloc: Global, batch: &Batch) -> Committed
         requires batch { IsBatch batch.now }
         requires next { (book : Book) → Holds (state S.Store self.old.file) self.old.is_beside book → IsBefore book batch.now.act.n }
@@ -137,6 +138,7 @@ impl<S: Alter> Keeper for SqliteKeeper<S> {
         ensures notes { self.new.is_beside ≡ self.old.is_beside }
         ensures goes_on { CommitsOn (state S.Store self.old.file) self.old.is_beside (state S.Store self.new.file) self.new.is_beside batch.now result }
         ensures stays_open { StaysOpen (state S.Store self.old.file) (state S.Store self.new.file) }
+        ensures failed { FailsByFault (state S.Store self.old.file) self.old.is_beside (state S.Store self.new.file) batch.now result }
         ensures left { CommitsBooks (state S.Store self.old.file) self.old.is_beside (state S.Store self.new.file) self.new.is_beside result }
     {
         batch_fits(batch);

@@ -4,7 +4,9 @@ use Rattle.book_rows.specs.Book.{Book, IsBefore}
 use Rattle.keeper_core.specs.declared.keeper.Committed.{Committed}
 use Rattle.keeper_core.specs.Keeping.{Keeps, Commits, LeavesOrCommits}
 use Rattle.book_statements.specs.Effects.{BatchTrees}
-use Rattle.keeper_sqlite.specs.Told.{Kept, Holds, HoldsBad, IsWell, CrashLeaves, TellsCrash, GoesOn, CommitsOn, LeavesBooks}
+use Rattle.keeper_sqlite.specs.Told.{Kept, Holds, HoldsBad, IsWell, CrashLeaves, TellsCrash, GoesOn, CommitsOn, LeavesBooks, FailsByFault}
+use Rattle.std.proofs.lemmas.Bool.{both_ways}
+use Rattle.keeper_sqlite.proofs.Taking.{failed_by_fault}
 use Rattle.keeper_sqlite.proofs.Calls.{landed, landed_on, landed_row, landed_crash, landed_left, landed_well, not_landed_crash, not_landed_left, undone_on, undone_well}
 use Rattle.keeper_sqlite.proofs.keeper.SqliteKeeperKeeper.commit.Goals as goal
 
@@ -100,3 +102,17 @@ returns-then-is_want_of_memory-clause-tells_on g c = λ well. (returns-then-is_w
 
 pub returns-else-is_want_of_memory-clause-tells_on : goal.returns-else-is_want_of_memory-clause-tells_on
 returns-else-is_want_of_memory-clause-tells_on g c = λ well. (returns-else-is_want_of_memory-clause-goes_on g c well.0.0 well.1).book
+
+pub returns-in-Ok-clause-failed : goal.returns-in-Ok-clause-failed
+returns-in-Ok-clause-failed g c = λ clean failed. absurd (cc)
+
+pub returns-then-is_want_of_memory-clause-failed : goal.returns-then-is_want_of_memory-clause-failed
+returns-then-is_want_of_memory-clause-failed g c = λ clean failed. absurd (cc)
+
+pub returns-else-is_want_of_memory-clause-failed : goal.returns-else-is_want_of_memory-clause-failed
+returns-else-is_want_of_memory-clause-failed g c =
+    let next = subst (λ (k : Kept _). (book : Book) → Holds (state g.S.Store k.file) k.is_beside book → IsBefore book c.args.batch.now.act.n) (sym c.self.view_is) c.requires.next in
+    subst (λ (n : Kept _). FailsByFault (state g.S.Store c.args.self.now.file) c.args.self.now.is_beside (state g.S.Store n.file) c.args.batch.now Committed.Failed) (sym c.count_fault.ensures.kept)
+    (subst (λ (k : Kept _). FailsByFault (state g.S.Store k.file) k.is_beside (state g.S.Store c.write_batch.new.conn) c.args.batch.now Committed.Failed) c.self.view_is
+    (failed_by_fault (state g.S.Store c.self.inside.conn) (state g.S.Store c.write_batch.new.conn) c.self.inside.is_beside c.args.batch.now _ c.requires.batch next
+    (λ memory. both_ways _ c.if-is_want_of_memory.false (c.is_want_of_memory.ensures.1 memory)) c.in-Err.ensures.cause))
