@@ -1,5 +1,5 @@
 -- What the two files of a book hold, what a stop may leave of them, and what an open then finds.
-use Rattle.std.specs.Prelude.{◌≡◌, ◌⊎◌, ℕ, ⊤, false, IsTrue}
+use Rattle.std.specs.Prelude.{◌≡◌, ◌⊎◌, ℕ, ⊤, false}
 use Rattle.sqlite.specs.{Tree.Trees, Recovery.Image, State.State, declared.error.Error.Error}
 use Rattle.sqlite.specs.declared.error.{Error.TheVariants.SqliteFailure, ErrorCode.TheVariants.OutOfMemory, ErrorCode.TheVariants.DiskFull}
 use Rattle.sqlite.specs.Files.{HoldsDatabase, IsFullLeft, file_state, faults_left}
@@ -8,7 +8,7 @@ use Rattle.sqlite_disk.specs.{declared.Disk.Ghosts, Disk.MoreFaults}
 use Rattle.sqlite_store.specs.declared.store.FileStore.{FileStore}
 use Rattle.book_rows.specs.{declared.rows.Batch.Batch, Book.Book, Book.book_of, Book.appended}
 use Rattle.keeper_core.specs.declared.keeper.{Loaded.Loaded, Committed.Committed}
-use Rattle.keeper_sqlite.specs.Told.{Kept, Holds, TellsCrash, MayLeave, IsFileOf, LeavesBooks}
+use Rattle.keeper_sqlite.specs.Told.{Kept, Holds, IsWell as IsWellOn, MayLeave, IsFileOf, LeavesBooks}
 
 -- the file and its log hold a database that is this book's file
 pub record HoldsBook (image : Image) (book : Book) : Type 0 where
@@ -48,9 +48,9 @@ GivesAfter Committed.Failed book batch loaded = GivesBook book loaded ⊎ GivesB
 GivesAfter Committed.NoMemory book batch loaded = GivesBook book loaded ⊎ GivesBook (appended book batch) loaded
 
 module _ {D : Type 0} {g : Ghosts D} where
-  -- the disk has returned what was written, nothing stands beside the three tables, and the connection is open
+  -- nothing from outside has stopped it for good
   abbrev pub IsWell : Kept (FileStore D g) → Type 0
-  IsWell keeper = TellsCrash (file_state keeper.file) keeper.is_beside × IsTrue (file_state keeper.file).is_open
+  IsWell keeper = IsWellOn (file_state keeper.file) keeper.is_beside
 
   -- the keeper tells this book, and a load gave it or nothing
   pub record FindsBook (keeper : Kept (FileStore D g)) (loaded : Loaded) (book : Book) : Type 0 where
