@@ -1,7 +1,7 @@
 -- A batch that follows a told book is new to the tables of its file.
-use Rattle.std.proofs.Common.{◌≡◌, ◌≢◌, ◌<◌, ◌+◌, ℕ, pos, Bool, true, false, ◌&&◌, ◌==◌, List, ◌++◌, All, map, take, length, get_or, Option, None, Some, IfSome, IsTrue, inl, inr, refl, sym, ap, subst, ◌∙◌, arith, get_or-take, length-take}
+use Rattle.std.proofs.Common.{◌≡◌, ◌≢◌, ◌<◌, ◌+◌, ℕ, pos, Bool, false, ◌&&◌, ◌==◌, List, ◌++◌, All, map, take, length, get_or, Option, None, Some, IfSome, inl, inr, refl, sym, ap, ◌∙◌, arith, get_or-take, length-take}
 use Rattle.std.proofs.lemmas.Bool.{both_ways, and_from, eq-eqb}
-use Rattle.std.proofs.lemmas.List.Elements.{All-map, All-append, All-weaker}
+use Rattle.std.proofs.lemmas.List.Elements.{All-map, All-append}
 use Rattle.sqlite.specs.{State.State, State.HasCleanDisk}
 use Rattle.sqlite.specs.declared.error.{Error.Error, Error.TheVariants.SqliteFailure, ErrorCode.TheVariants.OutOfMemory}
 use Rattle.record_history.specs.declared.records.Record.{Record}
@@ -11,10 +11,9 @@ use Rattle.book_rows.specs.Book.{Book, IsBatch, IsBefore}
 use Rattle.keeper_core.specs.declared.keeper.Committed.{Committed}
 use Rattle.book_texts.specs.declared.wide.{WideAct.WideAct, WideRecord.WideRecord, WideLine.WideLine}
 use Rattle.book_texts.specs.Wide.{wide_act, wide_record, wide_line}
-use Rattle.book_texts.specs.Schema.{book_schema}
 use Rattle.book_texts.specs.Takes.{IsExcused, IsServing, IsNewAct, IsNewRecord, IsNewLine}
 use Rattle.book_statements.specs.Causes.{Takes}
-use Rattle.keeper_sqlite.specs.Told.{Holds, HoldsRows, IsBookIn, TakesBatch, FailsByFault}
+use Rattle.keeper_sqlite.specs.Told.{Holds, HoldsRows, TakesBatch, FailsByFault}
 use Rattle.keeper_sqlite.proofs.Books.{schemas_differ}
 
 same : (m n : ℕ) → pos m ≡ pos n → m ≡ n
