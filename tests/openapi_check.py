@@ -147,7 +147,8 @@ class Parameter:
     def fault(self, text):
         if self.is_number and not re.fullmatch("[0-9]+", text):
             return f"{text!r} is no number"
-        return first_fault(self.validator, int(text) if self.is_number else text)
+        # Python reads no number of more than 4,300 digits. The first thousand are above any maximum all the same.
+        return first_fault(self.validator, int(text.lstrip("0")[:1000] or "0") if self.is_number else text)
 
 
 class Body:
