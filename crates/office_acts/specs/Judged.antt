@@ -1,9 +1,9 @@
 -- What an office answers to a command, and what holds of a record that an act makes.
-use Rattle.std.specs.Prelude.{ℕ, ◌≡◌, ◌≤◌, ◌+◌, ⊤, Option, Some, None, Result, Ok, Err, length, IfSome}
+use Rattle.std.specs.Prelude.{ℕ, ◌≡◌, ◌≤◌, ◌<◌, ◌+◌, ⊤, Option, Some, None, Result, Ok, Err, length, IfSome}
 use Rattle.days_core.specs.{declared.rents.Rents.Rents, OfficeDays.last_office_day}
 use Rattle.record_history.specs.{declared.records.Record.Record, Records.newest_number, Held.IsWithin}
 use Rattle.book_rows.specs.declared.command.Command.{Command}
-use Rattle.office_step.specs.{declared.refusal.Refusal.Refusal, declared.heading.Heading.Heading, Households.AreBy, Made.Basis, Made.from_facts, Known.Known, Known.own_in}
+use Rattle.office_step.specs.{declared.refusal.Refusal.Refusal, declared.heading.Heading.Heading, Households.AreBy, Matter.Matter, Matter.matter_of, Matter.Basis, Matter.from_facts, Known.Known, Known.own_in}
 use Rattle.facts_core.specs.Rules.{broken_rule}
 use Rattle.office_register.specs.Registered.{HasDates}
 
@@ -41,6 +41,17 @@ HasSizeBy _ made = ⊤
 abbrev pub AreKept : Basis → ℕ → Type 0
 AreKept (from_facts facts) from = broken_rule facts from ≡ None
 AreKept _ from = ⊤
+
+-- it is what some command is about
+pub record IsOfCommand (about : Matter) : Type 0 where
+  pub asked : Command
+  pub is : about ≡ matter_of about.known asked
+
+-- what a command tells of its record's first day and of a change comes by 2099-12-31
+pub record IsInTime (about : Matter) : Type 0 where
+  pub from : IfSome about.from (λ day. day ≤ last_office_day)
+  pub last : IfSome about.last (λ day. day < last_office_day)
+  pub told : IfSome about.told (AreBy last_office_day)
 
 -- a record can be made under the heading
 pub record IsReady (basis : Basis) (heading : Heading) : Type 0 where

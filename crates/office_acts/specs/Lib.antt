@@ -1,2 +1,4 @@
 pub mod Below
+pub mod Matter
+pub mod Moves
 pub mod Judged

@@ -1,88 +1,72 @@
 //! Whether whoever moves in is next, and whether assistance may begin.
 
-ghost use Rattle.std.specs.Prelude.{◌≡◌, option_and_then, IfSome};
-ghost use Rattle.payment_rules.specs.Payment.{gross_rent_of};
-ghost use Rattle.office_step.specs.Made.{basis_of, record_of};
-ghost use Rattle.office_step.specs.Refusals as refusals;
-ghost use Rattle.office_step.specs.Against.{move_in_of, of_move_in, out_of_turn, not_next, ineligible_by, ineligible, begins_assistance, no_assistance};
-ghost use Rattle.office_acts.specs.Judged.{IsMade, HasSize, HasSizeBy};
+ghost use Rattle.std.specs.Prelude.{◌≡◌, is_some, true, false, IfSome};
+ghost use Rattle.std.specs.Option.{option_map_or};
+ghost use Rattle.office_step.specs.Made.{record_in};
+ghost use Rattle.office_step.specs.Against.{is_same_candidate, not_next, ineligible, no_assistance};
+ghost use Rattle.office_acts.specs.Judged.{IsMade, HasSize};
+ghost use Rattle.office_acts.specs.Matter.{matter_by};
 
-use crate::moving::move_in_of;
-use book_rows::{Command, HouseholdChange};
+use crate::matter::Matter;
+use crate::moves::moving_of;
+use crate::refusing::{refused_if, refused_unless};
 use days_core::{Day, Month};
-use office_refusals as refusals;
-use office_register::Register;
-use office_step::{MoveIn, Refusal};
-use office_turns::{next_for, unit_in};
+use office_step::Refusal;
+use office_turns::next_for;
 use record_history::{Dates, Record};
-use rent_table::{LimitRow, Plan, Unit};
+use rent_table::admission_limit;
 use wait_list::Candidate;
 
-/// Refused where another is next for the unit that is moved into, or nobody is.
-pub fn not_next(register: &Register, asked: &Command) -> Option<Refusal>
-    ensures { result ≡ not_next register.now.known asked.now }
+/// Refused if another is next for the unit that is moved into, or nobody is.
+pub fn not_next(about: &Matter) -> Option<Refusal>
+    ensures { result ≡ not_next (matter_by about.now) }
 {
-    out_of_turn(register, move_in_of(asked))
+    let Some(moving) = moving_of(about) else {
+        return None;
+    };
+    let next = next_for(about.register, moving.plan, moving.unit, moving.from);
+    refused_unless(is_next(next, moving.candidate), Refusal::NotNext { next })
 }
 
-fn out_of_turn(register: &Register, mover: Option<MoveIn>) -> Option<Refusal>
-    ensures { result ≡ of_move_in register.now.known mover (out_of_turn register.now.known) }
+fn is_next(next: Option<Candidate>, asked: Candidate) -> bool
+    ensures { result ≡ option_map_or (λ c. is_same_candidate c asked) next false }
 {
-    let plan = register.plan()?;
-    let mover = mover?;
-    let unit = unit_in(register, mover.unit)?;
-    refusals::not_next(next_for(register, plan, unit, mover.from), mover.candidate)
-}
-
-/// Refused where the income of who is admitted is above the limit of the family's size.
-pub fn ineligible(register: &Register, asked: &Command, made: &Option<Record>) -> Option<Refusal>
-    requires value { made.now ≡ record_of register.now.known asked.now }
-    requires size { IfSome made.now (HasSizeBy (basis_of asked.now)) }
-    ensures { result ≡ ineligible register.now.known asked.now }
-{
-    match asked {
-        Command::Admit(_) => ineligible_by(register, made),
-        _ => None,
+    match next {
+        Some(candidate) => is_same_candidate(candidate, asked),
+        None => false,
     }
 }
 
-fn ineligible_by(register: &Register, made: &Option<Record>) -> Option<Refusal>
-    requires { IfSome made.now HasSize }
-    ensures { result ≡ option_and_then (ineligible_by register.now.known) made.now }
+fn is_same_candidate(candidate: Candidate, asked: Candidate) -> bool
+    ensures { result ≡ is_same_candidate candidate asked }
 {
+    candidate == asked
+}
+
+/// Refused if the income of who is admitted is above the limit of the family's size.
+pub fn ineligible(about: &Matter, made: &Option<Record>) -> Option<Refusal>
+    requires value { made.now ≡ record_in (matter_by about.now) }
+    requires size { is_some about.now.applicant ≡ true → IfSome made.now HasSize }
+    ensures { result ≡ ineligible (matter_by about.now) }
+{
+    let _applicant = about.applicant?;
     let made = made.as_ref()?;
-    let plan = register.plan()?;
-    let limits = register.table().limits_on(made.from)?;
-    refusals::ineligible(plan, limits, made.size, made.annual)
+    let limits = about.register.table().limits_on(made.from)?;
+    let limit = admission_limit(about.register.plan()?, limits, made.size);
+    let annual = made.annual;
+    refused_if(limit < annual, Refusal::Ineligible { limit, annual })
 }
 
-/// Refused where assistance would begin for a household that bears the whole gross rent.
-pub fn no_assistance(register: &Register, asked: &Command, made: &Option<Record>) -> Option<Refusal>
-    requires value { made.now ≡ record_of register.now.known asked.now }
-    requires made { IfSome made.now (IsMade register.now.known) }
-    ensures { result ≡ no_assistance register.now.known asked.now }
+/// Refused if assistance would begin for a household that bears the whole gross rent.
+pub fn no_assistance(about: &Matter, made: &Option<Record>) -> Option<Refusal>
+    requires value { made.now ≡ record_in (matter_by about.now) }
+    requires made { IfSome made.now (IsMade about.now.register.now.known) }
+    ensures { result ≡ no_assistance (matter_by about.now) }
 {
-    if begins_assistance(asked) {
-        no_assistance_by(register, made)
-    } else {
-        None
+    if !about.begins {
+        return None;
     }
-}
-
-fn no_assistance_by(register: &Register, made: &Option<Record>) -> Option<Refusal>
-    requires { IfSome made.now (IsMade register.now.known) }
-    ensures { result ≡ option_and_then (λ made. refusals.no_assistance made.ttp (gross_rent_of made.rents)) made.now }
-{
     let made = made.as_ref()?;
-    refusals::no_assistance(made.ttp, made.rents.contract_rent + made.rents.utility)
-}
-
-fn begins_assistance(asked: &Command) -> bool
-    ensures { result ≡ begins_assistance asked.now }
-{
-    match asked {
-        Command::Admit(_) => true,
-        Command::Household(act) => matches!(act.change, HouseholdChange::Resume(_)),
-        _ => false,
-    }
+    let (ttp, gross) = (made.ttp, made.rents.contract_rent + made.rents.utility);
+    refused_if(gross <= ttp, Refusal::NoAssistance { ttp, gross })
 }

@@ -6,9 +6,12 @@ ghost use Rattle.days_core.specs.OfficeDays.{last_office_month};
 ghost use Rattle.office_step.specs.Made.{last_close, closing_by, lines_of_close, lines_of};
 ghost use Rattle.office_step.specs.Against.{next_month, plan_day, wrong_month, rent_due, overdue};
 ghost use Rattle.office_step.specs.Known.{own_in};
-ghost use Rattle.office_step.specs.Refusals as test;
+ghost use Rattle.office_step.specs.Refusals.{household_rent_due, first_household};
 ghost use Rattle.office_acts.specs.Judged.{ClosesBy};
+ghost use Rattle.office_acts.specs.Matter.{matter_by};
 
+use crate::matter::Matter;
+use crate::refusing::refused_unless;
 use book_rows::{CloseAct, Command};
 use days_core::{Day, Month, last_of};
 use office_refusals as refusals;
@@ -22,15 +25,14 @@ use std::alloc::Global;
 use voucher_core::{Closing, Line, close_lines};
 use wait_list::Candidate;
 
-/// Refused where it isn't the next month to close.
-pub fn wrong_month(register: &Register, asked: &Command) -> Option<Refusal>
-    ensures value { result ≡ wrong_month register.now.known asked.now }
-    ensures by { result ≡ None → ClosesBy last_office_month asked.now }
+/// Refused if it isn't the next month to close.
+pub fn wrong_month(about: &Matter) -> Option<Refusal>
+    ensures value { result ≡ wrong_month (matter_by about.now) }
+    ensures by { result ≡ None → IfSome about.now.month (λ month. month ≤ last_office_month) }
 {
-    match asked {
-        Command::Close(close) => refusals::wrong_month(next_month(register), close.month),
-        _ => None,
-    }
+    let month = about.month?;
+    let next = next_month(about.register);
+    refused_unless(next == Some(month), Refusal::WrongMonth { next })
 }
 
 fn next_month(register: &Register) -> Option<Month>
@@ -49,19 +51,16 @@ fn last_month(register: &Register) -> Option<Month>
     Some(closing.month)
 }
 
-/// Refused where the rents of a household are due.
-pub fn rent_due(register: &Register, asked: &Command) -> Option<Refusal>
-    ensures { result ≡ rent_due register.now.known asked.now }
+/// Refused if the rents of a household are due.
+pub fn rent_due(about: &Matter) -> Option<Refusal>
+    ensures { result ≡ rent_due (matter_by about.now) }
 {
-    match asked {
-        Command::Close(close) => first_rent_due(register, last_of(close.month)),
-        _ => None,
-    }
+    first_rent_due(about.register, last_of(about.month?))
 }
 
-/// Refused where the rents of a household are due by the day: the least such household, and its least day.
+/// By the day: the least such household, and its least day.
 fn first_rent_due(register: &Register, last: Day) -> Option<Refusal>
-    ensures { result ≡ test.rent_due register.now.known.households register.now.known.units register.now.known.rents (plan_day register.now.known) last }
+    ensures { result ≡ first_household (λ household. household_rent_due (own_in register.now.known household) register.now.known.units register.now.known.rents (plan_day register.now.known) last household) (length register.now.known.households) }
 {
     let mut due = None;
     for place in 0..register.households() {
@@ -77,7 +76,7 @@ fn due_so_far(
     last: Day,
     household: u32,
 ) -> Option<Refusal>
-    ensures { result ≡ option_or found (test.household_rent_due (own_in register.now.known household) register.now.known.units register.now.known.rents (plan_day register.now.known) last household) }
+    ensures { result ≡ option_or found (household_rent_due (own_in register.now.known household) register.now.known.units register.now.known.rents (plan_day register.now.known) last household) }
 {
     match found {
         Some(_) => found,
@@ -87,21 +86,18 @@ fn due_so_far(
 
 /// The days before which nothing has changed since the last closing aren't looked at again.
 fn household_rent_due(register: &Register, last: Day, household: u32) -> Option<Refusal>
-    ensures { result ≡ test.household_rent_due (own_in register.now.known household) register.now.known.units register.now.known.rents (plan_day register.now.known) last household }
+    ensures { result ≡ household_rent_due (own_in register.now.known household) register.now.known.units register.now.known.rents (plan_day register.now.known) last household }
 {
     let first = register.review_day(household);
     refusals::household_rent_due(register.history(), register.table(), first, last, household)
 }
 
-/// Refused where a household should have been certified anew.
-pub fn overdue(register: &Register, asked: &Command) -> Option<Refusal>
-    requires { ClosesBy last_office_month asked.now }
-    ensures { result ≡ overdue register.now.known asked.now }
+/// Refused if a household should have been certified anew.
+pub fn overdue(about: &Matter) -> Option<Refusal>
+    requires { IfSome about.now.month (λ month. month ≤ last_office_month) }
+    ensures { result ≡ overdue (matter_by about.now) }
 {
-    match asked {
-        Command::Close(close) => refusals::overdue(register.history(), close.month),
-        _ => None,
-    }
+    refusals::overdue(about.register.history(), about.month?)
 }
 
 /// The lines that the next act makes. Only a closing makes some.

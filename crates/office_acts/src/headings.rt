@@ -1,86 +1,74 @@
 //! What the record of an act says beside its figures.
 
-ghost use Rattle.std.specs.Prelude.{◌≡◌};
-ghost use Rattle.office_step.specs.Made.{new_heading, further_heading, correction_heading, transfer_heading, withdrawal_heading};
+ghost use Rattle.std.specs.Prelude.{◌≡◌, ◌≤◌, IfSome};
+ghost use Rattle.office_step.specs.Matter.{household_of, begins_on};
+ghost use Rattle.office_step.specs.Made.{heading_in, own_heading, heading_over};
+ghost use Rattle.office_register.specs.Registered.{HasDates};
+ghost use Rattle.office_acts.specs.Judged.{IsInTime, IsReady, AreKept};
+ghost use Rattle.office_acts.specs.Matter.{matter_by};
 
-use crate::lookups::unit_continued;
+use crate::lookups::{target_in, unit_continued};
+use crate::matter::Matter;
 use days_core::Day;
-use office_register::Register;
 use office_step::Heading;
 use record_history::{Dates, Kind, Record};
 
-/// The heading of a new household's first record.
-pub fn new_heading(register: &Register, kind: Kind, unit: u32, from: Day) -> Heading
-    ensures { result ≡ new_heading register.now.known kind unit from }
+/// The heading of the record that comes of it, if one does.
+pub fn heading_in(about: &Matter) -> Option<Heading>
+    requires in_time { IsInTime (matter_by about.now) }
+    requires facts { AreKept (matter_by about.now).basis (begins_on (matter_by about.now)) }
+    ensures value { result ≡ heading_in (matter_by about.now) }
+    ensures ready { IfSome result (IsReady (matter_by about.now).basis) }
 {
-    Heading {
-        household: register.history().households() + 1,
-        kind,
-        from,
-        corrects: 0,
-        unit,
-        dates: None,
+    match about.target {
+        None => Some(own_heading(about, about.kind?)),
+        Some(target) => Some(heading_over(about, target_in(about, target)?)),
     }
 }
 
-/// The heading of a further record of a household, for the unit that it has.
-pub fn further_heading(
-    register: &Register,
-    household: u32,
-    kind: Kind,
-    from: Day,
-    dates: Option<Dates>,
-) -> Heading
-    ensures { result ≡ further_heading register.now.known household kind from dates }
+/// Of a record of its own kind.
+fn own_heading(about: &Matter, kind: Kind) -> Heading
+    requires { IsInTime (matter_by about.now) }
+    ensures { result ≡ own_heading (matter_by about.now) kind }
 {
+    let household = about.household();
+    let from = about.begins_on();
     Heading {
         household,
         kind,
         from,
         corrects: 0,
-        unit: unit_continued(register, household, from),
-        dates,
+        unit: match about.unit {
+            Some(unit) => unit,
+            None => unit_continued(about.register, household, from),
+        },
+        dates: about.told,
     }
 }
 
-/// The heading of a correction, which keeps the kind, the unit and the dates of its target.
-pub fn correction_heading(household: u32, target: &Record, from: Day) -> Heading
-    ensures { result ≡ correction_heading household target.now from }
+/// Of a record that corrects another or withdraws it.
+fn heading_over(about: &Matter, target: &Record) -> Heading
+    requires { IsInTime (matter_by about.now) }
+    ensures { result ≡ heading_over (matter_by about.now) target.now }
 {
-    Heading {
-        household,
-        kind: target.kind,
-        from,
-        corrects: target.number,
-        unit: target.unit,
-        dates: target.dates,
-    }
-}
-
-/// The heading of a transfer, for the new unit.
-pub fn transfer_heading(household: u32, unit: u32, from: Day) -> Heading
-    ensures { result ≡ transfer_heading household unit from }
-{
-    Heading {
-        household,
-        kind: Kind::UT,
-        from,
-        corrects: 0,
-        unit,
-        dates: None,
-    }
-}
-
-/// The heading of a withdrawal, which has the first day of its target, and no unit.
-pub fn withdrawal_heading(household: u32, target: &Record) -> Heading
-    ensures { result ≡ withdrawal_heading household target.now }
-{
-    Heading {
-        household,
-        kind: Kind::WD,
-        from: target.from,
-        corrects: target.number,
-        unit: 0,
-        dates: None,
+    let household = about.household();
+    if about.certifies() {
+        Heading {
+            household,
+            kind: target.kind,
+            from: about.begins_on(),
+            corrects: target.number,
+            unit: target.unit,
+            dates: target.dates,
+        }
+    } else {
+        Heading {
+            household,
+            kind: Kind::WD,
+            from: target.from,
+            corrects: target.number,
+            unit: 0,
+            dates: None,
+        }
     }
 }

@@ -4,21 +4,27 @@ ghost use Rattle.record_history.specs.Held.{IsWithin};
 ghost use Rattle.book_rows.specs.Fit.{is_fit};
 ghost use Rattle.office_register.specs.Registered.{HasDates};
 ghost use Rattle.office_register.specs.Accepted.{IsAccepted};
-ghost use Rattle.office_step.specs.Made.{record_of};
-ghost use Rattle.office_step.specs.Against.{refused_by};
-ghost use Rattle.office_acts.specs.Judged.{judged_by, IsMade, IsPlaced, ClosesBy};
+ghost use Rattle.office_step.specs.Made.{record_in, record_of};
+ghost use Rattle.office_step.specs.Refusals.{first_of};
+ghost use Rattle.office_step.specs.Against.{tests_on, refused_by};
+ghost use Rattle.office_acts.specs.Judged.{judged_by, IsOfCommand, IsMade, IsPlaced, ClosesBy};
+ghost use Rattle.office_acts.specs.Matter.{matter_by};
 
 use crate::admission::{ineligible, no_assistance, not_next};
 use crate::closing::{overdue, rent_due, wrong_month};
-use crate::making::{heading_of, record_of};
+use crate::headings::heading_in;
+use crate::matter::{Matter, matter_of};
 use crate::names::{book_full, no_plan, no_such, plan_given, stale, unseen};
 use crate::places::{disorder, name_taken, size_misfit, unit_taken};
+use crate::records::record_in;
 use crate::terms::{day_range, facts_rule, no_limits, no_rent, not_live, wrong_day};
 use book_rows::Command;
 use days_core::{Day, Month};
+use facts_core::Facts;
 use office_register::Register;
-use office_step::Refusal;
-use record_history::{Dates, Record};
+use office_step::{MoveIn, Refusal};
+use plain_data::Text;
+use record_history::{Dates, Kind, Record};
 use wait_list::Candidate;
 
 /// The command is refused, if the test stands.
@@ -51,7 +57,6 @@ pub fn judge(
     judge_any(register, most, today, asked)
 }
 
-/// The refusals in their one order.
 fn judge_any(
     register: &Register,
     most: u32,
@@ -63,29 +68,43 @@ fn judge_any(
     ensures made { IfOk result (λ made. IfSome made (IsMade register.now.known)) }
     ensures month { IsOk result → ClosesBy last_office_month asked.now }
 {
-    refused!(no_plan(register, asked));
-    refused!(plan_given(register, asked));
-    refused!(book_full(register, most));
-    refused!(no_such(register, asked));
-    refused!(stale(register, asked));
-    refused!(unseen(register, asked));
-    refused!(facts_rule(asked));
-    refused!(day_range(register, today, asked));
-    let heading = heading_of(register, today, asked);
-    refused!(no_rent(register, asked, &heading));
-    refused!(no_limits(register, asked, &heading));
-    refused!(not_live(register, asked));
-    let made = record_of(register, asked, &heading);
-    refused!(wrong_day(register, today, asked, &made));
-    refused!(disorder(register, asked, &made));
-    refused!(name_taken(register, asked));
-    refused!(size_misfit(register, asked, &made));
-    refused!(unit_taken(register, asked, &made));
-    refused!(not_next(register, asked));
-    refused!(ineligible(register, asked, &made));
-    refused!(no_assistance(register, asked, &made));
-    refused!(wrong_month(register, asked));
-    refused!(rent_due(register, asked));
-    refused!(overdue(register, asked));
+    let about = matter_of(register, asked);
+    // The check of loans refuses a type that the function doesn't name.
+    let (_name, _facts): (Option<&Text>, Option<&Facts>) = (about.name, about.facts);
+    judge_matter(&about, most, today)
+}
+
+/// The refusals in their one order.
+fn judge_matter(about: &Matter, most: u32, today: Day) -> Result<Option<Record>, Refusal>
+    requires today { today ≤ last_office_day }
+    requires command { IsOfCommand (matter_by about.now) }
+    ensures judged { result ≡ judged_by (first_of (tests_on most today (matter_by about.now))) (record_in (matter_by about.now)) }
+    ensures made { IfOk result (λ made. IfSome made (IsMade about.now.register.now.known)) }
+    ensures month { IsOk result → IfSome about.now.month (λ month. month ≤ last_office_month) }
+{
+    refused!(no_plan(about));
+    refused!(plan_given(about));
+    refused!(book_full(most, about));
+    refused!(no_such(about));
+    refused!(stale(about));
+    refused!(unseen(about));
+    refused!(facts_rule(about));
+    refused!(day_range(today, about));
+    let heading = heading_in(about);
+    refused!(no_rent(about, &heading));
+    refused!(no_limits(about, &heading));
+    refused!(not_live(about));
+    let made = record_in(about, &heading);
+    refused!(wrong_day(about, &made));
+    refused!(disorder(about, &made));
+    refused!(name_taken(about));
+    refused!(size_misfit(about, &made));
+    refused!(unit_taken(about, &made));
+    refused!(not_next(about));
+    refused!(ineligible(about, &made));
+    refused!(no_assistance(about, &made));
+    refused!(wrong_month(about));
+    refused!(rent_due(about));
+    refused!(overdue(about));
     Ok(made)
 }

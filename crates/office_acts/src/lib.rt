@@ -15,11 +15,12 @@ mod closing;
 mod headings;
 mod judging;
 mod lookups;
-mod making;
-mod moving;
+mod matter;
+mod moves;
 mod names;
 mod places;
 mod records;
+mod refusing;
 mod terms;
 
 pub use closing::lines_of;

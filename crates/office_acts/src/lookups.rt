@@ -5,14 +5,25 @@ ghost use Rattle.record_history.specs.Held.{IsWithin};
 ghost use Rattle.office_register.specs.Registered.{HasDates};
 ghost use Rattle.office_step.specs.Households.{record_at, unit_continued};
 ghost use Rattle.office_step.specs.Known.{own_in};
+ghost use Rattle.office_step.specs.Matter.{own};
+ghost use Rattle.office_acts.specs.Matter.{matter_by};
 
+use crate::matter::Matter;
 use days_core::Day;
 use office_refusals::continued;
 use office_register::Register;
 use record_history::{Dates, Record};
 
 /// The household's record of that number.
-pub fn target_in(register: &Register, household: u32, number: u32) -> Option<&Record>
+pub fn target_in<'a>(about: &Matter<'a>, number: u32) -> Option<&'a Record>
+    ensures value { option_copied result ≡ record_at (own (matter_by about.now)) number }
+    ensures within { IfSome (option_copied result) IsWithin }
+    ensures dates { IfSome (option_copied result) HasDates }
+{
+    held_in(about.register, about.household(), number)
+}
+
+fn held_in(register: &Register, household: u32, number: u32) -> Option<&Record>
     ensures value { option_copied result ≡ record_at (own_in register.now.known household) number }
     ensures within { IfSome (option_copied result) IsWithin }
     ensures dates { IfSome (option_copied result) HasDates }

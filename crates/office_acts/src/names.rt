@@ -1,125 +1,141 @@
 //! Whether an act may come at all, and whether what it names is there, as the clerk saw it.
 
-ghost use Rattle.std.specs.Prelude.{◌≡◌};
-ghost use Rattle.office_step.specs.Refusals as refusals;
-ghost use Rattle.office_step.specs.Known.{own_in};
-ghost use Rattle.office_step.specs.Against.{is_plan, no_household, no_plan, plan_given, book_full, no_such, no_such_in, stale, unseen};
+ghost use Rattle.std.specs.Prelude.{◌≡◌, is_some, false};
+ghost use Rattle.std.specs.Option.{option_map_or};
+ghost use Rattle.rent_table.specs.Table.{unit_at};
+ghost use Rattle.wait_list.specs.Waiting.{is_listed};
+ghost use Rattle.office_step.specs.declared.refusal.Named.TheVariants as named;
+ghost use Rattle.office_step.specs.declared.refusal.Refusal.TheVariants as refusal;
+ghost use Rattle.office_step.specs.Households.{record_at, rests_on_facts};
+ghost use Rattle.office_step.specs.Matter.{own};
+ghost use Rattle.office_step.specs.Refusals.{refused_unless};
+ghost use Rattle.office_step.specs.Against.{none_such, is_household, may_be_named, no_plan, plan_given, book_full, no_such, stale, unseen};
+ghost use Rattle.office_acts.specs.Matter.{matter_by};
 
-use book_rows::{Command, HouseholdChange};
+use crate::matter::Matter;
+use crate::refusing::{refused_if, refused_unless};
 use days_core::{Day, Month};
-use office_refusals as refusals;
-use office_register::Register;
-use office_step::Refusal;
-use record_history::{Dates, Record};
+use office_step::{Named, Refusal};
+use record_history::{Dates, Kind, Record};
 use wait_list::Candidate;
 
-pub fn no_plan(register: &Register, asked: &Command) -> Option<Refusal>
-    ensures { result ≡ no_plan register.now.known asked.now }
+/// Refused if it isn't a plan and none was accepted.
+pub fn no_plan(about: &Matter) -> Option<Refusal>
+    ensures { result ≡ no_plan (matter_by about.now) }
 {
-    refusals::no_plan(register.plan_act(), is_plan(asked))
+    let is_first = about.register.plan_act().is_none();
+    refused_if(!about.gives_plan && is_first, Refusal::NoPlan)
 }
 
-pub fn plan_given(register: &Register, asked: &Command) -> Option<Refusal>
-    ensures { result ≡ plan_given register.now.known asked.now }
+/// Refused if it is a plan and one was accepted.
+pub fn plan_given(about: &Matter) -> Option<Refusal>
+    ensures { result ≡ plan_given (matter_by about.now) }
 {
-    refusals::plan_given(register.plan_act(), is_plan(asked))
+    if !about.gives_plan {
+        return None;
+    }
+    let act = about.register.plan_act()?;
+    Some(Refusal::PlanGiven { act })
 }
 
-fn is_plan(asked: &Command) -> bool
-    ensures { result ≡ is_plan asked.now }
+/// Refused if the book holds as many acts as it may.
+pub fn book_full(most: u32, about: &Matter) -> Option<Refusal>
+    ensures { result ≡ book_full most (matter_by about.now) }
 {
-    matches!(asked, Command::Plan(_))
+    let acts = about.register.count();
+    refused_if(most <= acts, Refusal::BookFull { acts })
 }
 
-pub fn book_full(register: &Register, most: u32) -> Option<Refusal>
-    ensures { result ≡ book_full register.now.known most }
+/// Refused if a number names nothing: the household's before that of what it has.
+pub fn no_such(about: &Matter) -> Option<Refusal>
+    ensures { result ≡ no_such (matter_by about.now) }
 {
-    refusals::book_full(register.count(), most)
+    stands!(no_household(about));
+    stands!(no_applicant(about));
+    stands!(no_unit(about));
+    no_target(about)
 }
 
-/// Refused where a number names nothing: the household's before that of what it has.
-pub fn no_such(register: &Register, asked: &Command) -> Option<Refusal>
-    ensures { result ≡ no_such register.now.known asked.now }
+fn no_household(about: &Matter) -> Option<Refusal>
+    ensures { result ≡ none_such named.Household (is_household about.now.register.now.known) about.now.household }
 {
-    match asked {
-        Command::Remove(remove) => no_applicant(register, remove.applicant),
-        Command::Start(start) => no_unit(register, start.unit),
-        Command::Admit(admit) => {
-            stands!(no_applicant(register, admit.applicant));
-            no_unit(register, admit.unit)
-        }
-        Command::AskTransfer(ask) => no_household(register, ask.household),
-        Command::Household(act) => {
-            stands!(no_household(register, act.household));
-            no_such_in(register, act.household, &act.change)
-        }
-        _ => None,
+    let household = about.household?;
+    let is_there = 1 <= household && household <= about.register.households();
+    none_such(Named::Household, is_there, household)
+}
+
+fn no_applicant(about: &Matter) -> Option<Refusal>
+    ensures { result ≡ none_such named.Applicant (is_listed about.now.register.now.known.waiting) about.now.applicant }
+{
+    let applicant = about.applicant?;
+    none_such(
+        Named::Applicant,
+        about.register.list().listed(applicant),
+        applicant,
+    )
+}
+
+fn no_unit(about: &Matter) -> Option<Refusal>
+    ensures { result ≡ none_such named.Unit (λ unit. is_some (unit_at about.now.register.now.known.units unit)) about.now.unit }
+{
+    let unit = about.unit?;
+    none_such(
+        Named::Unit,
+        about.register.table().unit(unit).is_some(),
+        unit,
+    )
+}
+
+fn no_target(about: &Matter) -> Option<Refusal>
+    ensures { result ≡ none_such named.Record (λ target. option_map_or (may_be_named (matter_by about.now)) (record_at (own (matter_by about.now)) target) false) about.now.target }
+{
+    let target = about.target?;
+    none_such(Named::Record, has_record(about, target), target)
+}
+
+fn has_record(about: &Matter, number: u32) -> bool
+    ensures { result ≡ option_map_or (may_be_named (matter_by about.now)) (record_at (own (matter_by about.now)) number) false }
+{
+    match about
+        .register
+        .history()
+        .record_at(about.household(), number)
+    {
+        Some(held) => !about.certifies() || rests_on_facts(held.kind),
+        None => false,
     }
 }
 
-fn no_such_in(register: &Register, household: u32, change: &HouseholdChange) -> Option<Refusal>
-    ensures { result ≡ no_such_in register.now.known household change.now }
+/// Of a kind that may be corrected: not a gross rent change, a transfer, a move-out, a termination or a withdrawal.
+fn rests_on_facts(kind: Kind) -> bool
+    ensures { result ≡ rests_on_facts kind }
 {
-    match change {
-        HouseholdChange::Correct(correct) => no_target(register, household, correct.target),
-        HouseholdChange::Withdraw(withdraw) => no_record(register, household, withdraw.target),
-        HouseholdChange::Transfer(transfer) => no_unit(register, transfer.unit),
-        _ => None,
+    match kind {
+        Kind::MI | Kind::IC | Kind::AR | Kind::IR => true,
+        Kind::GR | Kind::UT | Kind::MO | Kind::TM | Kind::WD => false,
     }
 }
 
-fn no_household(register: &Register, household: u32) -> Option<Refusal>
-    ensures { result ≡ no_household register.now.known household }
+fn none_such(what: Named, is_there: bool, id: u32) -> Option<Refusal>
+    ensures { result ≡ refused_unless is_there (refusal.NoSuch what id) }
 {
-    refusals::no_household(register.history().households(), household)
+    refused_unless(is_there, Refusal::NoSuch { what, id })
 }
 
-fn no_applicant(register: &Register, applicant: u32) -> Option<Refusal>
-    ensures { result ≡ refusals.no_applicant register.now.known.waiting applicant }
+/// Refused if the household has a newer record than the clerk saw.
+pub fn stale(about: &Matter) -> Option<Refusal>
+    ensures { result ≡ stale (matter_by about.now) }
 {
-    refusals::no_applicant(register.list(), applicant)
+    let seen = about.seen?;
+    let newest = about.newest();
+    refused_if(seen < newest, Refusal::Stale { newest })
 }
 
-fn no_unit(register: &Register, unit: u32) -> Option<Refusal>
-    ensures { result ≡ refusals.no_unit register.now.known.units unit }
+/// Refused if the household has no record so new.
+pub fn unseen(about: &Matter) -> Option<Refusal>
+    ensures { result ≡ unseen (matter_by about.now) }
 {
-    refusals::no_unit(register.table(), unit)
-}
-
-fn no_target(register: &Register, household: u32, target: u32) -> Option<Refusal>
-    ensures { result ≡ refusals.no_target (own_in register.now.known household) target }
-{
-    refusals::no_target(register.history(), household, target)
-}
-
-fn no_record(register: &Register, household: u32, target: u32) -> Option<Refusal>
-    ensures { result ≡ refusals.no_record (own_in register.now.known household) target }
-{
-    refusals::no_record(register.history(), household, target)
-}
-
-/// Refused where the household has a newer record than the clerk saw.
-pub fn stale(register: &Register, asked: &Command) -> Option<Refusal>
-    ensures { result ≡ stale register.now.known asked.now }
-{
-    match asked {
-        Command::Household(act) => {
-            let newest = register.history().newest(act.household);
-            refusals::stale(newest, act.seen)
-        }
-        _ => None,
-    }
-}
-
-/// Refused where the household has no record so new.
-pub fn unseen(register: &Register, asked: &Command) -> Option<Refusal>
-    ensures { result ≡ unseen register.now.known asked.now }
-{
-    match asked {
-        Command::Household(act) => {
-            let newest = register.history().newest(act.household);
-            refusals::unseen(newest, act.seen)
-        }
-        _ => None,
-    }
+    let seen = about.seen?;
+    let newest = about.newest();
+    refused_if(newest < seen, Refusal::Unseen { newest })
 }

@@ -7,10 +7,12 @@ ghost use Rattle.record_history.specs.Records.{newest_number};
 ghost use Rattle.record_history.specs.Held.{records_of};
 ghost use Rattle.certified_figures.specs.Figures.{FitsRecord};
 ghost use Rattle.office_step.specs.Households.{continued, AreBy};
-ghost use Rattle.office_step.specs.Made.{rents_in_unit, made_with, made_of_facts, made_of_carried, made_of_nothing};
+ghost use Rattle.office_step.specs.Made.{heading_in, record_in, rents_in_unit, made_with, made_of_facts, made_of_carried, made_of_nothing};
 ghost use Rattle.office_step.specs.Known.{own_in};
-ghost use Rattle.office_acts.specs.Judged.{AreWithin, IsMade, HasSize};
+ghost use Rattle.office_acts.specs.Judged.{AreWithin, IsMade, IsReady, HasSize, HasSizeBy};
+ghost use Rattle.office_acts.specs.Matter.{matter_by};
 
+use crate::matter::Matter;
 use certified_figures::{Figures, figures_carried, figures_of_facts, no_figures};
 use days_core::{Day, Rents};
 use facts_core::Facts;
@@ -20,8 +22,24 @@ use office_step::Heading;
 use record_history::{Dates, History, Kind, Record};
 use rent_table::{LimitRow, Plan, RentTable};
 
+/// The record that comes of it, if one does.
+pub fn record_in(about: &Matter, heading: &Option<Heading>) -> Option<Record>
+    requires heading { heading.now ≡ heading_in (matter_by about.now) }
+    requires ready { IfSome heading.now (IsReady (matter_by about.now).basis) }
+    ensures value { result ≡ record_in (matter_by about.now) }
+    ensures made { IfSome result (IsMade about.now.register.now.known) }
+    ensures size { IfSome result (HasSizeBy (matter_by about.now).basis) }
+{
+    let heading = heading.as_ref()?;
+    match about.facts {
+        Some(facts) => made_of_facts(about.register, heading, facts),
+        None if about.carries => made_of_carried(about.register, heading),
+        None => Some(made_of_nothing(about.register, heading)),
+    }
+}
+
 /// The record of a heading that is computed from the facts, where there are a plan and rents.
-pub fn made_of_facts(register: &Register, heading: &Heading, facts: &Facts) -> Option<Record>
+fn made_of_facts(register: &Register, heading: &Heading, facts: &Facts) -> Option<Record>
     requires kept { broken_rule facts.now heading.now.from ≡ None }
     requires from { heading.now.from ≤ last_office_day }
     requires dates { IfSome heading.now.dates (AreBy last_office_day) }
@@ -38,7 +56,7 @@ pub fn made_of_facts(register: &Register, heading: &Heading, facts: &Facts) -> O
 }
 
 /// The record of a heading that carries over what was certified, where that and rents are there.
-pub fn made_of_carried(register: &Register, heading: &Heading) -> Option<Record>
+fn made_of_carried(register: &Register, heading: &Heading) -> Option<Record>
     requires from { heading.now.from ≤ last_office_day }
     requires dates { IfSome heading.now.dates (AreBy last_office_day) }
     ensures value { result ≡ made_of_carried register.now.known heading.now }
@@ -51,7 +69,7 @@ pub fn made_of_carried(register: &Register, heading: &Heading) -> Option<Record>
 }
 
 /// The record of a heading that certifies nothing.
-pub fn made_of_nothing(register: &Register, heading: &Heading) -> Record
+fn made_of_nothing(register: &Register, heading: &Heading) -> Record
     requires from { heading.now.from ≤ last_office_day }
     requires dates { IfSome heading.now.dates (AreBy last_office_day) }
     ensures value { result ≡ made_of_nothing register.now.known heading.now }

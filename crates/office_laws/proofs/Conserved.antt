@@ -1,8 +1,8 @@
 -- After any acts the lines total what was certified at the last closing.
-use Rattle.office_laws.proofs.Words.{Book, Capacity, ◌≡◌, ◌∙◌, sym, refl, subst, ℕ, ◌+◌, ◌<◌, ◌≤◌, inl, inr, arith, pos, false, ◌&&◌, List, [], ◌++◌, Option, Some, None, length, All, IfSome, if◌then◌else◌, nat_le, option_map, option_map_or, option_or, append-nil, Record, Plan, Closing, Line, closing_lines, placed, paid, none_settled, closing_settles, pays_no_other, settled_stays, Command, Closed, plan_in, Known, known_of, own_in, record_of, lines_of, next_to_close, is_plan, Passed, IsReached, reached_empty, reached_more, IsOneOf, records_past, IfSome_then, nat_tests, common_steps}
-use Rattle.std.specs.Prelude.{ℤ}
+use Rattle.office_laws.proofs.Words.{Book, Capacity, ◌≡◌, ◌∙◌, sym, refl, subst, ℕ, ◌+◌, ◌<◌, ◌≤◌, inl, inr, arith, pos, false, ◌&&◌, List, [], ◌++◌, Option, Some, None, length, All, IfSome, if◌then◌else◌, nat_le, option_map, option_map_or, option_or, append-nil, Record, Plan, Closing, Line, closing_lines, placed, paid, none_settled, closing_settles, pays_no_other, settled_stays, Command, Closed, plan_in, Known, known_of, own_in, record_of, lines_of, next_to_close, refused_unless, Refusal, is_plan, Passed, IsReached, reached_empty, reached_more, IsOneOf, records_past, IfSome_then, nat_tests, common_steps}
+use Rattle.std.specs.Prelude.{ℤ, nat_eq}
 use Rattle.voucher_core.specs.Law.{IsSettled}
-use Rattle.office_step.specs.Refusals as test
+use Rattle.std.specs.Option.{option_eq}
 use Rattle.office_laws.specs.Conserved.{span_of, AreSettled, LinesAreSettled, due_for}
 use Rattle.office_laws.proofs.{Inversion.accepted, Inversion.passes, Reached.plan_there, Known.next, Known.known_next, Known.by_acts, Own.own_after, Own.more_of, Own.later_than}
 
@@ -35,7 +35,11 @@ quiet own more count lines later given (Some plan) (Some closing) there settled 
 
 -- ---- a closing
 
-pub next_closed : (first month : ℕ) (closing : Option Closed) → test.wrong_month (next_to_close first (option_map (λ closing. closing.month) closing)) month ≡ None →
+-- another month is to be closed next
+abbrev pub is_wrong : Option ℕ → ℕ → Option Refusal
+is_wrong right month = refused_unless (option_eq nat_eq right (Some month)) (Refusal.WrongMonth right)
+
+pub next_closed : (first month : ℕ) (closing : Option Closed) → is_wrong (next_to_close first (option_map (λ closing. closing.month) closing)) month ≡ None →
     option_map_or (λ closing. closing.month + 1) closing first ≡ month
 next_closed first month closing right = grind (arith, common_steps, nat_tests, right)
 
@@ -50,7 +54,7 @@ after plan closing next = record {
 
 close_settles : (own : ℕ → List Record) (count : ℕ) → ((household : ℕ) → count < household → own household ≡ []) →
     (plan : Plan) (closing : Option Closed) (acts : ℕ) → IfSome closing (λ closing. IsOneOf acts closing.act) → (next : Closed) (lines : List Line) →
-    test.wrong_month (next_to_close plan.first (option_map (λ closing. closing.month) closing)) next.month ≡ None →
+    is_wrong (next_to_close plan.first (option_map (λ closing. closing.month) closing)) next.month ≡ None →
     AreSettled (Some plan) closing own lines →
     (plan.first ≤ next.month) × IsSettled own (span_of plan next) (lines ++ placed 1 (closing_lines own count (after plan closing next)))
 close_settles own count past plan None acts there next lines right settled =

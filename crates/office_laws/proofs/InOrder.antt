@@ -30,7 +30,7 @@ module _ (known : Known) (most today : ℕ) (asked : Command) (r : Record) (free
     where
       by_ordered : Ordered known r → first_out_of_order (live_records (own_in known r.household ++ r ∷ [])) ≡ None
       by_ordered (begins none may zero counts) = rw (live_changed, counts, none) (alone_in_order r may)
-      by_ordered (judged none) = rw live_changed (option_map_none _ _ (option_map_none _ _ none))
+      by_ordered (judged none) = rw live_changed (option_map_none _ _ none)
 
   pub in_order_more : IsInOrder (own_in known r.household ++ r ∷ [])
   in_order_more = record {

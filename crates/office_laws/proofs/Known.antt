@@ -1,5 +1,5 @@
 -- What is known once there is one act more.
-use Rattle.office_laws.proofs.Words.{names_given, Book, Batch, Capacity, appended, empty_book, IsAppended, IsReached, reached_empty, reached_more, ◌≡◌, ◌∙◌, sym, ap, refl, subst, ℕ, ◌+◌, arith, List, [], ◌∷◌, ◌++◌, Option, Some, None, length, map, option_to_list, option_map, append-nil, length_push, IfSome, ask_in, Record, with_record, Command, Act, acts_of, plan_of, plan_act, applications_of, name_given, household_count, waiting_of, ranks_of, requests_of, households_of, Known, known_by, known_of, record_of, known_after, waiting_after, requests_after, households_after, plan_given, is_plan, refused_by, Accepted, IsOneOf, NamesOnlyThose, passed, option_or-none, option_map_none, filter_map_more, rents_in, rent_row, limits_in, limit_row, common_steps}
+use Rattle.office_laws.proofs.Words.{names_given, Book, Batch, Capacity, appended, empty_book, IsAppended, IsReached, reached_empty, reached_more, ◌≡◌, ◌∙◌, sym, ap, refl, subst, ℕ, ◌+◌, arith, List, [], ◌∷◌, ◌++◌, Option, Some, None, length, map, option_to_list, option_map, append-nil, length_push, IfSome, ask_in, Record, with_record, Command, Act, acts_of, plan_of, plan_act, applications_of, name_given, household_count, waiting_of, ranks_of, requests_of, households_of, Known, known_by, known_of, record_of, known_after, waiting_after, requests_after, households_after, plan_given, matter_of, refused_by, Accepted, IsOneOf, NamesOnlyThose, passed, option_or-none, option_map_none, filter_map_more, rents_in, rent_row, limits_in, limit_row, common_steps}
 use Rattle.office_laws.specs.After.{KnownAfter}
 use Rattle.office_laws.proofs.{Inversion.accepted, Naming.asked_there, Naming.held_there, Grown.names-more, Grown.count-more, Reached.acts_appended, Reached.books_are_kept}
 use Rattle.office_laws.proofs.Grown.{plan-more, plan_act-more, units-more, applications-more, closing-more}
@@ -12,7 +12,7 @@ unplanned (act ∷ acts) none = grind (arith, common_steps, none, unplanned acts
 
 -- a plan is the first act, and no other act sets the ranks
 waits : (count : ℕ) (acts : List Act) (records : List Record) → NamesOnlyThose acts records → (asked : Command) →
-    plan_given (plan_act acts) (is_plan asked) ≡ None →
+    plan_given (matter_of (known_by count acts records) asked) ≡ None →
     waiting_of (ranks_of (plan_of (acts ++ record { n = count + 1; command = asked } ∷ []))) (acts ++ record { n = count + 1; command = asked } ∷ [])
     ≡ waiting_after (known_by count acts records) asked
 waits count acts records only (Command.Plan plan) free =

@@ -1,17 +1,18 @@
 -- The record of an act names it and a household that is there, or the next; and its lines name it.
-use Rattle.office_laws.proofs.Words.{◌≡◌, ℕ, zero, suc, ◌+◌, ◌<◌, arith, List, [], ◌∷◌, Option, Some, None, length, All, slice_index_or, All-nil, All-append, Record, as_of, Plan, Closing, Line, month_lines, known_before, lines_for, adjustment_lines, closing_lines, placed, Command, Known, own_in, record_of, closing_by, lines_of, option_map_or, made_is_headed, all_earlier, refl, names_given, no_such, or_none, household_there, IsHeaded, of_household, IsOneOf, next_under}
+use Rattle.office_laws.proofs.Words.{◌≡◌, ℕ, zero, suc, ◌+◌, ◌<◌, arith, List, [], ◌∷◌, Option, Some, None, length, All, slice_index_or, All-nil, All-append, Record, as_of, Plan, Closing, Line, month_lines, known_before, lines_for, adjustment_lines, closing_lines, placed, Command, Known, own_in, record_of, closing_by, lines_of, option_map_or, made_is_headed, all_earlier, refl, names_given, no_such, Matter, matter_of, are_there, household_there, IsHeaded, of_household, IsOneOf, next_under}
 use Rattle.list_laws.proofs.Pieces.{all_pieces}
 use Rattle.voucher_core.proofs.Paid.{each_line, all_placed}
 
 pub record_names_act : (known : Known) (asked : Command) (r : Record) → record_of known asked ≡ Some r → r.act ≡ known.count + 1
 record_names_act known asked r is = (next_under known _ r (made_is_headed known asked r is).under).act
 
-pub made_within : (known : Known) (asked : Command) (r : Record) → no_such known asked ≡ None → record_of known asked ≡ Some r →
+pub made_within : (known : Known) (asked : Command) (r : Record) → no_such (matter_of known asked) ≡ None → record_of known asked ≡ Some r →
     IsOneOf (length known.households + length (names_given known asked)) r.household
 made_within known (Command.Household act) r named is =
     let headed : IsHeaded known (Command.Household act) r = made_is_headed known (Command.Household act) r is in
-    let own = of_household known act.household act.change headed.heading headed.is_its in
-    grind (arith, headed.under.is, own, household_there (length known.households) act.household (or_none _ _ named).0)
+    let about : Matter = matter_of known (Command.Household act) in
+    let own = of_household about headed.heading headed.is_its in
+    grind (arith, headed.under.is, own, household_there known act.household (are_there about named).household)
 made_within known asked r named is =
     let headed : IsHeaded known asked r = made_is_headed known asked r is in
     grind (arith, headed.under.is, headed.is_its)

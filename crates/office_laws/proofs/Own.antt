@@ -1,5 +1,5 @@
 -- The records of one household, once a record more is held.
-use Rattle.office_laws.proofs.Words.{◌≡◌, ◌∙◌, sym, refl, subst, cond_both, eqb-true, get_or_default, ℕ, ◌+◌, ◌≤◌, ◌<◌, zero, suc, ◌-◌, arith, List, [], ◌∷◌, ◌++◌, Option, Some, None, length, map, All, ◌==◌, if◌then◌else◌, get_or, append-nil, get_or-set_same, get_or-set_other, length-append, length-map, Record, records_of, with_record, Command, Known, own_in, households_after, names_given, record_of, no_such, nat_tests, common_steps}
+use Rattle.office_laws.proofs.Words.{◌≡◌, ◌∙◌, sym, refl, subst, cond_both, eqb-true, get_or_default, ℕ, ◌+◌, ◌≤◌, ◌<◌, zero, suc, ◌-◌, arith, List, [], ◌∷◌, ◌++◌, Option, Some, None, length, map, All, ◌==◌, if◌then◌else◌, get_or, append-nil, get_or-set_same, get_or-set_other, length-append, length-map, Record, records_of, with_record, Command, Known, own_in, households_after, names_given, record_of, no_such, matter_of, nat_tests, common_steps}
 use Rattle.office_laws.proofs.{Makes.made_within, Makes.record_names_act}
 
 abbrev nobody : List Record
@@ -29,7 +29,7 @@ own_with households r household least most =
     grind (arith, common_steps, nat_tests, get_or-set_same, get_or-set_other, append-nil)
 
 -- what a household has after the act: what it had, and what it gets by the record that the act makes
-pub own_after : (known : Known) (asked : Command) → no_such known asked ≡ None → (household : ℕ) →
+pub own_after : (known : Known) (asked : Command) → no_such (matter_of known asked) ≡ None → (household : ℕ) →
     records_of (households_after known asked (record_of known asked)) household ≡ own_in known household ++ more_of (record_of known asked) household
 own_after known asked named household = by_made (record_of known asked) refl
   where
@@ -51,7 +51,7 @@ later_than known asked act by household = by_made (record_of known asked) (λ r 
     by_made (Some r) last = λ k d within. grind (arith, common_steps, last r refl)
 
 -- what holds of what a household had, and of that with the record that the act makes of it, holds of what it has after the act
-pub owned : (P : List Record → Type 0) (known : Known) (asked : Command) → no_such known asked ≡ None → (household : ℕ) → P (own_in known household) →
+pub owned : (P : List Record → Type 0) (known : Known) (asked : Command) → no_such (matter_of known asked) ≡ None → (household : ℕ) → P (own_in known household) →
     ((r : Record) → record_of known asked ≡ Some r → household ≡ r.household → P (own_in known r.household ++ r ∷ [])) →
     P (records_of (households_after known asked (record_of known asked)) household)
 owned P known asked named household had gets =

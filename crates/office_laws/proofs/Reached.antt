@@ -1,5 +1,5 @@
 -- What holds of every book that an office comes to, by induction on how it comes to it.
-use Rattle.office_laws.proofs.Words.{common_steps, false, List, None, Plan, plan_of, plan_act, no_plan, IsReached, is_plan, ◌≡◌, ◌∙◌, sym, ◌+◌, ◌≤◌, ◌<◌, arith, [], ◌∷◌, ◌++◌, Some, length, option_to_list, All, leb-false, ltb-false, and_parts, length_push, length-append, All-append, Record, Batch, Book, IsBatch, IsBefore, appended, is_fit, Capacity, Act, acts_of, known_of, IsAppended, reached_empty, reached_more, Accepted, Kept, BooksAreKept, BatchesFollow, All-option, AllPairs-option, if_none, AllPairs-append, IfSome-each}
+use Rattle.office_laws.proofs.Words.{common_steps, false, List, None, Plan, plan_of, plan_act, planned_by, refused_if, Refusal, not, is_some, IsReached, is_plan, ◌≡◌, ◌∙◌, sym, ◌+◌, ◌≤◌, ◌<◌, arith, [], ◌∷◌, ◌++◌, Some, length, option_to_list, All, leb-false, ltb-false, and_parts, length_push, length-append, All-append, Record, Batch, Book, IsBatch, IsBefore, appended, is_fit, Capacity, Act, acts_of, known_of, IsAppended, reached_empty, reached_more, Accepted, Kept, BooksAreKept, BatchesFollow, All-option, AllPairs-option, if_none, AllPairs-append, IfSome-each}
 use Rattle.office_laws.proofs.{Inversion.accepted, Inversion.passes, Grown.acts-more, Naming.names_only_more, Rows.acts_more, Makes.record_names_act, Makes.lines_name_act, Makes.lines_have_places}
 
 -- the act of appended rows
@@ -74,10 +74,10 @@ batches_follow capacity book rows reached appends = follows capacity book rows (
 -- ---- the plan
 
 -- there is a plan wherever another act is accepted
-planned : (acts : List Act) → (plan_of acts ≡ None → acts ≡ []) → no_plan (plan_act acts) false ≡ None → (plan : Plan) × (plan_of acts ≡ Some plan)
+planned : (acts : List Act) → (plan_of acts ≡ None → acts ≡ []) → refused_if (not (is_some (plan_act acts))) Refusal.NoPlan ≡ None → (plan : Plan) × (plan_of acts ≡ Some plan)
 planned acts first free = grind (arith, common_steps, first, free)
 
 pub plan_there : (capacity : Capacity) (book : Book) (rows : Batch) → IsReached capacity book → (appends : IsAppended capacity book rows) →
     is_plan appends.call.command ≡ false → (plan : Plan) × ((known_of book).plan ≡ Some plan)
 plan_there capacity book rows reached appends other =
-    planned (acts_of book.acts) (books_are_kept capacity book reached).names.planned (rw other at (passes capacity book rows appends).no_plan)
+    planned (acts_of book.acts) (books_are_kept capacity book reached).names.planned (rw other at (planned_by (known_of book) appends.call.command (passes capacity book rows appends).no_plan))

@@ -43,4 +43,4 @@ rents_are_done_at_closings capacity book rows reached appends close closes =
     subst (λ (found : Option Plan). IfSome found (HasItsRents (known_of book) close.month)) (sym plan.1) (λ household day from to.
     its_rents (known_of book) day (in_force (own_in (known_of book) household) day)
     (in_force_begun (known_of book) (own_in (known_of book) household) day (began_with_rents capacity book reached household))
-    (none_stale (known_of book) close (rw closes at (passes capacity book rows appends).rent_due) household day (rw plan.1 from) to))
+    (none_stale (known_of book) close.month (rw closes at (passes capacity book rows appends).rent_due) household day (rw plan.1 from) to))

@@ -1,5 +1,5 @@
 -- Every record that is neither a move-out, a termination nor a withdrawal began on a day on which its unit had rents.
-use Rattle.office_laws.proofs.Words.{◌≡◌, refl, ℕ, ◌≤◌, arith, Bool, true, false, not, ◌&&◌, List, ◌++◌, Option, Some, None, All, ◌==◌, is_some, option_and_then, option_map, option_or, IsSomeAnd, option_and_then_some, same_Some, All-push, All-weaker, All-contains, Contains-append_left, find-append, IsLatest, latest-is, pairs_order, Kind, Record, is_withdrawal, UnitRow, unit_at, rents_before, rents_begin_by, rents_on, ends_assistance, unit_rents_on, Book, Command, Capacity, Heading, Known, known_of, own_in, record_at, continued, rents_in_unit, withdrawal_heading, Basis, from_facts, carried, nothing, certifies, basis_for, basis_of, made_on, heading_for, heading_of, record_of, no_such, IsReached, under_own, HouseholdChange, option_map_some, common_steps, nat_tests, RentRow}
+use Rattle.office_laws.proofs.Words.{◌≡◌, refl, ℕ, ◌≤◌, arith, Bool, true, false, not, ◌&&◌, List, ◌++◌, Option, Some, None, All, ◌==◌, is_some, option_and_then, option_map, option_or, IsSomeAnd, option_and_then_some, same_Some, All-push, All-weaker, All-contains, Contains-append_left, find-append, IsLatest, latest-is, pairs_order, Kind, Record, is_withdrawal, UnitRow, unit_at, rents_before, rents_begin_by, rents_on, ends_assistance, unit_rents_on, Book, Command, Capacity, Heading, Known, known_of, own_in, record_at, continued, rents_in_unit, withdrawal_heading, Basis, from_facts, carried, nothing, certifies, matter_of, changing, made_on, heading_in, heading_of, record_of, no_such, HouseholdAct, IsReached, under_own, HouseholdChange, option_map_some, common_steps, nat_tests, RentRow}
 use Rattle.office_laws.proofs.{Inversion.passes, Known.next, Known.by_acts, Own.owned}
 
 -- ---- rents that stand once stand on
@@ -56,26 +56,26 @@ abbrev pub BeganWithRents : Known → Record → Type 0
 BeganWithRents known r = is_certifying r.kind ≡ true → has_rents known.units known.rents r.unit r.from ≡ true
 
 -- a record of a kind that certifies something rests on something
-on_basis : (known : Known) (household : ℕ) (done : HouseholdChange) (heading : Heading) → heading_for known household done ≡ Some heading →
-    is_certifying heading.kind ≡ true → certifies (basis_for done) ≡ true
-on_basis known household (HouseholdChange.Correct correct) heading is some = refl
-on_basis known household (HouseholdChange.Withdraw withdraw) heading is some =
-    option_map_some (λ target. withdrawal_heading household target) (record_at (own_in known household) withdraw.target) heading is
+on_basis : (known : Known) (act : HouseholdAct) (done : HouseholdChange) (heading : Heading) → heading_in (changing known act done) ≡ Some heading →
+    is_certifying heading.kind ≡ true → certifies (changing known act done).basis ≡ true
+on_basis known act (HouseholdChange.Correct correct) heading is some = refl
+on_basis known act (HouseholdChange.Withdraw withdraw) heading is some =
+    option_map_some (λ target. withdrawal_heading act.household target) (record_at (own_in known act.household) withdraw.target) heading is
     (λ target found same. rw (← same) at some)
-on_basis known household _ heading is some = rw (← same_Some _ heading is) at some
+on_basis known act _ heading is some = rw (← same_Some _ heading is) at some
 
 basis_there : (known : Known) (asked : Command) (heading : Heading) → heading_of known asked ≡ Some heading → is_certifying heading.kind ≡ true →
-    certifies (basis_of asked) ≡ true
+    certifies (matter_of known asked).basis ≡ true
 basis_there known (Command.Start start) heading is some = refl
 basis_there known (Command.Admit admit) heading is some = refl
-basis_there known (Command.Household act) heading is some = on_basis known act.household act.change heading is some
+basis_there known (Command.Household act) heading is some = on_basis known act act.change heading is some
 basis_there known _ heading is some = absurd (cc)
 
 made_with_rents : (known : Known) (asked : Command) (r : Record) → record_of known asked ≡ Some r → BeganWithRents known r
 made_with_rents known asked r is certifying =
-    option_and_then_some (made_on known (basis_of asked)) (heading_of known asked) r is (λ heading found made.
+    option_and_then_some (made_on known (matter_of known asked).basis) (heading_of known asked) r is (λ heading found made.
     (let own = under_own known asked r is heading found in
-    rw own.is (stood known (basis_of asked) heading r (basis_there known asked heading found (rw own.is at certifying)) made)))
+    rw own.is (stood known (matter_of known asked).basis heading r (basis_there known asked heading found (rw own.is at certifying)) made)))
 
 -- ---- every record
 
@@ -84,7 +84,7 @@ began_later known asked =
     All-weaker (BeganWithRents known) (BeganWithRents (next known asked)) (λ r began certifying.
     rents-later known.units _ known.rents _ r.unit r.from r.from (omega arith) (began certifying))
 
-began_more : (known : Known) (asked : Command) → no_such known asked ≡ None → ((household : ℕ) → All (BeganWithRents known) (own_in known household)) →
+began_more : (known : Known) (asked : Command) → no_such (matter_of known asked) ≡ None → ((household : ℕ) → All (BeganWithRents known) (own_in known household)) →
     (household : ℕ) → All (BeganWithRents (next known asked)) (own_in (next known asked) household)
 began_more known asked named began household =
     owned (All (BeganWithRents (next known asked))) known asked named household (began_later known asked _ (began household)) (λ r is same.

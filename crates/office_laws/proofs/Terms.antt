@@ -1,36 +1,38 @@
 -- What each act had to meet before it was accepted.
-use Rattle.office_laws.proofs.Words.{Bool, Refusal, same_Some, Kind, IfSome-each, le-leb, lt-leb, false_from_ne_true, AllPairs-filter, All-filter, is_live, rise, none_above, get_or, All-contains, Contains-push, Contains-append_left, filter, option_map, common_steps, nat_tests, ◌≡◌, ◌∙◌, sym, ap, refl, subst, ℕ, ◌+◌, ◌<◌, ◌≤◌, ◌==◌, arith, true, false, List, [], ◌∷◌, ◌++◌, Option, Some, None, IfSome, length, All, Contains, nat_le, if◌then◌else◌, option_map_or, ltb-false, eqb-true, Record, is_move_out, live_records, latest, in_force, later, comes_before, newest_number, Batch, Command, HouseholdAct, HouseholdChange, Heading, Known, known_of, own_in, record_at, record_of, of_made, heading_for, correction_heading, made_on, basis_of, from_facts, IsInOrder, Passed, or_none, if_none, IsUnder, IsHeaded, made_is_headed, option_map_some, rents_in_unit, latest-is, pairs_order}
+use Rattle.office_laws.proofs.Words.{Bool, Refusal, same_Some, Kind, IfSome-each, le-leb, lt-leb, false_from_ne_true, AllPairs-filter, All-filter, is_live, rise, none_above, get_or, All-contains, Contains-push, Contains-append_left, filter, option_map, common_steps, nat_tests, ◌≡◌, ◌∙◌, sym, ap, refl, subst, ℕ, ◌+◌, ◌<◌, ◌≤◌, ◌==◌, arith, true, false, List, [], ◌∷◌, ◌++◌, Option, Some, None, IfSome, length, All, Contains, nat_le, if◌then◌else◌, option_map_or, ltb-false, eqb-true, Record, is_move_out, live_records, latest, in_force, later, comes_before, newest_number, Batch, Command, HouseholdAct, HouseholdChange, Heading, Known, known_of, own_in, record_at, record_of, record_in, heading_in, correction_heading, made_on, from_facts, Matter, matter_of, changing, first_of, refused_if, IsInOrder, Passed, if_none, IsUnder, IsHeaded, made_is_headed, option_map_some, rents_in_unit, latest-is, pairs_order}
 use Rattle.std.proofs.lemmas.Option.{option_and_then_some}
 use Rattle.std.proofs.lemmas.List.Elements.{All-contains_itself}
 use Rattle.facts_core.specs.declared.facts.Facts.{Facts}
-use Rattle.payment_rules.specs.Payment.{assistance_of, gross_rent_of}
-use Rattle.office_step.specs.Refusals as test
-use Rattle.office_step.specs.Against.{first_day, day_range_in, told_range}
+use Rattle.payment_rules.specs.Payment.{assistance_of}
+use Rattle.std.specs.Prelude.{nat_lt, option_and_then}
+use Rattle.record_history.specs.declared.records.Dates.{Dates}
+use Rattle.office_step.specs.Against.{told_days, rent_borne}
+use Rattle.office_step.proofs.Days.{InRange, days_in_range, ToldInTurn, told_in_turn}
 use Rattle.book_rows.specs.declared.moves.MoveOutAct.{MoveOutAct}
-use Rattle.office_step.specs.Made.{made_of_facts, made_of_nothing, further_heading}
+use Rattle.office_step.specs.Made.{made_of_facts, made_of_nothing, own_heading}
 use Rattle.tenancy_rules.proofs.OrderLaws.{nothing_follows_move_out}
-use Rattle.office_laws.specs.Terms.{IsTold, Corrects, EndsWith, IsMade, MeetsTerms, ActsMeetTheirTerms}
-use Rattle.office_laws.proofs.{Inversion.accepted, Inversion.passes, InOrder.own_in_order, Dated.in_range, Tried.find_holds, Lived.lived, Lived.lives_more, Unit.latest-more, Unit.has_begun, InOrder.in_order_more}
+use Rattle.office_laws.specs.Terms.{CameInOrder, IsTold, Corrects, EndsWith, IsMade, MeetsTerms, ActsMeetTheirTerms}
+use Rattle.office_laws.proofs.{Inversion.accepted, Inversion.passes, InOrder.own_in_order, Tried.find_holds, Lived.lived, Lived.lives_more, Unit.latest-more, Unit.has_begun, InOrder.in_order_more}
 
 -- ---- what was seen and told
 
-sees_all : (own : List Record) (seen : ℕ) → newest_number own ≡ length own → test.stale (newest_number own) seen ≡ None → test.unseen (newest_number own) seen ≡ None →
+sees_all : (own : List Record) (seen : ℕ) → newest_number own ≡ length own → refused_if (nat_lt seen (newest_number own)) (Refusal.Stale (newest_number own)) ≡ None →
+    refused_if (nat_lt (newest_number own) seen) (Refusal.Unseen (newest_number own)) ≡ None →
     seen ≡ length own
 sees_all own seen newest not_below not_above =
     omega (arith, newest, ltb-false seen (newest_number own) (if_none _ _ not_below), ltb-false (newest_number own) seen (if_none _ _ not_above))
 
-is_told : (known : Known) (today : ℕ) (done : HouseholdChange) → day_range_in known today done ≡ None → IsTold today done
-is_told known today (HouseholdChange.Interim interim) free =
-    let told = or_none (test.day_range first_day today interim.dates.event) _ (or_none (told_range today interim) _ free).0 in
-    let later = or_none (test.day_range interim.dates.event today interim.dates.notice) _ told.1 in
-    record {
-      event = (in_range first_day today interim.dates.event told.0).0;
-      notice = (in_range interim.dates.event today interim.dates.notice later.0).0;
-      done = (in_range interim.dates.notice today interim.dates.done later.1).0;
-      by_today = (in_range interim.dates.notice today interim.dates.done later.1).1;
-    }
-is_told known today (HouseholdChange.Resume resume) free = in_range first_day today resume.done (or_none _ _ free).0
-is_told known today _ free = tt
+came_in_order : (today : ℕ) (dates : Dates) → first_of (told_days today dates) ≡ None → CameInOrder today dates
+came_in_order today dates free =
+    let told : ToldInTurn today dates = told_in_turn today dates free in
+    record { event = told.event; notice = told.notice; done = told.done; by_today = told.by_today }
+
+is_told : (known : Known) (today : ℕ) (act : HouseholdAct) (done : HouseholdChange) → InRange today (changing known act done) → IsTold today done
+is_told known today act (HouseholdChange.Interim interim) free = came_in_order today interim.dates free.told
+is_told known today act (HouseholdChange.Resume resume) free =
+    let told : CameInOrder today (record { event = resume.done; notice = resume.done; done = resume.done }) = came_in_order today _ free.told in
+    (told.event, told.by_today)
+is_told known today act _ free = tt
 
 -- ---- assistance
 
@@ -40,12 +42,12 @@ split_by_facts known heading facts r is =
     option_and_then_some _ known.plan r is (λ plan given of_plan.
     option_map_some _ (rents_in_unit known heading.unit heading.from) r of_plan (λ rents stand same. rw (← same) refl))
 
-has_assistance : (known : Known) (asked : Command) (facts : Facts) (r : Record) → basis_of asked ≡ from_facts facts → record_of known asked ≡ Some r →
-    of_made known asked (λ made. test.no_assistance made.ttp (gross_rent_of made.rents)) ≡ None → 0 < r.assistance
-has_assistance known asked facts r basis is free =
-    option_and_then_some (made_on known (basis_of asked)) _ r is (λ heading found made.
-    (let split = split_by_facts known heading facts r (rw basis at made) in
-    let some : test.no_assistance r.ttp (gross_rent_of r.rents) ≡ None = rw is at free in
+has_assistance : (about : Matter) (facts : Facts) (r : Record) → about.basis ≡ from_facts facts → record_in about ≡ Some r →
+    option_and_then rent_borne (record_in about) ≡ None → 0 < r.assistance
+has_assistance about facts r basis is free =
+    option_and_then_some (made_on about.known about.basis) _ r is (λ heading found made.
+    (let split = split_by_facts about.known heading facts r (rw basis at made) in
+    let some : rent_borne r ≡ None = rw is at free in
     grind (arith, common_steps, nat_tests, split, some)))
 
 -- ---- the record of a correction
@@ -129,7 +131,7 @@ module _ (known : Known) (most today : ℕ) (asked : Command) (r : Record) (free
 -- ---- every act
 
 moved_out : (known : Known) (act : HouseholdAct) (move_out : MoveOutAct) (r : Record) → act.change ≡ HouseholdChange.MoveOut move_out →
-    record_of known (Command.Household act) ≡ Some r → r ≡ made_of_nothing known (further_heading known act.household Kind.MO (move_out.last + 1) None)
+    record_of known (Command.Household act) ≡ Some r → r ≡ made_of_nothing known (own_heading (changing known act (HouseholdChange.MoveOut move_out)) Kind.MO)
 moved_out known act move_out r moves is =
     sym (same_Some _ r (rw moves at is))
 
@@ -140,10 +142,10 @@ is_made : (known : Known) (most today : ℕ) (act : HouseholdAct) (r : Record) �
     ((household : ℕ) → IsInOrder (own_in known household)) → record_of known (Command.Household act) ≡ Some r → (done : HouseholdChange) → act.change ≡ done →
     IsMade (own_in known act.household) done r
 is_made known most today act r free orders is (HouseholdChange.Resume resume) resumes =
-    has_assistance known (Command.Household act) resume.facts r (rw resumes refl) is (where_tested _ _ (rw resumes refl) free.no_assistance)
+    has_assistance (matter_of known (Command.Household act)) resume.facts r (rw resumes refl) is (where_tested _ _ (rw resumes refl) free.no_assistance)
 is_made known most today act r free orders is (HouseholdChange.Correct correct) does =
     let headed : IsHeaded known (Command.Household act) r = made_is_headed known (Command.Household act) r is in
-    corrects_one known act.household correct.target correct.from headed.heading r headed.under (ap (heading_for known act.household) (sym does) ∙ headed.is_its)
+    corrects_one known act.household correct.target correct.from headed.heading r headed.under (ap (λ (done : HouseholdChange). heading_in (changing known act done)) (sym does) ∙ headed.is_its)
 is_made known most today act r free orders is (HouseholdChange.MoveOut move_out) does =
     let its = moved_out known act move_out r does is in
     let own : r.household ≡ act.household = ap (λ (r : Record). r.household) its in
@@ -156,10 +158,10 @@ meets : (known : Known) (most : ℕ) (rows : Batch) (asked : Command) → Passed
     rows.made ≡ record_of known asked → MeetsTerms known rows asked
 meets known most rows (Command.Admit admit) free orders made =
     rw made (IfSome-each (λ r. 0 < r.assistance) (record_of known (Command.Admit admit)) (λ r is.
-    has_assistance known (Command.Admit admit) admit.facts r refl is free.no_assistance))
+    has_assistance (matter_of known (Command.Admit admit)) admit.facts r refl is free.no_assistance))
 meets known most rows (Command.Household act) free orders made = record {
   seen = sees_all (own_in known act.household) act.seen (orders act.household).numbered.newest free.stale free.unseen;
-  told = is_told known rows.act.day act.change free.day_range;
+  told = is_told known rows.act.day act act.change (days_in_range rows.act.day (matter_of known (Command.Household act)) free.day_range);
   its_record = rw made (IfSome-each (IsMade (own_in known act.household) act.change) (record_of known (Command.Household act)) (λ r is.
       is_made known most rows.act.day act r free orders is act.change refl));
 }

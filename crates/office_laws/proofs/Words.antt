@@ -18,15 +18,17 @@ pub use Rattle.list_laws.proofs.FilterMaps.{AllPairs-filter_map, filter_map_none
 pub use Rattle.list_laws.proofs.Filters.{filter_all, filter_none, filter-filter}
 pub use Rattle.list_laws.proofs.Finds.{find_first, find_both, find_none}
 pub use Rattle.list_laws.proofs.Options.{option_map_none, option_map_some, length-option, option_or-none, All-option, AllPairs-option, if_none, All-IfSome, IfSome-each}
-pub use Rattle.office_step.proofs.Headed.{IsHeaded, made_is_headed, of_household, under_own, IsUnder, next_under}
-pub use Rattle.office_step.proofs.Passed.{Passed, passed, test_passed, or_none, household_there, none_at, first_of-around}
+pub use Rattle.office_step.proofs.Headed.{IsHeaded, made_is_headed, of_household, under_own, IsUnder, next_under, changing}
+pub use Rattle.office_step.proofs.Plans.{is_plan, planned_by}
+pub use Rattle.office_step.proofs.Passed.{Passed, passed, test_passed, AreThere, are_there, household_there, none_at, first_of-around}
 pub use Rattle.office_step.specs.Acts.{Act, act_of, acts_of, apply_in, application_by, applications_of, name_given, applicant_of, applicants_of, numbered, takes_off_list, ask_in, waiting_of, request_of, request_by, last_request, last_in, plan_in, plan_of, plan_act, unit_in, unit_row, units_of, rents_in, rent_row, limits_in, limit_row, closing_of, last_closing, first_in, household_count, ranks_of, requests_of, at_number, names_of}
 pub use Rattle.office_step.specs.After.{households_after, known_after, names_given, waiting_after, requests_after}
-pub use Rattle.office_step.specs.Against.{is_plan, no_such, no_such_in, tests_of, refused_by, plan_day, rent_due, move_in_for, of_move_in, out_of_turn, of_made, may_collide_in}
+pub use Rattle.office_step.specs.Against.{no_such, no_plan, plan_given, wrong_month, tests_of, refused_by, plan_day, may_collide, out_of_order, taken, none_such}
 pub use Rattle.office_step.specs.Households.{change_by, own_of, households_of, record_at, continued}
 pub use Rattle.office_step.specs.Known.{Known, known_of, own_in, known_by}
-pub use Rattle.office_step.specs.Made.{record_of, last_close, closing_by, lines_of, heading_of, rents_in_unit, withdrawal_heading, Basis, from_facts, carried, nothing, certifies, basis_for, basis_of, made_on, heading_for, correction_heading, new_heading}
-pub use Rattle.office_step.specs.Refusals.{unit_taken, next_to_close, disorder, first_of, repeated, request_reused, plan_given, no_plan, no_applicant, no_unit, household_rent_due, first_household, is_request_of, not_next}
+pub use Rattle.office_step.specs.Made.{record_of, record_in, last_close, closing_by, lines_of, heading_of, heading_in, rents_in_unit, withdrawal_heading, made_on, correction_heading}
+pub use Rattle.office_step.specs.Matter.{Matter, matter_of, Basis, from_facts, carried, nothing, certifies}
+pub use Rattle.office_step.specs.Refusals.{next_to_close, first_of, repeated, request_reused, refused_if, refused_unless, household_rent_due, first_household, is_request_of}
 pub use Rattle.office_step.specs.Reply.{acts_up_to, made_by, done_of}
 pub use Rattle.office_step.specs.Step.{reached_empty, reached_more, IsReached, IsAppended, last_act_day, day_after, act_day, refusal_of, rows_for, step, appends, unless_refused, unless_repeated, is_fit_call, Outcome, again}
 pub use Rattle.office_step.specs.declared.{call.Call.Call, call.Capacity.Capacity, heading.Heading.Heading, known.Application.Application, known.Closed.Closed, moving.MoveIn.MoveIn, refusal.Refusal.Refusal, reply.Made.Made, reply.Done.Done}

@@ -1,6 +1,6 @@
 ghost use Rattle.std.specs.Prelude.{◌≡◌};
 ghost use Rattle.record_history.specs.Held.{records_of};
-ghost use Rattle.office_step.specs.Refusals.{month_after, next_to_close, wrong_month, household_rent_due};
+ghost use Rattle.office_step.specs.Refusals.{month_after, next_to_close, household_rent_due};
 
 use days_core::{Day, LAST_OFFICE_MONTH, Month};
 use due_dates::rent_due_day;
@@ -26,16 +26,6 @@ fn month_after(month: Month) -> Option<Month>
     } else {
         None
     }
-}
-
-/// Refused where the month isn't the next to close.
-pub fn wrong_month(next: Option<Month>, month: Month) -> Option<Refusal>
-    ensures { result ≡ wrong_month next month }
-{
-    if next == Some(month) {
-        return None;
-    }
-    Some(Refusal::WrongMonth { next })
 }
 
 /// Refused where the household's record in force, neither a move-out nor a termination, has other rents than its unit on

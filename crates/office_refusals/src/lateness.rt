@@ -1,10 +1,10 @@
-ghost use Rattle.std.specs.Prelude.{◌≡◌, ◌≤◌, ◌+◌};
+ghost use Rattle.std.specs.Prelude.{◌≡◌, ◌≤◌, ◌+◌, length};
 ghost use Rattle.std.specs.Option.{option_or};
 ghost use Rattle.days_core.specs.OfficeDays.{last_office_month};
 ghost use Rattle.days_core.specs.Calendar.{last_of};
 ghost use Rattle.record_history.specs.Held.{records_of};
 ghost use Rattle.tenancy_rules.specs.Order.{earliest};
-ghost use Rattle.office_step.specs.Refusals.{others_of, base_before, overdue_day, is_unpaid, household_overdue, overdue};
+ghost use Rattle.office_step.specs.Refusals.{others_of, base_before, overdue_day, is_unpaid, household_overdue, first_household};
 
 use crate::live::{base, opening};
 use crate::rightful::anniversary;
@@ -18,7 +18,7 @@ use voucher_core::certified_amount;
 /// such household, and the anniversary on which it should have been certified.
 pub fn overdue(history: &History, month: Month) -> Option<Refusal>
     requires { month ≤ last_office_month }
-    ensures { result ≡ overdue history.now.households month }
+    ensures { result ≡ first_household (λ household. household_overdue (records_of history.now.households household) month household) (length history.now.households) }
 {
     let mut late = None;
     for place in 0..history.households() {

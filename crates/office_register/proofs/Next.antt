@@ -1,8 +1,8 @@
 -- That the record of an accepted act is the next of its household.
-use Rattle.office_register.proofs.Words.{◌≡◌, ◌∙◌, sym, refl, ℕ, ◌≤◌, ◌<◌, List, Option, Some, None, Bool, true, false, arith, length, is_some, Record, UnitRow, RentRow, StartAct, AdmitAct, Command, Known, HouseholdAct, no_applicant, no_unit, no_rent, no_plan, or_none, household_there, IsAccepted, IsNext, common_steps}
+use Rattle.office_register.proofs.Words.{◌≡◌, ◌∙◌, sym, refl, ℕ, ◌≤◌, ◌<◌, List, Option, Some, None, Bool, true, arith, length, is_some, Record, UnitRow, RentRow, StartAct, AdmitAct, Command, Known, HouseholdAct, household_there, are_there, IsAccepted, IsNext, common_steps, not, option_and_then, test_passed, unit_at, rents_on}
 use Rattle.facts_core.specs.declared.facts.Facts.{Facts}
 use Rattle.due_dates.specs.Stale.{unit_rents_on}
-use Rattle.office_step.specs.{declared.heading.Heading.Heading, Known.own_in, Against.no_household, Against.no_such_in}
+use Rattle.office_step.specs.{declared.heading.Heading.Heading, Known.own_in, Matter.Matter, Matter.matter_of, Against.no_rent_on, Refusals.refused_if, Refusals.refused_unless, declared.refusal.Named.Named, declared.refusal.Refusal.Refusal}
 use Rattle.office_step.specs.Made.{record_of, rents_in_unit, made_of_facts, heading_of}
 use Rattle.office_step.proofs.{Earlier.under_it, Earlier.names_earlier, Headed.IsHeaded, Headed.IsUnder, Headed.made_is_headed, Headed.IsNextUnder, Headed.next_under, Headed.of_household, Headed.under_own}
 use Rattle.record_history.specs.Held.{AreNumbered}
@@ -27,13 +27,12 @@ module _ (known : Known) (act : HouseholdAct) (made : Option Record) (r : Record
   under = next_under known headed.heading r headed.under
 
   household_is : r.household ≡ act.household
-  household_is = under.household ∙ of_household known act.household act.change headed.heading headed.is_its
+  household_is = under.household ∙ of_household (matter_of known (Command.Household act)) headed.heading headed.is_its
 
   -- it is of a household that there is
   pub accepted_there : (1 ≤ r.household) × (r.household ≤ length known.households)
   accepted_there =
-      let named : no_household known act.household ≡ None = (or_none (no_household known act.household) (no_such_in known act.household act.change) (passes accepted).no_such).0 in
-      let there = household_there (length known.households) act.household named in
+      let there = household_there known act.household (are_there (matter_of known (Command.Household act)) (passes accepted).no_such).household in
       (omega (arith, household_is, there.0), omega (arith, household_is, there.1))
 
   pub accepted_further : AreNumbered (own_in known act.household) → IsFurther known r
@@ -58,26 +57,36 @@ accepted_new known asked heading made r own corrects_none accepted is =
     let none : r.corrects ≡ 0 = (under_it known heading heading r own_heading refl).1 ∙ corrects_none in
     record { household_is = under.household; next = next_of under (omega (arith, none, under.number)) }
 
-rents_there : (units : List UnitRow) (rents : List RentRow) (unit day : ℕ) → no_unit units unit ≡ None → no_rent units rents unit day ≡ None →
+rents_there : (units : List UnitRow) (rents : List RentRow) (unit day : ℕ) → (found : Option UnitRow) → unit_at units unit ≡ found → is_some found ≡ true →
+    option_and_then (λ (row : UnitRow). refused_unless (is_some (rents_on rents row.group day)) (Refusal.NoRent row.group day)) found ≡ None →
     is_some (unit_rents_on units rents unit day) ≡ true
-rents_there units rents unit day there none = grind (arith, common_steps, there, none)
+rents_there units rents unit day None is there none = absurd (cc)
+rents_there units rents unit day (Some row) is there none = rw is (test_passed (is_some (rents_on rents row.group day)) _ none)
 
 facts_there : (known : Known) (heading : Heading) (facts : Facts) → is_some known.plan ≡ true → is_some (rents_in_unit known heading.unit heading.from) ≡ true →
     is_some (made_of_facts known heading facts) ≡ true
 facts_there known heading facts planned rents = grind (arith, common_steps, planned, rents)
 
-plan_there : (act : Option ℕ) (there : Bool) → is_some act ≡ there → no_plan act false ≡ None → there ≡ true
+plan_there : (act : Option ℕ) (there : Bool) → is_some act ≡ there → refused_if (not (is_some act)) Refusal.NoPlan ≡ None → there ≡ true
 plan_there act there same none = grind (arith, common_steps, same, none)
 
-pub start_makes : (known : Known) (start : StartAct) (made : Option Record) → is_some known.plan_act ≡ is_some known.plan → IsAccepted known (Command.Start start) made →
-    is_some (record_of known (Command.Start start)) ≡ true
-start_makes known start made same accepted =
-    facts_there known _ start.facts (plan_there known.plan_act (is_some known.plan) same (passes accepted).no_plan)
-    (rents_there known.units known.rents start.unit start.from (passes accepted).no_such (passes accepted).no_rent)
+module _ (known : Known) (same : is_some known.plan_act ≡ is_some known.plan) where
+  new_makes : (facts : Facts) (heading : Heading) → refused_if (not (is_some known.plan_act)) Refusal.NoPlan ≡ None →
+      refused_unless (is_some (unit_at known.units heading.unit)) (Refusal.NoSuch Named.Unit heading.unit) ≡ None → no_rent_on known heading ≡ None →
+      is_some (made_of_facts known heading facts) ≡ true
+  new_makes facts heading planned there rents =
+      facts_there known heading facts (plan_there known.plan_act (is_some known.plan) same planned)
+      (rents_there known.units known.rents heading.unit heading.from (unit_at known.units heading.unit) refl
+      (test_passed (is_some (unit_at known.units heading.unit)) _ there) rents)
 
-pub admission_makes : (known : Known) (admit : AdmitAct) (made : Option Record) → is_some known.plan_act ≡ is_some known.plan → IsAccepted known (Command.Admit admit) made →
-    is_some (record_of known (Command.Admit admit)) ≡ true
-admission_makes known admit made same accepted =
-    facts_there known _ admit.facts (plan_there known.plan_act (is_some known.plan) same (passes accepted).no_plan)
-    (rents_there known.units known.rents admit.unit admit.from
-    (or_none (no_applicant known.waiting admit.applicant) (no_unit known.units admit.unit) (passes accepted).no_such).1 (passes accepted).no_rent)
+  pub start_makes : (start : StartAct) (made : Option Record) → IsAccepted known (Command.Start start) made →
+      is_some (record_of known (Command.Start start)) ≡ true
+  start_makes start made accepted =
+      let about : Matter = matter_of known (Command.Start start) in
+      new_makes start.facts _ (passes accepted).no_plan (are_there about (passes accepted).no_such).unit (passes accepted).no_rent
+
+  pub admission_makes : (admit : AdmitAct) (made : Option Record) → IsAccepted known (Command.Admit admit) made →
+      is_some (record_of known (Command.Admit admit)) ≡ true
+  admission_makes admit made accepted =
+      let about : Matter = matter_of known (Command.Admit admit) in
+      new_makes admit.facts _ (passes accepted).no_plan (are_there about (passes accepted).no_such).unit (passes accepted).no_rent

@@ -1,5 +1,5 @@
 -- What a closing found of stale rents holds on until a plan, a unit or rents are given.
-use Rattle.office_register.proofs.Words.{◌≡◌, ◌∙◌, refl, subst, ap, ℕ, ◌+◌, ◌-◌, ◌≤◌, ◌<◌, List, [], ◌∷◌, ◌++◌, Option, Some, None, arith, get_or, max, IfSome, IfSome_then, set_past, nat_tests, common_steps, Record, records_of, with_record, RentRow, Known, Command, with_household, with_further}
+use Rattle.office_register.proofs.Words.{◌≡◌, ◌∙◌, refl, subst, ap, ℕ, ◌+◌, ◌-◌, ◌≤◌, ◌<◌, List, [], ◌∷◌, ◌++◌, Option, Some, None, arith, get_or, max, IfSome, IfSome_then, set_past, nat_tests, common_steps, Record, records_of, with_record, RentRow, Known, with_household, with_further}
 use Rattle.std.proofs.lemmas.List.{get_or-set_same, get_or-set_other, Sums.fold-append}
 use Rattle.std.specs.Prelude.{zero, suc}
 use Rattle.days_core.specs.Calendar.{last_of}
@@ -7,7 +7,7 @@ use Rattle.record_history.specs.Records.{newest_act}
 use Rattle.due_dates.specs.{Stale.is_rent_stale_on}
 use Rattle.due_dates.proofs.{LeastLemmas.least_that-from, StaleLemmas.stale_behind}
 use Rattle.book_rows.specs.declared.closings.CloseAct.{CloseAct}
-use Rattle.office_step.specs.{Known.own_in, Against.plan_day, Against.rent_due}
+use Rattle.office_step.specs.{Known.own_in, Against.plan_day, Against.rents_due}
 use Rattle.office_step.proofs.NoneStale.{none_stale}
 use Rattle.office_register.specs.Registered.{IsReviewed, EndsBefore, rent_due_from}
 use Rattle.office_register.specs.declared.register.Reviewed.{Reviewed}
@@ -83,13 +83,13 @@ module _ (known : Known) (reviewed : Option Reviewed) (is : IfSome reviewed (IsR
       }
 
 -- the closing that was accepted finds no stale rents before the day
-pub reviewed_now : (known : Known) (close : CloseAct) (next : ℕ) → rent_due known (Command.Close close) ≡ None → plan_day known ≤ next →
+pub reviewed_now : (known : Known) (close : CloseAct) (next : ℕ) → rents_due known close.month ≡ None → plan_day known ≤ next →
     ((day : ℕ) → day < next → plan_day known ≤ day → day ≤ last_of close.month) →
     IsReviewed (record known { count = known.count + 1; closing = Some (record { month = close.month; act = known.count + 1 }) }) (record { act = known.count + 1; next = next })
 reviewed_now known close next none from behind = record {
   act = omega arith;
   first = from;
-  none_stale = λ household old day first before. none_stale known close none household day first (behind day before first);
+  none_stale = λ household old day first before. none_stale known close.month none household day first (behind day before first);
 }
 
 -- what is looked for from the plan's first day on is found from the day to which a review has come

@@ -1,13 +1,14 @@
 -- The record of an act stands under the act's heading.
-use Rattle.std.proofs.Common.{◌≡◌, ◌∙◌, sym, ap, refl, subst, ℕ, ◌+◌, Bool, false, Some}
+use Rattle.std.proofs.Common.{◌≡◌, ◌∙◌, sym, ap, refl, subst, ℕ, ◌+◌, Bool, true, false, Option, Some, None, if◌then◌else◌}
 use Rattle.std.proofs.lemmas.Option.{option_and_then_some, same_Some}
 use Rattle.list_laws.proofs.Options.{option_map_some}
 use Rattle.record_history.specs.{declared.records.Record.Record, Records.newest_number}
 use Rattle.rent_table.specs.Table.{limits_on}
 use Rattle.certified_figures.specs.{Figures.figures_of, Figures.carried_figures, Figures.no_figures, declared.figures.Figures.Figures}
-use Rattle.book_rows.specs.declared.{command.Command.Command, household.HouseholdChange.HouseholdChange}
+use Rattle.book_rows.specs.declared.{command.Command.Command, household.HouseholdAct.HouseholdAct, household.HouseholdChange.HouseholdChange}
 use Rattle.office_step.specs.{declared.heading.Heading.Heading, Known.Known, Known.own_in, Households.record_at, Households.continued}
-use Rattle.office_step.specs.Made.{rents_in_unit, made_with, told_extremely_low, Basis, from_facts, carried, nothing, made_on, basis_of, heading_for, heading_of, correction_heading, withdrawal_heading, record_of}
+use Rattle.office_step.specs.Matter.{Matter, Basis, from_facts, carried, nothing, certifies, matter_of, household_of, own, begins_on}
+use Rattle.office_step.specs.Made.{rents_in_unit, made_with, told_extremely_low, made_on, heading_in, heading_with, heading_of, own_heading, heading_over, correction_heading, withdrawal_heading, record_of}
 
 -- the record under the heading, with some figures
 pub record IsUnder (known : Known) (heading : Heading) (r : Record) : Type 0 where
@@ -38,8 +39,9 @@ under known nothing heading r is = record { extremely = false; figures = no_figu
 
 pub made_is_headed : (known : Known) (asked : Command) (r : Record) → record_of known asked ≡ Some r → IsHeaded known asked r
 made_is_headed known asked r is =
-    option_and_then_some (made_on known (basis_of asked)) (heading_of known asked) r is (λ heading found made.
-    record { heading = heading; is_its = found; under = under known (basis_of asked) heading r made })
+    let about : Matter = matter_of known asked in
+    option_and_then_some (made_on known about.basis) (heading_in about) r is (λ heading found made.
+    record { heading = heading; is_its = found; under = under known about.basis heading r made })
 
 -- the record under its act's own heading
 pub under_own : (known : Known) (asked : Command) (r : Record) → record_of known asked ≡ Some r → (own : Heading) → heading_of known asked ≡ Some own →
@@ -60,13 +62,21 @@ next_under known heading r under =
 
 -- ---- households
 
--- a change of a household makes a record of that household
-pub of_household : (known : Known) (household : ℕ) (done : HouseholdChange) (heading : Heading) → heading_for known household done ≡ Some heading →
-    heading.household ≡ household
-of_household known household (HouseholdChange.Correct correct) heading is =
-    option_map_some (λ target. correction_heading household target correct.from) (record_at (own_in known household) correct.target) heading is
-    (λ target found same. sym (ap (λ (h : Heading). h.household) same))
-of_household known household (HouseholdChange.Withdraw withdraw) heading is =
-    option_map_some (λ target. withdrawal_heading household target) (record_at (own_in known household) withdraw.target) heading is
-    (λ target found same. sym (ap (λ (h : Heading). h.household) same))
-of_household known household _ heading is = cc
+-- what an act would be about with that change
+abbrev pub changing : Known → HouseholdAct → HouseholdChange → Matter
+changing known act done = matter_of known (Command.Household (record { household = act.household; seen = act.seen; change = done }))
+
+household_over : (about : Matter) (target : Record) (rests : Bool) →
+    (if rests then correction_heading (household_of about) target (begins_on about) else withdrawal_heading (household_of about) target).household ≡ household_of about
+household_over about target true = refl
+household_over about target false = refl
+
+-- a record is of the household that its command is about
+pub of_household : (about : Matter) (heading : Heading) → heading_in about ≡ Some heading → heading.household ≡ household_of about
+of_household about heading is = by_target about.target is
+  where
+    by_target : (target : Option ℕ) → heading_with about target ≡ Some heading → heading.household ≡ household_of about
+    by_target None is = option_map_some (own_heading about) about.kind heading is (λ kind found same. sym (ap (λ (h : Heading). h.household) same))
+    by_target (Some number) is =
+        option_map_some (heading_over about) (record_at (own about) number) heading is (λ target found same.
+        ap (λ (h : Heading). h.household) (sym same) ∙ household_over about target (certifies about.basis))

@@ -1,4 +1,6 @@
 pub mod Passed
+pub mod Days
+pub mod Plans
 pub mod Earlier
 pub mod Headed
 pub mod NoneStale

@@ -8,8 +8,7 @@ use Rattle.record_history.specs.{declared.records.Record.Record, Records.in_forc
 use Rattle.record_history.proofs.Kept.{records_cases}
 use Rattle.due_dates.specs.{Least.IsLeast, Stale.is_rent_stale_on, Stale.rent_due_day_of}
 use Rattle.due_dates.proofs.LeastLemmas.{least_that-says}
-use Rattle.book_rows.specs.declared.{closings.CloseAct.CloseAct, command.Command.Command}
-use Rattle.office_step.specs.{declared.refusal.Refusal.Refusal, Known.Known, Known.own_in, Refusals.household_rent_due, Refusals.first_household, Against.plan_day, Against.rent_due}
+use Rattle.office_step.specs.{declared.refusal.Refusal.Refusal, Known.Known, Known.own_in, Refusals.household_rent_due, Refusals.first_household, Against.plan_day, Against.rents_due}
 use Rattle.office_step.proofs.Passed.{none_at}
 
 -- where nothing stands against the households, nothing does against one of them
@@ -35,12 +34,12 @@ none_due known first last household =
     by_day (Some day) least none = absurd (not_due _ _ (in_force (own_in known household) day) least.this none)
 
 -- so no record in force is certified by other rents than its unit has
-pub none_stale : (known : Known) (close : CloseAct) → rent_due known (Command.Close close) ≡ None →
-    (household day : ℕ) → plan_day known ≤ day → day ≤ last_day_of close.month →
+pub none_stale : (known : Known) (month : ℕ) → rents_due known month ≡ None →
+    (household day : ℕ) → plan_day known ≤ day → day ≤ last_day_of month →
     is_rent_stale_on (own_in known household) known.units known.rents day ≡ false
-none_stale known close none household day from to = elim (records_cases known.households household) [
+none_stale known month none household day from to = elim (records_cases known.households household) [
   | inl empty ↦ rw empty refl
-  | inr there ↦ none_due known (plan_day known) (last_day_of close.month) household
-      (none_of_household (λ household. household_rent_due (own_in known household) known.units known.rents (plan_day known) (last_day_of close.month) household)
+  | inr there ↦ none_due known (plan_day known) (last_day_of month) household
+      (none_of_household (λ household. household_rent_due (own_in known household) known.units known.rents (plan_day known) (last_day_of month) household)
       (length known.households) household none there.0 there.1) day from to
 ]

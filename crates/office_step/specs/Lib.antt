@@ -3,6 +3,7 @@ pub mod Households
 pub mod Known
 pub mod After
 pub mod Candidates
+pub mod Matter
 pub mod Made
 pub mod Refusals
 pub mod Numbers

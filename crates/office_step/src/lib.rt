@@ -10,6 +10,7 @@ mod known;
 mod moving;
 mod refusal;
 mod reply;
+mod rightful;
 
 pub use call::{Call, Capacity};
 pub use fault::Fault;
@@ -18,3 +19,4 @@ pub use known::{Application, Closed, Mover, Request};
 pub use moving::MoveIn;
 pub use refusal::{Named, Refusal};
 pub use reply::{Done, Made};
+pub use rightful::Rightful;

@@ -1,11 +1,12 @@
 -- Admissions and transfers take the next candidate.
-use Rattle.office_laws.proofs.Words.{nat_tests, common_steps, arith, Refusal, ◌≡◌, refl, ℕ, false, Option, Some, None, is_some, if◌then◌else◌, Plan, unit_at, Command, Known, known_of, no_unit, not_next, HouseholdChange, MoveIn, Passed, or_none, is_plan, no_such_in, move_in_for, of_move_in, out_of_turn, Candidate}
+use Rattle.office_laws.proofs.Words.{nat_tests, common_steps, arith, Refusal, ◌≡◌, refl, ℕ, false, Option, Some, None, is_some, if◌then◌else◌, Plan, unit_at, Command, Known, known_of, HouseholdChange, MoveIn, Passed, is_plan, none_such, are_there, matter_of, changing, option_and_then, Candidate}
 use Rattle.std.proofs.Common.{subst}
 use Rattle.rent_table.specs.Table.{limits_on}
 use Rattle.wait_list.specs.{Next.Asked, Next.next_candidate, RightfulNext.IsRightAnswer}
 use Rattle.wait_list.proofs.PlainNext.{next_is_plain}
 use Rattle.office_step.specs.Candidates.{asked_of, targets_of}
-use Rattle.office_step.specs.Refusals as test
+use Rattle.office_step.specs.declared.refusal.Named.{Named}
+use Rattle.office_step.specs.Against.{moving_on, next_for, other_next, not_next}
 use Rattle.office_laws.specs.Taken.{TakesNextBy, IsNextFor, TakesNext}
 use Rattle.office_laws.proofs.{Inversion.passes, Reached.plan_there}
 use Rattle.office_laws.proofs.laws.next_is_taken.Goals as goal
@@ -15,12 +16,14 @@ some_there : {X : Type 0} (found : Option X) (why : Refusal) → (if is_some fou
 some_there (Some x) why none = (x, refl)
 some_there None why none = absurd (cc)
 
-is_the_next : (next : Option Candidate) (asked : Candidate) → not_next next asked ≡ None → next ≡ Some asked
+is_the_next : (next : Option Candidate) (asked : Candidate) → other_next next asked ≡ None → next ≡ Some asked
 is_the_next next asked none = grind (arith, common_steps, nat_tests, none)
 
-next_for : (known : Known) (mover : MoveIn) → (plan : Plan) × (known.plan ≡ Some plan) → test.no_unit known.units mover.unit ≡ None →
-    of_move_in known (Some mover) (out_of_turn known) ≡ None → IsNextFor known mover.unit mover.from mover.candidate
-next_for known mover (plan, is_plan) there none =
+-- who moves is next
+is_taken : (known : Known) (mover : MoveIn) → (plan : Plan) × (known.plan ≡ Some plan) → none_such Named.Unit (λ unit. is_some (unit_at known.units unit)) (Some mover.unit) ≡ None →
+    option_and_then (λ move. other_next (next_for known move) move.candidate) (option_and_then (moving_on known mover) known.plan) ≡ None →
+    IsNextFor known mover.unit mover.from mover.candidate
+is_taken known mover (plan, is_plan) there none =
     let unit = some_there (unit_at known.units mover.unit) _ there in
     let asked : Asked = asked_of plan unit.0 mover.from (limits_on known.limits mover.from) known.requests known.households in
     let next : next_candidate asked known.waiting ≡ Some mover.candidate = is_the_next _ mover.candidate (rw (is_plan, unit.1) at none) in
@@ -37,12 +40,12 @@ next_for known mover (plan, is_plan) there none =
 takes_next : (known : Known) (most today : ℕ) (asked : Command) → (is_plan asked ≡ false → (plan : Plan) × (known.plan ≡ Some plan)) →
     Passed known most today asked → TakesNext known asked
 takes_next known most today (Command.Admit admit) plan free =
-    next_for known _ (plan refl) (or_none _ _ free.no_such).1 free.not_next
-takes_next known most today (Command.Household act) plan free = by_change act.change (or_none _ _ free.no_such).1 free.not_next
+    is_taken known _ (plan refl) (are_there (matter_of known (Command.Admit admit)) free.no_such).unit free.not_next
+takes_next known most today (Command.Household act) plan free = by_change act.change (are_there (matter_of known (Command.Household act)) free.no_such).unit free.not_next
   where
-    by_change : (done : HouseholdChange) → no_such_in known act.household done ≡ None → of_move_in known (move_in_for act.household done) (out_of_turn known) ≡ None →
-        TakesNextBy known act.household done
-    by_change (HouseholdChange.Transfer transfer) named none = next_for known _ (plan refl) named none
+    by_change : (done : HouseholdChange) → none_such Named.Unit (λ unit. is_some (unit_at known.units unit)) (changing known act done).unit ≡ None →
+        not_next (changing known act done) ≡ None → TakesNextBy known act.household done
+    by_change (HouseholdChange.Transfer transfer) named none = is_taken known _ (plan refl) named none
     by_change _ named none = tt
 takes_next known most today _ plan free = tt
 

@@ -1,6 +1,7 @@
 -- Each test of the one order refuses under the number of its place, so the first that stands has the least number.
-use Rattle.office_laws.proofs.Words.{Book, Capacity, Call, known_of, ◌≡◌, ap, ℕ, zero, suc, ◌+◌, ◌≤◌, arith, Bool, true, false, List, [], ◌∷◌, ◌++◌, Option, Some, None, slice_index_or, map, option_and_then, if◌then◌else◌, option_map, option_or, Command, HouseholdChange, Refusal, Known, first_of, tests_of, IfSome-each}
-use Rattle.office_step.specs.{Numbers.number_of, Step.all_tests}
+use Rattle.office_laws.proofs.Words.{Book, Capacity, Call, known_of, Matter, matter_of, Basis, from_facts, ◌≡◌, ap, refl, ℕ, zero, suc, ◌+◌, ◌≤◌, arith, Bool, true, false, List, [], ◌∷◌, ◌++◌, Option, Some, None, slice_index_or, map, option_and_then, if◌then◌else◌, option_map, Refusal, first_of, IfSome-each}
+use Rattle.facts_core.specs.Rules.{broken_rule}
+use Rattle.office_step.specs.{declared.rightful.Rightful.Rightful, Numbers.number_of, Against.rule_broken, Against.wrong, Against.tests_on, Step.all_tests}
 use Rattle.office_laws.specs.InTurn.{IsLeast}
 use Rattle.office_laws.proofs.laws.refusals_stand_in_order.Goals as goal
 
@@ -24,18 +25,14 @@ module _ {number : ℕ} where
   then_by refused None is = passes
   then_by refused (Some a) is = is a
 
-  either : (first other : Option Refusal) → IsUnder number first → IsUnder number other → IsUnder number (option_or first other)
-  either None other is more = more
-  either (Some why) other is more = is
+  in_turn : (first : Option Refusal) (rest : List (Option Refusal)) → IsUnder number first → IsUnder number (first_of rest) →
+      IsUnder number (first_of (first ∷ rest))
+  in_turn None rest is more = more
+  in_turn (Some why) rest is more = is
 
   one_of : (refused : ℕ → Option Refusal) (numbers : List ℕ) → ((n : ℕ) → IsUnder number (refused n)) → IsUnder number (first_of (map refused numbers))
   one_of refused [] each = passes
-  one_of refused (n ∷ numbers) each = by_first (refused n) (each n) (one_of refused numbers each)
-    where
-      by_first : (first : Option Refusal) → IsUnder number first → IsUnder number (first_of (map refused numbers)) →
-          IsUnder number (first_of (first ∷ map refused numbers))
-      by_first None is more = more
-      by_first (Some why) is more = is
+  one_of refused (n ∷ numbers) each = in_turn (refused n) (map refused numbers) (each n) (one_of refused numbers each)
 
 -- from that number on, each is under its own
 data AllUnder : ℕ → List (Option Refusal) → Type 0 where
@@ -43,18 +40,21 @@ data AllUnder : ℕ → List (Option Refusal) → Type 0 where
   one_more : {number : ℕ} {refused : Option Refusal} {rest : List (Option Refusal)} → IsUnder number refused → AllUnder (number + 1) rest →
       AllUnder number (refused ∷ rest)
 
-ruleset each_test = (no_more, one_more, passes, refuses, either_way, mapped, then_by, either, one_of)
+ruleset each_test = (no_more, one_more, passes, refuses, either_way, mapped, then_by, in_turn, one_of)
 
--- all the tests, by the kind of the command and of the change
-module _ (known : Known) (most today : ℕ) (first last : Option Refusal) (is_first : IsUnder 1 first) (is_last : IsUnder 24 last) where
-  all_under : (asked : Command) → AllUnder 1 (first ∷ (tests_of known most today asked ++ last ∷ []))
-  all_under (Command.Household act) = by_change act.change
-    where
-      by_change : (done : HouseholdChange) →
-          AllUnder 1 (first ∷ (tests_of known most today (Command.Household (record { household = act.household; seen = act.seen; change = done })) ++ last ∷ []))
-      by_change (HouseholdChange.Annual annual) = search each_test depth 40 fits 4000
-      by_change _ = search each_test depth 40 fits 4000
-  all_under _ = search each_test depth 40 fits 4000
+-- the two tests that ask of which kind something is
+on_facts : (basis : Basis) (from : ℕ) → IsUnder 8 (rule_broken basis from)
+on_facts (from_facts facts) from = mapped (λ rule. Refusal.FactsRule rule) (broken_rule facts from) (λ rule. refl)
+on_facts _ from = passes
+
+on_day : (right : Rightful) (from : ℕ) → IsUnder 13 (wrong right from)
+on_day Rightful.Any from = passes
+on_day (Rightful.Only right) from = search each_test
+
+-- all the tests
+all_under : (most today : ℕ) (about : Matter) (first last : Option Refusal) → IsUnder 1 first → IsUnder 24 last →
+    AllUnder 1 (first ∷ (tests_on most today about ++ last ∷ []))
+all_under most today about first last is_first is_last = search (each_test, on_facts, on_day) depth 40 fits 4000
 
 -- ---- the least that stands
 
@@ -83,7 +83,7 @@ least_at (one_more (refuses is_own) under) why is = record {
 
 every_test : (book : Book) (capacity : Capacity) (today : ℕ) (call : Call) → AllUnder 1 (all_tests book capacity today call)
 every_test book capacity today call =
-    all_under (known_of book) capacity.acts today _ _ (search each_test) (search each_test) call.command
+    all_under capacity.acts today (matter_of (known_of book) call.command) _ _ (search each_test) (search each_test)
 
 pub returns-clause-numbered : goal.returns-clause-numbered
 returns-clause-numbered c book capacity today call place =

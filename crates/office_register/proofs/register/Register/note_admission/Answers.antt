@@ -6,7 +6,7 @@ use Rattle.office_register.proofs.register.Register.note_admission.Goals as goal
 pub record_in-requires : goal.record_in-requires
 record_in-requires c =
     rw c.requires.accepted.is_made
-    (admission_makes c.args.self.now.known c.args.admit c.args.made (rw (← c.self.view_is) c.self.invariant.sound.plan_act) c.requires.accepted)
+    (admission_makes c.args.self.now.known (rw (← c.self.view_is) c.self.invariant.sound.plan_act) c.args.admit c.args.made c.requires.accepted)
 
 pub add_household-requires-clause-household : goal.add_household-requires-clause-household
 add_household-requires-clause-household c =

@@ -1,5 +1,8 @@
-use Rattle.office_register.proofs.{Lists.unchanged, Next.accepted_further}
+use Rattle.office_register.proofs.{Lists.unchanged, Standing.few, Next.accepted_further}
 use Rattle.office_register.proofs.register.Register.note_further.Goals as goal
+
+pub hold-requires-clause-few : goal.hold-requires-clause-few
+hold-requires-clause-few c = few c.requires.accepted
 
 pub hold-requires-clause-household : goal.hold-requires-clause-household
 hold-requires-clause-household c =

@@ -5,7 +5,7 @@ use Rattle.office_register.proofs.register.Register.note_start.Goals as goal
 pub record_in-requires : goal.record_in-requires
 record_in-requires c =
     rw c.requires.accepted.is_made
-    (start_makes c.args.self.now.known c.args.start c.args.made (rw (← c.self.view_is) c.self.invariant.sound.plan_act) c.requires.accepted)
+    (start_makes c.args.self.now.known (rw (← c.self.view_is) c.self.invariant.sound.plan_act) c.args.start c.args.made c.requires.accepted)
 
 pub add_household-requires-clause-few : goal.add_household-requires-clause-few
 add_household-requires-clause-few c = few c.requires.accepted

@@ -4,7 +4,7 @@ use Rattle.list_laws.proofs.Finds.{found_holds}
 use Rattle.record_history.specs.{declared.records.Record.Record, Held.IsWithin}
 use Rattle.office_register.specs.Registered.{HasDates}
 use Rattle.office_acts.proofs.Bounds.{dates-of}
-use Rattle.office_acts.proofs.lookups.target_in.Goals as goal
+use Rattle.office_acts.proofs.lookups.held_in.Goals as goal
 
 pub returns-clause-within : goal.returns-clause-within
 returns-clause-within c =

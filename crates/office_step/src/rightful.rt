@@ -1,0 +1,9 @@
+use days_core::Day;
+
+/// On which days a record may begin.
+#[derive(Clone, Copy, Debug, PartialEq, Eq)]
+pub enum Rightful {
+    Any,
+    /// On this one alone, if there is one.
+    Only(Option<Day>),
+}
