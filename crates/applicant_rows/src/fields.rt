@@ -1,3 +1,5 @@
+//! The seven fields of a record.
+
 ghost use Rattle.std.specs.Prelude.{◌≡◌, ◌==◌, ◌<◌, false, length, Some, IfSome, IfNone};
 ghost use Rattle.csv.specs.Records.{field_at, fields_of};
 ghost use Rattle.applicant_rows.specs.Fields.{listed};

@@ -1,3 +1,5 @@
+//! All applicants of a text.
+
 ghost use Rattle.std.specs.Prelude.{◌≡◌, ◌≤◌, true, None, Some, IfOk, IfErr, All, map};
 ghost use Rattle.csv.specs.Records.{fields_of};
 ghost use Rattle.applicant_rows.specs.Applicants.{applicants_in, row_from, header, is_fit_row};

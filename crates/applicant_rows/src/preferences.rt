@@ -1,3 +1,5 @@
+//! The field of preferences.
+
 ghost use Rattle.std.specs.Prelude.{◌≡◌, ◌==◌, IfOk, map, option_map};
 ghost use Rattle.std.specs.List.{slice_split};
 ghost use Rattle.applicant_rows.specs.Applicants.{preferences_from, numbers_from, is_separator};

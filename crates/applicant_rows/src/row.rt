@@ -1,3 +1,5 @@
+//! One record below the header.
+
 ghost use Rattle.std.specs.Prelude.{◌≡◌, IfOk};
 ghost use Rattle.applicant_rows.specs.Applicants.{accessible_from, row_from};
 ghost use Rattle.applicant_rows.specs.Fields.{listed};

@@ -1,3 +1,5 @@
+//! The answer of `assess`.
+
 ghost use Rattle.std.specs.Prelude.{◌≡◌, ◌≤◌, None, IfOk};
 ghost use Rattle.facts_core.specs.Rules.{broken_rule};
 ghost use Rattle.assess_command.specs.Assess.{answer_to, assessed, figures, line, household_annual, household_adjusted, household_payment};

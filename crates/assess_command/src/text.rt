@@ -1,3 +1,5 @@
+//! From bytes to bytes.
+
 ghost use Rattle.std.specs.Prelude.{◌≡◌, IfOk};
 ghost use Rattle.serde_json.specs.View.{view};
 ghost use Rattle.assess_command.specs.Assess.{figures, bad_facts, line};

@@ -1,3 +1,5 @@
+//! Days and months.
+
 use days_core::{
     Day, age_on, day_of_text, days_in, first_of, last_of, month_of, month_of_text, plus_days,
     plus_months, text_of_day, text_of_month, years_before,

@@ -1,3 +1,5 @@
+//! Forms of JSON.
+
 use days_core::{Day, Month};
 use json_form::{
     ArrayOf, Form, FormFault, Formed, Members, Within, number_field, object, only, optional_field,

@@ -1,3 +1,5 @@
+//! The index.
+
 use row_index::RowIndex;
 
 const PLACES: [(u64, Option<usize>); 8] = [

@@ -1,3 +1,5 @@
+//! Lines of a source.
+
 ghost use Rattle.std.specs.Prelude.{◌<◌};
 
 use line_input::{LineReader, Next};

@@ -1,3 +1,5 @@
+//! Payments.
+
 use days_core::Rents;
 use payment_rules::{Payment, payment, rent_split};
 

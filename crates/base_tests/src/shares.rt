@@ -1,3 +1,5 @@
+//! Shares.
+
 use share_rules::{share, share_run};
 
 // Each share is what the days up to its day take, rounded half up, less what those before it take.

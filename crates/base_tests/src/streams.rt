@@ -1,3 +1,5 @@
+//! Sources and sinks.
+
 ghost use Rattle.std.specs.Prelude.{◌≤◌, ◌<◌, IfOk};
 
 use days_core::Day;

@@ -1,3 +1,5 @@
+//! Texts and lists.
+
 use plain_data::{Listed, SharedText, Text};
 use std::alloc::Global;
 use std::process::Abort;

@@ -1,3 +1,5 @@
+//! How a batch may end.
+
 use plain_data::NoMemory;
 
 /// How a batch ended.

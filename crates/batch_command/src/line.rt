@@ -1,3 +1,5 @@
+//! One line is answered.
+
 ghost use Rattle.std.specs.Prelude.{◌≡◌, ◌++◌, ℕ, true, IfOk};
 ghost use Rattle.book_rows.specs.Book.{Book};
 ghost use Rattle.clerk_desk.specs.Below.office_step.Step.{step, is_fit_call};

@@ -1,3 +1,5 @@
+//! The file of a book is opened at a path.
+
 ghost use Rattle.std.specs.Prelude.{◌≡◌, ◌⊎◌, true, IfOk, IfErr, Err};
 ghost use Rattle.book_file.specs.Opening.{HoldsFewPages, cannot_open, names_no_file, no_memory};
 

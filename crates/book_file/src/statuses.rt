@@ -1,3 +1,5 @@
+//! The exit status where a file isn't opened.
+
 ghost use Rattle.std.specs.Prelude.{◌≡◌};
 ghost use Rattle.book_file.specs.Opening.{error_of, status_of};
 

@@ -1,3 +1,5 @@
+//! The call that a row of a book came by.
+
 ghost use Rattle.std.specs.Prelude.{◌≡◌, true, IfOk, IfSome};
 ghost use Rattle.book_rows.specs.Fit.{is_fit};
 ghost use Rattle.office_step.specs.Step.{is_fit_call};

@@ -1,3 +1,5 @@
+//! Tables that are given, and where an act done again differs from them.
+
 ghost use Rattle.std.specs.Prelude.{◌≡◌, map, length, option_to_list};
 ghost use Rattle.std.specs.Option.{option_copied};
 ghost use Rattle.std.specs.Cmp.Lexicographic.{pointwise};

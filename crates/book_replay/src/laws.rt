@@ -1,3 +1,5 @@
+//! That doing acts again tells exactly which tables are an office's.
+
 ghost use Rattle.book_replay.specs.Replay.{ReplayBegins, ReplayGoesOn, ReplayStops, ReplayEnds, ReplayedIsGiven, ValidIsReached, ReachedIsValid};
 
 use office_laws::{appended_is_accepted, batches_follow, books_are_kept};

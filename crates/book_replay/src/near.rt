@@ -1,3 +1,5 @@
+//! Where the rows of an act have to stand, if tables are in order.
+
 ghost use Rattle.std.specs.Prelude.{◌≡◌, true};
 ghost use Rattle.book_search.specs.Order.{LinesNeverFall};
 ghost use Rattle.office_step.specs.Valid.{records_by, lines_by};

@@ -1,3 +1,5 @@
+//! Rows that no act made.
+
 ghost use Rattle.std.specs.Prelude.{◌≡◌, ◌&&◌, nat_le, map};
 ghost use Rattle.office_step.specs.Valid.{stray};
 

@@ -1,3 +1,5 @@
+//! The rows of one act, found by halves in rows that are in order.
+
 ghost use Rattle.std.specs.Prelude.{◌≡◌, ◌≤◌, true, false, nat_le, nat_lt, length, filter};
 ghost use Rattle.std.specs.List.Sorted.{IsPartitionPoint};
 ghost use Rattle.office_step.specs.Valid.{records_by};

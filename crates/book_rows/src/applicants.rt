@@ -1,3 +1,5 @@
+//! Acts on the waiting list.
+
 use plain_data::{Listed, Text};
 
 /// Puts an applicant on the waiting list.

@@ -1,3 +1,5 @@
+//! Acts that certify.
+
 use days_core::Day;
 use facts_core::Facts;
 use plain_data::Text;

@@ -1,3 +1,5 @@
+//! The act that closes a month.
+
 use days_core::Month;
 
 /// Closes a month.

@@ -1,3 +1,5 @@
+//! Commands.
+
 use crate::applicants::{ApplyAct, RemoveAct};
 use crate::certifications::{AdmitAct, StartAct};
 use crate::closings::CloseAct;

@@ -1,3 +1,5 @@
+//! Acts on a household that there is.
+
 use crate::certifications::{AnnualAct, CorrectAct, GrossAct, InterimAct, ResumeAct};
 use crate::moves::{MoveOutAct, TerminateAct, TransferAct, WithdrawAct};
 

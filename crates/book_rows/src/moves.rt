@@ -1,3 +1,5 @@
+//! Acts by which a household moves, or leaves.
+
 use days_core::Day;
 
 /// Says whether a household wants another unit.

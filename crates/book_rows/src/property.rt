@@ -1,3 +1,5 @@
+//! Acts on the property.
+
 use days_core::{Day, Rents};
 use plain_data::Text;
 

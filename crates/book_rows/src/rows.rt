@@ -1,3 +1,5 @@
+//! Rows of acts, and batches.
+
 use days_core::Day;
 use plain_data::{Listed, NoMemory, SharedText};
 use record_history::{Dates, Record};

@@ -1,3 +1,5 @@
+//! Whether rows are the same.
+
 ghost use Rattle.std.specs.Prelude.{◌≡◌, true};
 ghost use Rattle.book_rows.specs.Same as row;
 

@@ -1,3 +1,5 @@
+//! The tables of a book.
+
 ghost use Rattle.std.specs.Prelude.{◌≡◌, ◌≤◌, ◌+◌, ◌-◌, ◌++◌, length, option_to_list, vec_len, vec_capacity, OnOk, IsOk};
 ghost use Rattle.book_rows.specs.Book.{book_of, empty_book, appended, room_of, HasRoom, IsNoLess};
 

@@ -1,3 +1,5 @@
+//! Acts by their request.
+
 ghost use Rattle.std.specs.Prelude.{◌≡◌, ◌==◌, ◌&&◌, not, bytes_eq, find, slice_get};
 ghost use Rattle.std.specs.Option.{option_copied};
 ghost use Rattle.row_index.specs.Index.{index_of, request_key};

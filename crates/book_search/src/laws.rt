@@ -1,3 +1,5 @@
+//! Laws of what is found.
+
 ghost use Rattle.book_search.specs.Order.{BookStaysInOrder};
 ghost use Rattle.book_search.specs.Requests.{RequestsStayOwn};
 

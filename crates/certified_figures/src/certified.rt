@@ -1,3 +1,5 @@
+//! What a record certifies, from facts or carried over.
+
 ghost use Rattle.std.specs.Prelude.{◌≡◌, ◌≤◌, None, not, count_by};
 ghost use Rattle.facts_core.specs.Rules.{broken_rule, is_aide};
 ghost use Rattle.payment_rules.specs.Payment.{assistance_of};

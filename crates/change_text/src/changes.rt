@@ -1,3 +1,5 @@
+//! Changes of a household in JSON.
+
 ghost use Rattle.std.specs.Prelude.{◌≡◌, true, map, IfOk};
 ghost use Rattle.serde_json.specs.View.{view, members_view};
 ghost use Rattle.json_form.specs.{Gives.Gives, Written.names_of};

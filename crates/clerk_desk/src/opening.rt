@@ -1,3 +1,5 @@
+//! An office is opened on the book that a keeper keeps.
+
 ghost use Rattle.std.specs.Prelude.{◌≡◌, ◌≤◌, None, IfOk, IfErr};
 ghost use Rattle.keeper_core.specs.Keeping.{Keeps, Gives, LoadCause};
 ghost use Rattle.office_core.specs.Below.office_step.Valid.{first_fault};

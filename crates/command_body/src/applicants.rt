@@ -1,3 +1,5 @@
+//! Acts on applicants and admissions, as members.
+
 ghost use Rattle.std.specs.Prelude.{◌≡◌, IfOk};
 ghost use Rattle.serde_json.specs.View.{members_view};
 ghost use Rattle.command_forms.specs.Applicants.{apply_members, remove_members, start_members, admit_members};

@@ -1,3 +1,5 @@
+//! The text of a command.
+
 ghost use Rattle.std.specs.Prelude.{◌≡◌, true, Some, IfOk};
 ghost use Rattle.book_rows.specs.Fit.{is_fit};
 ghost use Rattle.command_forms.specs.Commands.{body_of, command_in};

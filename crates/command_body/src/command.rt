@@ -1,3 +1,5 @@
+//! A command as a value.
+
 ghost use Rattle.std.specs.Prelude.{◌≡◌, IfOk};
 ghost use Rattle.serde_json.specs.View.{view, members_view};
 ghost use Rattle.command_forms.specs.Kinds.{word_of};

@@ -1,3 +1,5 @@
+//! Acts on the property, as members.
+
 ghost use Rattle.std.specs.Prelude.{◌≡◌, IfOk};
 ghost use Rattle.serde_json.specs.View.{members_view};
 ghost use Rattle.command_forms.specs.Fields.{bound_data};

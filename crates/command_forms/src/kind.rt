@@ -1,3 +1,5 @@
+//! Kinds of commands and changes, by their words.
+
 ghost use Rattle.json_form.specs.Form.{one_of};
 ghost use Rattle.command_forms.specs.Kinds.{kinds};
 

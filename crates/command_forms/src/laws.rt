@@ -1,3 +1,5 @@
+//! The law that a command's text is read again as that command.
+
 ghost use Rattle.std.specs.Prelude.{◌≡◌, true, Some};
 ghost use Rattle.book_rows.specs.declared.command.Command.{Command};
 ghost use Rattle.book_rows.specs.Fit.{is_fit};

@@ -1,3 +1,5 @@
+//! Each refusal, by what the book and the clerk say.
+
 use days_core::{Day, Month};
 use office_refusals::{
     act_day, annual_right, corrected_right, household_rent_due, interim_right, lines_full,

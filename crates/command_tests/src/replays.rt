@@ -1,3 +1,5 @@
+//! Acts done again over tables in which something is wrong.
+
 use book_replay::{Given, call_of};
 use book_rows::{Batch, Table, Tables};
 use days_core::Rents;

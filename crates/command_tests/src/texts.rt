@@ -1,3 +1,5 @@
+//! Commands' texts, written and read again.
+
 use book_rows::Command;
 use command_text::{BodyFault, body_of_command, command_of_body, command_of_value};
 use json_form::{FormFault, value_of_bytes};

@@ -1,3 +1,5 @@
+//! A command, read of its text.
+
 ghost use Rattle.std.specs.Prelude.{◌≡◌, ◌≢◌, true, Some, None, IfOk};
 ghost use Rattle.serde_json.specs.View.{view};
 ghost use Rattle.book_rows.specs.Fit.{is_fit};

@@ -1,3 +1,5 @@
+//! The words in front that name a book.
+
 ghost use Rattle.std.specs.Prelude.{◌≡◌, map, option_map, string_bytes};
 ghost use Rattle.command_words.specs.Words.{book_in, words_after_book};
 

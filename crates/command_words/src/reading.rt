@@ -1,3 +1,5 @@
+//! The words of each command but `serve`.
+
 ghost use Rattle.std.specs.Prelude.{◌≡◌, IfOk, map, string_bytes};
 ghost use Rattle.std.specs.List.{list_any};
 ghost use Rattle.clap.specs.Words.{subcommand_rows_of};

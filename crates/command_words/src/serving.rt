@@ -1,3 +1,5 @@
+//! The words of `serve`.
+
 ghost use Rattle.std.specs.Prelude.{◌≡◌, map, string_bytes};
 ghost use Rattle.command_words.specs.Words.{serve_in, serving};
 

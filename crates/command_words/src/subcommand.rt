@@ -1,3 +1,5 @@
+//! What words ask.
+
 use days_core::{Day, Month};
 
 /// What the program is asked to do.

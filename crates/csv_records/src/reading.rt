@@ -1,3 +1,5 @@
+//! Records, read of a text.
+
 ghost use Rattle.std.specs.Prelude.{◌≡◌, true, None, Some, IfOk, IfErr, map};
 ghost use Rattle.csv.specs.Reading.{error_kind, stops_reader};
 ghost use Rattle.csv.specs.Records.{fields_of};

@@ -1,3 +1,5 @@
+//! Records, written as a text.
+
 ghost use Rattle.std.specs.Prelude.{◌≡◌, ◌++◌, [], IfOk, OnOk, map};
 ghost use Rattle.csv_records.specs.Records.{record_text};
 ghost use Rattle.csv_records.specs.Between.{IsBetween, text_of};

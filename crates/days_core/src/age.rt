@@ -1,3 +1,5 @@
+//! Ages in whole years.
+
 ghost use Rattle.std.specs.Prelude.{◌≡◌, ◌≤◌};
 ghost use Rattle.days_core.specs.Calendar.{age_on, month_in_year, day_in_month, is_earlier_in_year};
 

@@ -1,3 +1,5 @@
+//! A day, held as its number.
+
 use jiff_core::civil::Date;
 use std::marker::Model;
 

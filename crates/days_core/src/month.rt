@@ -1,3 +1,5 @@
+//! A month, held as its number.
+
 use std::marker::Model;
 
 /// A month from 1880-01 to 2199-12.

@@ -1,3 +1,5 @@
+//! The days of a month, and the month of a day.
+
 ghost use Rattle.std.specs.Prelude.{◌≡◌};
 ghost use Rattle.days_core.specs.Calendar.{days_in, first_of, last_of, month_of, moved};
 

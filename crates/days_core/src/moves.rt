@@ -1,3 +1,5 @@
+//! Days before and after a day.
+
 ghost use Rattle.std.specs.Prelude.{◌≡◌};
 ghost use Rattle.days_core.specs.Calendar.{moved, years_before};
 

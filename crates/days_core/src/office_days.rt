@@ -1,3 +1,5 @@
+//! The days and months that an office knows.
+
 ghost use Rattle.std.specs.Prelude.{◌≡◌, ◌+◌, ◌-◌, ◌*◌};
 ghost use Rattle.days_core.specs.Calendar.{day_number};
 ghost use Rattle.days_core.specs.OfficeDays.{first_office_month, last_office_day, last_office_month};

@@ -1,3 +1,5 @@
+//! The rents of a unit.
+
 /// What a unit costs a month, in whole dollars.
 #[derive(Clone, Copy, Debug, PartialEq, Eq, Hash)]
 pub struct Rents {

@@ -1,3 +1,5 @@
+//! Rounding.
+
 ghost use Rattle.std.specs.Prelude.{◌≡◌, ◌+◌, ◌*◌, ◌^◌, ◌<◌};
 ghost use Rattle.days_core.specs.Rounding.{round_half_up};
 

@@ -1,3 +1,5 @@
+//! Days and months, read of their texts.
+
 ghost use Rattle.std.specs.Prelude.{◌≡◌, ◌≢◌, ℕ, ◌<◌, ◌≤◌, Some, IfOk, OnErr, IfSome};
 ghost use Rattle.std.specs.Result.{result_ok};
 ghost use Rattle.days_core.specs.DayText.{day_text, day_from, day_named, month_text, month_from, month_named, two_digits_from, digit_from};

@@ -1,3 +1,5 @@
+//! Days and months, written as texts.
+
 ghost use Rattle.std.specs.Prelude.{◌≡◌, ◌<◌, IfOk};
 ghost use Rattle.days_core.specs.DayText.{day_text, month_text, two_digits};
 

@@ -1,3 +1,5 @@
+//! Adjusted income.
+
 ghost use Rattle.std.specs.Prelude.{◌≡◌, ◌*◌};
 ghost use Rattle.facts_core.specs.Rules.{broken_rule};
 ghost use Rattle.deduction_rules.specs.Deductions.{dependents_of, elderly_deduction_of, child_care_of, medical_deduction_of, allowances_of};

@@ -1,3 +1,5 @@
+//! Whose earnings an expense makes possible.
+
 ghost use Rattle.std.specs.Prelude.{◌≡◌, ◌<◌, ◌≤◌, false, length, if◌then◌else◌, slice_get};
 ghost use Rattle.std.specs.Option.{option_map_or};
 ghost use Rattle.facts_core.specs.Rules.{broken_rule};

@@ -1,3 +1,5 @@
+//! Deductions for disability assistance and medical expenses.
+
 ghost use Rattle.std.specs.Prelude.{◌≡◌, ◌+◌, ◌^◌, ◌<◌};
 ghost use Rattle.facts_core.specs.Rules.{broken_rule};
 ghost use Rattle.deduction_rules.specs.Deductions.{three_percent_of, medical_beyond, disability_deduction_of};

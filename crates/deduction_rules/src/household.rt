@@ -1,3 +1,5 @@
+//! What a household is, as the deductions ask for it.
+
 ghost use Rattle.std.specs.Prelude.{◌≡◌, ◌*◌, ◌≤◌, All, count_by, length};
 ghost use Rattle.std.specs.List.{list_any};
 ghost use Rattle.deduction_rules.specs.Deductions.{is_other, is_dependent, is_elderly_or_disabled, is_young_child};

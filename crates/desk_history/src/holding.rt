@@ -1,3 +1,5 @@
+//! The steps of a pass while it is held: it comes in, appends or looks, and goes back.
+
 ghost use Rattle.std.specs.Prelude.{◌≡◌, ◌≤◌, ◌<◌, ◌^◌, [], ◌∷◌, length};
 ghost use Rattle.desk_history.specs.declared.views.View.TheVariants.{Free, Holding, Home};
 ghost use Rattle.desk_history.specs.Seen.{book_of, holding_of, pass_in};

@@ -1,3 +1,5 @@
+//! What follows of the rule of a history.
+
 ghost use Rattle.desk_history.specs.Laws.{EntriesAreOfTheNumber, HeldBooksGrow, OneBeginsTheOther, OthersStay, PassesGoOn, NotesAreLearned, NewNumbersHaveNoEntries};
 
 /// The entries of a number are exactly the rows of that session, in their order. So are its tries, of what was tried. It does

@@ -8,7 +8,6 @@ mod merging;
 mod noting;
 mod opening;
 mod rule;
-mod turns;
 mod views;
 
 pub use holding::{append, come_in, go_back, look, write_try};
@@ -20,5 +19,4 @@ pub use merging::merge;
 pub use noting::{finish, learn, write_note};
 pub use opening::{NewHistory, hand_out, new_history, open_book};
 pub use rule::{HistoryBadge, HistorySeat, HistoryTable, OneHistory, SharedHistory};
-pub use turns::{book_in_turn, book_row};
 pub use views::{BookView, HoldingView, NoteView, Opening, PassView, Start, View};

@@ -1,3 +1,5 @@
+//! Two notes of one history joined.
+
 ghost use Rattle.std.specs.Prelude.{◌≡◌, [], ◌∷◌};
 ghost use mathlib.Core.List.{IsPrefix};
 ghost use Rattle.desk_history.specs.declared.views.View.TheVariants.{Noted, Merging};

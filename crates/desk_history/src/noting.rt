@@ -1,3 +1,5 @@
+//! Notes: a pass writes one, and another learns it.
+
 ghost use Rattle.std.specs.Prelude.{◌≡◌, ◌≤◌, [], ◌∷◌};
 ghost use mathlib.Core.List.{IsPrefix};
 ghost use Rattle.desk_history.specs.declared.views.View.TheVariants.{Free, Home, Learning, Noted};

@@ -1,3 +1,5 @@
+//! A history is made and opened, and hands out its passes.
+
 ghost use Rattle.std.specs.Prelude.{◌≡◌, [], ◌∷◌, IfOk};
 ghost use Rattle.book_rows.specs.Book.{book_of as rows_of};
 ghost use Rattle.desk_history.specs.declared.views.View.TheVariants.{Blank, Free, Home};

@@ -1,3 +1,5 @@
+//! The table of a history, and the rule that holds between any two steps on it.
+
 use crate::views::View;
 use atomic_table::{Badge, Play, Seat, Shared, Table, TableRule};
 use std::alloc::Global;

@@ -1,3 +1,5 @@
+//! What contracts see of a history: of its book, its passes and its notes.
+
 use book_rows::{ActRow, Batch};
 use days_core::Day;
 use plain_data::Text;

@@ -1,3 +1,5 @@
+//! Passes in turn, and all of them.
+
 ghost use Rattle.std.specs.Prelude.{◌≡◌, ◌↔◌, []};
 ghost use Rattle.book_rows.specs.Book.{Book, empty_book, book_of};
 ghost use Rattle.desk_history.specs.declared.views.View.TheVariants.{Blank};

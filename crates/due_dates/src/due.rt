@@ -1,3 +1,5 @@
+//! Certifications whose first day is fixed.
+
 use days_core::Day;
 use record_history::Dates;
 

@@ -1,3 +1,5 @@
+//! When a household is overdue.
+
 ghost use Rattle.std.specs.Prelude.{◌≡◌};
 ghost use Rattle.due_dates.specs.Overdue.{is_overdue};
 

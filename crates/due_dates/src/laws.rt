@@ -1,3 +1,5 @@
+//! The rules of days, each as a law in plain facts.
+
 ghost use Rattle.std.specs.Prelude.{◌≡◌, ◌↔◌, ℕ, ◌+◌, ◌<◌, ◌≤◌, true, false, List};
 ghost use Rattle.days_core.specs.{Calendar.month_of, Calendar.month_in_year, OfficeDays.last_office_day};
 ghost use Rattle.record_history.specs.declared.records.Dates.{Dates};

@@ -1,3 +1,5 @@
+//! The least day on which rents are stale, without a look at each day.
+
 ghost use Rattle.std.specs.Prelude.{◌≡◌, ◌≤◌, None, map, nat_lt, length, true, false};
 ghost use Rattle.std.specs.List.Sorted.{IsPartitionPoint};
 ghost use Rattle.record_history.specs.{Held.records_of, Ordered.StandInOrder};

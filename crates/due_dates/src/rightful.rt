@@ -1,3 +1,5 @@
+//! Rightful days.
+
 ghost use Rattle.std.specs.Prelude.{◌≡◌, ◌+◌, ◌≤◌};
 ghost use Rattle.days_core.specs.{Calendar.first_of, OfficeDays.last_office_day};
 ghost use Rattle.due_dates.specs.Rightful.{IsInRange, rightful_day_of, interim_day, is_in_time, next_month, first_start_from, next_anniversary};

@@ -1,3 +1,5 @@
+//! Whether rents are stale on a day.
+
 ghost use Rattle.std.specs.Prelude.{◌≡◌};
 ghost use Rattle.record_history.specs.Held.{records_of};
 ghost use Rattle.due_dates.specs.Stale.{ends_assistance, unit_rents_on, has_stale_rents, is_rent_stale_on};

@@ -1,3 +1,5 @@
+//! The facts of a household as a whole.
+
 ghost use Rattle.serde_json.specs.View.{view};
 ghost use Rattle.json_form.specs.Gives.{Gives};
 ghost use Rattle.facts_core.specs.Facts.{facts_fields_at, facts_at, facts_data};

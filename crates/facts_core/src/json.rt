@@ -1,3 +1,5 @@
+//! Facts as values, and back.
+
 ghost use Rattle.std.specs.Prelude.{◌≡◌, Ok, IfOk, false};
 ghost use Rattle.serde_json.specs.View.{view};
 ghost use Rattle.serde_json.specs.Written.{has_float};

@@ -1,3 +1,5 @@
+//! Members.
+
 ghost use Rattle.std.specs.Prelude.{◌≡◌};
 ghost use Rattle.serde_json.specs.Data.{string};
 ghost use Rattle.json_form.specs.Form.{one_of};

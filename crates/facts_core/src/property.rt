@@ -1,3 +1,5 @@
+//! Assets, and what was given away.
+
 ghost use Rattle.facts_core.specs.Facts.{asset_at, asset_data, disposal_at, disposal_data};
 
 use days_core::Day;

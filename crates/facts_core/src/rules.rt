@@ -1,3 +1,5 @@
+//! The seven rules that facts keep on a day.
+
 ghost use Rattle.std.specs.Prelude.{◌≡◌, ◌&&◌, not, count_by, nat_lt, nat_le};
 ghost use Rattle.std.specs.List.{list_all};
 ghost use Rattle.facts_core.specs.Rules.{is_head, is_amount};

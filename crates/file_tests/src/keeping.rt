@@ -1,3 +1,5 @@
+//! The keeper of a file: what it loads, keeps and takes note of.
+
 ghost use Rattle.std.specs.Prelude.{◌≡◌, true, IsTrue};
 ghost use Rattle.std.specs.Str.{is_utf8};
 

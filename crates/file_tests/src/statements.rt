@@ -1,7 +1,6 @@
-use book_asking::{AskFault, AskedRows, ask_tables};
-use book_ranges::narrowed;
+//! The statements on a book's file.
+
 use book_rows::{ActRow, Batch, Tables};
-use book_statements::{make_tables, write_batch};
 use days_core::{Day, Month, Rents, day_of_text, month_of_text};
 use keeper_core::Loaded;
 use plain_data::{Listed, SharedText};
@@ -9,6 +8,9 @@ use record_history::{Dates, Kind, Record};
 use sqlite::{Connection, MemStore};
 use std::alloc::Global;
 use std::process::Abort;
+use store_decode::narrowed;
+use store_read::{AskFault, AskedRows, ask_tables};
+use store_write::{make_tables, write_batch};
 use voucher_core::Line;
 
 pub(crate) fn file(rt: &impl Abort, alloc: Global) -> Connection<MemStore> {

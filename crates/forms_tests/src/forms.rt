@@ -1,3 +1,5 @@
+//! The printed form.
+
 use crate::offices::{let_go, office_after};
 use batch_command::office_core::Office;
 use days_core::{Day, Month, day_of_text, month_of_text};

@@ -1,8 +1,10 @@
+//! The made office.
+
 use crate::offices::{let_go, office_after};
 use batch_command::office_core::Capacity;
-use made_office::made_lines;
-use office_trial::trial;
+use generator::made_lines;
 use plain_data::{NoMemory, Text};
+use simulation::trial;
 use std::alloc::Global;
 use std::process::Abort;
 use std::test::Fail;

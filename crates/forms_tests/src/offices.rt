@@ -1,3 +1,5 @@
+//! Offices that forms are printed of.
+
 use batch_command::clerk_desk::open_office;
 use batch_command::office_core::{Capacity, Office};
 use batch_command::{Ending, answer_lines};

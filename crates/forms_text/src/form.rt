@@ -1,3 +1,5 @@
+//! The form as a whole.
+
 ghost use Rattle.std.specs.Prelude.{◌≡◌, ◌++◌, IfOk, OnOk};
 ghost use Rattle.office_core.specs.Below.office_step.Known.{known_of};
 ghost use Rattle.forms_text.specs.Form.{form_text, heading};

@@ -1,3 +1,5 @@
+//! The answer to `voucher`, with or without a form.
+
 ghost use Rattle.std.specs.Prelude.{◌≡◌, IfOk};
 ghost use Rattle.forms_text.specs.Form.{not_closed, voucher_text};
 

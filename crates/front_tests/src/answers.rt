@@ -1,9 +1,10 @@
+//! The texts of answers.
+
 use days_core::Rents;
-use office_answers::{Admissions, Answer, Asked, DueDay, HouseholdSummary, Voucher};
-use office_step::Refusal;
+use office_answers::{Admissions, Answer, DueDay, HouseholdSummary, Voucher};
 use plain_data::{Listed, Text};
 use record_history::{Dates, Kind, Record};
-use reply_text::{text_of_answer, text_of_asked};
+use reply_text::text_of_answer;
 use sample_office::{day, month, written};
 use std::alloc::Global;
 use std::test::Fail;
@@ -182,21 +183,5 @@ fn tells_the_admissions_of_a_year(rt: HostRuntime) -> Result<(), Fail> {
     let wanted =
         "{'admitted':5,'expected':10,'extremely_low':3,'first_day':'2024-01-01','open':true}";
     assert!(rt; answers(alloc, Answer::Targets(targets), wanted)?);
-    Ok(())
-}
-
-#[test]
-fn tells_why_there_is_no_answer(rt: HostRuntime) -> Result<(), Fail> {
-    let alloc = rt.alloc();
-    for (asked, wanted) in [
-        (
-            Asked::Refused(Refusal::NoPlan),
-            "{'refused':{'kind':'NoPlan','number':2}}",
-        ),
-        (Asked::NoMemory, "{'refused':{'kind':'NoMemory'}}"),
-    ] {
-        let text = text_of_asked(alloc, &asked)?;
-        assert_eq!(rt; text.as_bytes(), written(alloc, wanted)?.as_bytes());
-    }
     Ok(())
 }

@@ -1,3 +1,5 @@
+//! Lines and bodies, read.
+
 use command_text::body_of_command;
 use days_core::Day;
 use json_form::FormFault;

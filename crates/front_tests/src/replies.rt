@@ -1,3 +1,5 @@
+//! The texts of replies and refusals.
+
 use days_core::Day;
 use office_answers::Reply;
 use office_step::{Done, Made, Named, Refusal};

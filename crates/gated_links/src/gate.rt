@@ -1,3 +1,5 @@
+//! A gate, at which one waits until another opens it.
+
 use std::sync::atomic::{AtomicU64, Ordering};
 use std::thread;
 use std::time::{Clock, Duration};

@@ -1,3 +1,5 @@
+//! Links with a gate.
+
 ghost use Rattle.std.specs.Prelude.{◌≡◌, Some, IfOk};
 ghost use Rattle.office_links.specs.Links.{standing_by};
 ghost use Rattle.office_links.specs.Memory.{IsUnused};

@@ -1,3 +1,5 @@
+//! A sink that opens a gate.
+
 use crate::Gate;
 use office_io::{MemorySink, Put, Sink};
 use std::marker::Model;

@@ -1,3 +1,5 @@
+//! A source that waits at one.
+
 use crate::Gate;
 use office_io::{Got, MemorySource, Source};
 use std::marker::Model;

@@ -1,3 +1,5 @@
+//! Where messages lead, and what is said of questions.
+
 ghost use Rattle.std.specs.Prelude.{◌≡◌, true, false, IfOk, Result};
 ghost use Rattle.clerk_desk.specs.Below.office_answers.Answered.{Answers};
 ghost use Rattle.clerk_desk.specs.Below.office_answers.declared.answer.Answer.{Answer};

@@ -1,3 +1,5 @@
+//! The law over two sessions of one history.
+
 ghost use Rattle.http_front.specs.Together.{SessionsShareAHistory};
 
 use office_io::Clock;

@@ -1,3 +1,5 @@
+//! A message is answered by a desk that is shared.
+
 ghost use Rattle.std.specs.Prelude.{◌≡◌, true, false, IfOk};
 ghost use Rattle.clerk_desk.specs.Below.office_step.Step.{is_fit_call};
 ghost use Rattle.json_front.specs.Calls.{call_from};

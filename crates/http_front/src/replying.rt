@@ -1,3 +1,5 @@
+//! From what the office says to what is written.
+
 ghost use Rattle.std.specs.Prelude.{◌≡◌, false, IfOk};
 ghost use Rattle.http_responses.specs.Responses.{refusal_status};
 ghost use Rattle.http_session.specs.Replies.{refuses};

@@ -1,3 +1,5 @@
+//! What is said of a message, before its point is known.
+
 ghost use Rattle.std.specs.Prelude.{◌≡◌};
 ghost use Rattle.http_front.specs.Told.{status_of};
 

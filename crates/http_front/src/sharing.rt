@@ -1,3 +1,5 @@
+//! A session: the messages of one connection, answered in their order.
+
 ghost use Rattle.std.specs.Prelude.{◌≡◌, IfSome};
 ghost use Rattle.desk_history.specs.Seen.{point_of};
 ghost use Rattle.http_session.specs.Completeness.{Completes};

@@ -1,3 +1,5 @@
+//! Why a message is refused by its head.
+
 /// Why a message is refused before its body is read.
 #[derive(Clone, Copy, Debug, PartialEq, Eq)]
 pub enum Fault {

@@ -1,3 +1,5 @@
+//! What the headers say of the body.
+
 ghost use Rattle.std.specs.Prelude.{◌≡◌, length, map, All};
 ghost use Rattle.httparse.specs.Spans.{IsHeaderWithin, header_bytes};
 ghost use Rattle.http_heads.specs.Headers.{has_header, is_closing, is_in_any_case, judged, length_from, length_of, values_of};

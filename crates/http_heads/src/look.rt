@@ -1,3 +1,5 @@
+//! What bytes begin with.
+
 use crate::Fault;
 use httparse::spans::Span;
 

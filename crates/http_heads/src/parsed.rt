@@ -1,3 +1,5 @@
+//! What `httparse` says of a head.
+
 ghost use Rattle.std.specs.Prelude.{◌≡◌, ◌≤◌, length};
 ghost use Rattle.http_heads.specs.Looks.{Parses};
 

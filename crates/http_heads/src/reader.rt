@@ -1,3 +1,5 @@
+//! Heads, read of the bytes that came so far.
+
 ghost use Rattle.std.specs.Prelude.{◌≡◌, ◌≤◌, ◌==◌, ◌||◌, length, map, All};
 ghost use Rattle.http_heads.specs.Headers.{is_closing};
 ghost use Rattle.http_heads.specs.Looks.{IsFoundIn, Looks};

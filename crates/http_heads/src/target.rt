@@ -1,3 +1,5 @@
+//! Method and target, before the head is whole.
+
 ghost use Rattle.std.specs.Prelude.{◌≡◌, ◌≤◌, None, false, length, IfSome};
 ghost use Rattle.std.specs.List.{list_all};
 ghost use Rattle.http_heads.specs.Heads.{after_empty_lines, after_word, begins_word, ends_in_target, is_target_begun, is_word_byte};

@@ -1,3 +1,5 @@
+//! The bytes that were read and not yet given.
+
 ghost use Rattle.std.specs.Prelude.{◌≡◌, ◌≤◌, ◌<◌, [], length, drop, IfOk};
 ghost use Rattle.http_messages.specs.Reads.{Receives, MoreCause};
 

@@ -1,3 +1,5 @@
+//! The messages of a source.
+
 use crate::Incoming;
 use crate::buffer::Buffer;
 use crate::next::next_of;

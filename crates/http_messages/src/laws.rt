@@ -1,3 +1,5 @@
+//! Laws of how messages are cut.
+
 ghost use Rattle.http_messages.specs.Cutting.{CutInOneWay, SettledByTheFront};
 
 /// The messages of some bytes and the kind of their end are a function of the bytes, however they were read.

@@ -1,3 +1,5 @@
+//! A message.
+
 use http_heads::Fault;
 use plain_data::Text;
 

@@ -1,3 +1,5 @@
+//! The next message.
+
 ghost use Rattle.std.specs.Prelude.{◌≡◌, ◌+◌, ◌≤◌, length, drop, Ok, IfOk};
 ghost use Rattle.http_heads.specs.Looks.{IsFoundIn};
 ghost use Rattle.http_messages.specs.Messages.{IsMessage};

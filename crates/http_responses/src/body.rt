@@ -1,3 +1,5 @@
+//! Bodies of responses.
+
 ghost use Rattle.std.specs.Prelude.{◌≡◌};
 ghost use Rattle.http_responses.specs.Responses.{body_text, refusal_status};
 ghost use Rattle.http_responses.specs.declared.body.Body.{Body as BodyValue};

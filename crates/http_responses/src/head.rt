@@ -1,3 +1,5 @@
+//! Heads of responses.
+
 ghost use Rattle.std.specs.Prelude.{◌≡◌, ◌+◌, ◌≤◌, ◌^◌, ◌<◌, ◌++◌, length, decimal, codes};
 ghost use Rattle.http_responses.specs.Responses.{connection, head_text, status_line};
 

@@ -1,3 +1,5 @@
+//! Refusals whose body is a constant.
+
 ghost use Rattle.std.specs.Prelude.{◌≡◌};
 ghost use Rattle.http_responses.specs.Responses.{refusal_status, refusal_text};
 

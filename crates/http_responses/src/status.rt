@@ -1,3 +1,5 @@
+//! Statuses of HTTP.
+
 ghost use Rattle.std.specs.Prelude.{◌≡◌, ◌≤◌, length};
 ghost use Rattle.http_responses.specs.Responses.{code_of, phrase_of};
 

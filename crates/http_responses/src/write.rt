@@ -1,3 +1,5 @@
+//! Responses are written.
+
 ghost use Rattle.std.specs.Prelude.{◌≡◌, true, false};
 ghost use Rattle.std.specs.Io.KnownBytes.{Appends};
 ghost use Rattle.office_io.specs.{Outside.Faulted, Transfer.AppendsPart};

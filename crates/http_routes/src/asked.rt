@@ -1,3 +1,5 @@
+//! What a message asks for.
+
 ghost use Rattle.std.specs.Prelude.{◌≡◌};
 ghost use Rattle.http_routes.specs.Asks.{name_of};
 

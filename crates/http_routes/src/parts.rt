@@ -1,3 +1,5 @@
+//! Parts of a path.
+
 ghost use Rattle.std.specs.Prelude.{◌≡◌, ◌==◌};
 ghost use Rattle.std.specs.List.{after_first, before_first, list_all};
 ghost use Rattle.std.specs.Char.{is_ascii_digit};

@@ -1,3 +1,5 @@
+//! Where a route leads.
+
 /// Where a route leads.
 #[derive(Clone, Copy, Debug)]
 pub(crate) enum Place {

@@ -1,3 +1,5 @@
+//! The table of routes.
+
 ghost use Rattle.std.specs.Prelude.{◌≡◌, true, false, None, ok_or, IfOk, IfSome};
 ghost use Rattle.days_core.specs.DayText.{day_from, month_from};
 ghost use Rattle.http_routes.specs.Asks.{Leads, OneRoute, asked_at, method_of, path_of};

@@ -1,3 +1,5 @@
+//! Who answers a session's messages.
+
 use http_messages::Message;
 use http_responses::Reply;
 use std::alloc::Global;

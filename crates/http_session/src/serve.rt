@@ -1,3 +1,5 @@
+//! One message is served.
+
 ghost use Rattle.std.specs.Prelude.{◌≡◌, ◌<◌};
 ghost use Rattle.http_session.specs.Replies.{is_last, most, refusal_of};
 ghost use Rattle.http_session.specs.Turns.{Refuses, RefusesCause, Serves, ServesCause};

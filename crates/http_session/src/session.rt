@@ -1,3 +1,5 @@
+//! A session, from its first byte to its end.
+
 ghost use Rattle.std.specs.Prelude.{◌≡◌, [], IfSome};
 ghost use Rattle.http_session.specs.Completeness.{Completes};
 ghost use Rattle.http_session.specs.Sessions.{Ends, EndCause, IsAsked};

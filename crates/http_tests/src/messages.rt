@@ -1,3 +1,5 @@
+//! Messages, however they are cut.
+
 ghost use Rattle.std.specs.Prelude.{◌<◌};
 
 use http_heads::Fault;

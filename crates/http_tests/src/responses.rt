@@ -1,3 +1,5 @@
+//! Responses.
+
 ghost use Rattle.std.specs.Prelude.{◌<◌};
 
 use http_responses::{Body, Refusal, Reply, Status, write_response};

@@ -1,3 +1,5 @@
+//! Routes.
+
 use http_routes::{Asked, Routed, Routes};
 use std::alloc::Global;
 use std::process::Abort;

@@ -1,3 +1,5 @@
+//! Sessions.
+
 use http_messages::Message;
 use http_responses::{Refusal, Reply};
 use http_session::{Desk, SessionEnd, session_over};

@@ -1,3 +1,5 @@
+//! One row is answered.
+
 ghost use Rattle.std.specs.Prelude.{◌≡◌, ℕ, true};
 ghost use Rattle.book_rows.specs.Book.{Book};
 ghost use Rattle.keeper_core.specs.Keeping.{Keeps};

@@ -1,3 +1,5 @@
+//! The rows of an import, answered one after another.
+
 ghost use Rattle.std.specs.Prelude.{◌≡◌, true, Some, All};
 ghost use Rattle.book_rows.specs.Book.{Book};
 ghost use Rattle.keeper_core.specs.Keeping.{Keeps};

@@ -1,3 +1,5 @@
+//! Assets and the income from them.
+
 ghost use Rattle.std.specs.Prelude.{◌≡◌, ◌+◌, ◌-◌, ◌^◌, ◌<◌, ◌≤◌, sum_by, filter};
 ghost use Rattle.facts_core.specs.Rules.{broken_rule};
 ghost use Rattle.income_rules.specs.Assets.{window_start, is_between, given_away_of, counted_given_away, net_assets_of, actual_asset_income_of, imputed_asset_income, greater_asset_income, asset_income_of};

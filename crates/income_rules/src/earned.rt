@@ -1,3 +1,5 @@
+//! Earned income.
+
 ghost use Rattle.std.specs.Prelude.{◌≡◌, ◌^◌, ◌<◌, ◌≤◌, length};
 ghost use Rattle.facts_core.specs.Rules.{broken_rule};
 ghost use Rattle.income_rules.specs.Income.{is_earned, sum_of, counted_of_earnings, counted_earned_of, earned_of};

@@ -1,3 +1,5 @@
+//! Annual income.
+
 ghost use Rattle.std.specs.Prelude.{◌≡◌, ◌≤◌};
 ghost use Rattle.facts_core.specs.Rules.{broken_rule};
 ghost use Rattle.income_rules.specs.Annual.{annual_income_of};

@@ -1,3 +1,5 @@
+//! The law that incomes are sums over the whole list.
+
 ghost use Rattle.income_rules.specs.WholeList.{EarnedIsOfWholeList, UnearnedIsOfWholeList, TestsExist};
 
 /// Earned and unearned income are sums over the whole list of incomes, each kind taken once. It does nothing.

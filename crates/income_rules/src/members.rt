@@ -1,3 +1,5 @@
+//! The members that the rules ask for.
+
 ghost use Rattle.std.specs.Prelude.{◌≡◌, ◌<◌, ◌≤◌, length, slice_get};
 ghost use Rattle.income_rules.specs.Members.{is_head_or_partner, is_under};
 

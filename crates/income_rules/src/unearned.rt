@@ -1,3 +1,5 @@
+//! Unearned income.
+
 ghost use Rattle.std.specs.Prelude.{◌≡◌, ◌+◌, ◌^◌, ◌<◌, length};
 ghost use Rattle.facts_core.specs.Rules.{broken_rule};
 ghost use Rattle.income_rules.specs.Income.{is_counted_whole, is_adoption, sum_of, counted_of_others, counted_unearned_of, unearned_of};

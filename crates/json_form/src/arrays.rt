@@ -1,3 +1,5 @@
+//! Arrays, read item by item.
+
 ghost use Rattle.std.specs.Prelude.{◌≡◌, true, length, IfOk, string_bytes};
 ghost use Rattle.std.specs.List.{list_all};
 ghost use Rattle.serde_json.specs.View.{view, items_view};

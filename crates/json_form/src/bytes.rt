@@ -1,3 +1,5 @@
+//! From bytes to a value.
+
 ghost use Rattle.json_form.specs.Gives.{Gives};
 ghost use Rattle.json_form.specs.Form.{fit, data_from};
 ghost use Rattle.serde_json.specs.View.{view};

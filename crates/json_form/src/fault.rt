@@ -1,3 +1,5 @@
+//! Why a value isn't read.
+
 ghost use Rattle.std.specs.Prelude.{◌≡◌};
 ghost use Rattle.json_form.specs.declared.fault.FormFault.TheVariants.{NoMemory};
 

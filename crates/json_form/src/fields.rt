@@ -1,3 +1,5 @@
+//! Fields of an object, read by name.
+
 ghost use Rattle.std.specs.Prelude.{◌≡◌, ◌≤◌, true, map, not, bytes_eq, IfOk, string_bytes};
 ghost use Rattle.std.specs.List.{list_any};
 ghost use Rattle.std.specs.BTreeMap.{keys};

@@ -1,3 +1,5 @@
+//! Types that are read of values.
+
 ghost use Rattle.std.specs.Prelude.{List, ℕ, Result};
 ghost use Rattle.serde_json.specs.View.{view};
 ghost use Rattle.json_form.specs.Gives.{Gives};

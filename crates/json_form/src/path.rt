@@ -1,3 +1,5 @@
+//! Paths to places in a value.
+
 ghost use Rattle.std.specs.Prelude.{◌≡◌, IfOk};
 ghost use Rattle.json_form.specs.Path.{joined};
 

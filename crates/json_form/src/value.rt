@@ -1,3 +1,5 @@
+//! Plain values: flags, texts, numbers and words.
+
 ghost use Rattle.std.specs.Prelude.{◌≡◌, ◌≤◌, map, IfOk};
 ghost use Rattle.json_form.specs.Gives.{Gives};
 ghost use Rattle.json_form.specs.Form.{bool_at, text_at, number_at};

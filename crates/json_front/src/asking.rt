@@ -1,3 +1,5 @@
+//! Questions, read of JSON.
+
 ghost use Rattle.std.specs.Prelude.{◌≡◌, true, map};
 ghost use Rattle.serde_json.specs.View.{view};
 ghost use Rattle.json_form.specs.Gives.{Gives};

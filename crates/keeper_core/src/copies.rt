@@ -1,3 +1,5 @@
+//! Copies of tables.
+
 ghost use Rattle.std.specs.Prelude.{◌≡◌, IfOk};
 ghost use Rattle.book_rows.specs.Book.{book_of};
 

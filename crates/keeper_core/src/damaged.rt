@@ -1,3 +1,5 @@
+//! A keeper of a book with a bad row, for tests.
+
 use crate::{Committed, Keeper, Loaded};
 use book_rows::{Batch, Table};
 use std::alloc::Global;

@@ -1,3 +1,5 @@
+//! What a keeper does, and what it tells.
+
 use book_rows::{Batch, Table, Tables};
 use std::alloc::Global;
 

@@ -1,3 +1,5 @@
+//! A keeper in memory.
+
 use crate::copies::copy_of_tables;
 use crate::{Committed, Keeper, Loaded};
 use book_rows::{Batch, Tables};

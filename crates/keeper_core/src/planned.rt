@@ -1,3 +1,5 @@
+//! A keeper that fails by plan, for tests.
+
 use crate::{Committed, Keeper, Loaded, MemoryKeeper};
 use book_rows::{Batch, Tables};
 use plain_data::NoMemory;

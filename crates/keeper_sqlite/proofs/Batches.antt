@@ -8,7 +8,7 @@ use Rattle.sqlite.specs.declared.types.Value.TheVariants.{Int}
 use Rattle.sqlite_value.specs.Order.{Row}
 use Rattle.book_rows.specs.declared.rows.Table.TheVariants.{Acts, Records, Lines}
 use Rattle.keeper_core.specs.Keeping.{BadRow}
-use Rattle.book_texts.proofs.Selects.{map-map}
+use Rattle.store_sql.proofs.Selects.{map-map}
 use Rattle.keeper_sqlite.proofs.Back.{before}
 use Rattle.std.specs.List.{AllByRecursion}
 use Rattle.std.specs.Ordering.{int_cmp, ordering_then, MatchOrdering}
@@ -22,14 +22,14 @@ use Rattle.record_history.specs.declared.records.Record.{Record}
 use Rattle.voucher_core.specs.declared.line.Line.{Line}
 use Rattle.book_rows.specs.declared.rows.{Batch.Batch}
 use Rattle.book_rows.specs.Book.{Book, IsBatch, IsBefore, appended}
-use Rattle.book_texts.specs.declared.wide.{WideAct.WideAct, WideRecord.WideRecord, WideLine.WideLine}
-use Rattle.book_texts.specs.Wide.{wide_act, wide_record, wide_line}
-use Rattle.book_texts.specs.Rows.{stored_act, stored_record, line_values}
-use Rattle.book_texts.specs.Schema.{book_schema}
-use Rattle.book_texts.proofs.Parts.{less}
-use Rattle.book_texts.specs.Trees.{Adds, Rises, record_rows, line_rows, act_cmp, record_cmp, line_cmp}
-use Rattle.book_statements.specs.Effects.{act_part, made_part, line_part}
-use Rattle.book_ranges.specs.Ranges.{fits_act, fits_record, fits_line, named, bad_act, bad_record, bad_line, first_bad, row_of, IsInRange}
+use Rattle.store_sql.specs.declared.wide.{WideAct.WideAct, WideRecord.WideRecord, WideLine.WideLine}
+use Rattle.store_sql.specs.Wide.{wide_act, wide_record, wide_line}
+use Rattle.store_sql.specs.Rows.{stored_act, stored_record, line_values}
+use Rattle.store_sql.specs.Schema.{book_schema}
+use Rattle.store_sql.proofs.Parts.{less}
+use Rattle.store_sql.specs.Trees.{Adds, Rises, record_rows, line_rows, act_cmp, record_cmp, line_cmp}
+use Rattle.store_write.specs.Effects.{act_part, made_part, line_part}
+use Rattle.store_decode.specs.Ranges.{fits_act, fits_record, fits_line, named, bad_act, bad_record, bad_line, first_bad, row_of, IsInRange}
 use Rattle.keeper_sqlite.specs.Told.{HoldsRows, IsBookIn, IsBadIn}
 use Rattle.keeper_sqlite.proofs.Landing.{act_only, record_only, line_only, null_only}
 use Rattle.keeper_sqlite.proofs.Books.{was, came, stands_after, rise_after, fit_after, line_total, all_fit, none_first}

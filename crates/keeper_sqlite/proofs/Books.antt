@@ -12,13 +12,13 @@ use Rattle.sqlite.specs.{Effect.Database, Effect.IsDatabase}
 use Rattle.sqlite_value.specs.Order.{Row}
 use Rattle.sqlite_keyed.proofs.ListLemmas.{ascending-map, ascending-append, ascending_from_map, all_map, all_unmap, all-append}
 use Rattle.book_rows.specs.Book.{Book}
-use Rattle.book_texts.specs.declared.wide.{WideAct.WideAct, WideRecord.WideRecord, WideLine.WideLine}
-use Rattle.book_texts.specs.Wide.{wide_act, wide_record, wide_line}
-use Rattle.book_texts.specs.Rows.{stored_act, stored_record, line_values}
-use Rattle.book_texts.specs.Schema.{no_schema, book_schema}
-use Rattle.book_texts.specs.Trees.{StandsFor, act_cmp, record_cmp, line_cmp, Rises}
-use Rattle.book_texts.proofs.Selects.{map-map}
-use Rattle.book_ranges.specs.Ranges.{first_bad, bad_act, bad_record, bad_line, fits_act, fits_record, fits_line, named}
+use Rattle.store_sql.specs.declared.wide.{WideAct.WideAct, WideRecord.WideRecord, WideLine.WideLine}
+use Rattle.store_sql.specs.Wide.{wide_act, wide_record, wide_line}
+use Rattle.store_sql.specs.Rows.{stored_act, stored_record, line_values}
+use Rattle.store_sql.specs.Schema.{no_schema, book_schema}
+use Rattle.store_sql.specs.Trees.{StandsFor, act_cmp, record_cmp, line_cmp, Rises}
+use Rattle.store_sql.proofs.Selects.{map-map}
+use Rattle.store_decode.specs.Ranges.{first_bad, bad_act, bad_record, bad_line, fits_act, fits_record, fits_line, named}
 use Rattle.keeper_sqlite.specs.Told.{HoldsRows, IsBookIn}
 use Rattle.keeper_sqlite.proofs.Landing.{fit_each, none_bad, act_only, record_only, line_only, table_before, table_after}
 

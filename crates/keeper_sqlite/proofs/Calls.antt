@@ -9,15 +9,15 @@ use Rattle.book_rows.specs.declared.{rows.Batch.Batch, tables.Tables.Tables}
 use Rattle.book_rows.specs.Book.{Book, book_of, empty_book, IsBatch, IsBefore, appended}
 use Rattle.keeper_core.specs.Keeping.{BadRow, Keeps, Gives, Commits, LeavesTold, LeavesOrCommits}
 use Rattle.keeper_core.specs.declared.keeper.{Loaded.Loaded, Committed.Committed}
-use Rattle.book_texts.specs.declared.wide.{WideAct.WideAct, WideRecord.WideRecord, WideLine.WideLine}
-use Rattle.book_texts.specs.Wide.{wide_act, wide_record, wide_line}
-use Rattle.book_texts.specs.Rows.{line_values, stored_act, stored_record}
-use Rattle.book_texts.specs.Schema.{no_schema, book_schema}
-use Rattle.book_texts.specs.Trees.{StandsFor, HoldsNone}
-use Rattle.book_statements.specs.Effects.{Undoes, IsMade, Makes, MadeTrees, Lands, BatchTrees}
-use Rattle.book_asking.specs.declared.asking.AskedRows.{AskedRows}
-use Rattle.book_asking.specs.Asking.{AreAsked}
-use Rattle.book_ranges.specs.Ranges.{Narrows, IsInRange, first_bad, row_of}
+use Rattle.store_sql.specs.declared.wide.{WideAct.WideAct, WideRecord.WideRecord, WideLine.WideLine}
+use Rattle.store_sql.specs.Wide.{wide_act, wide_record, wide_line}
+use Rattle.store_sql.specs.Rows.{line_values, stored_act, stored_record}
+use Rattle.store_sql.specs.Schema.{no_schema, book_schema}
+use Rattle.store_sql.specs.Trees.{StandsFor, HoldsNone}
+use Rattle.store_write.specs.Effects.{Undoes, IsMade, Makes, MadeTrees, Lands, BatchTrees}
+use Rattle.store_read.specs.declared.asking.AskedRows.{AskedRows}
+use Rattle.store_read.specs.Asking.{AreAsked}
+use Rattle.store_decode.specs.Ranges.{Narrows, IsInRange, first_bad, row_of}
 use Rattle.keeper_sqlite.specs.Told.{IsBookIn, IsBadIn, IsReady, Holds, HoldsBad, IsWell, TellsCrash, MayLeave, MaySpoil, CrashLeaves, TellsNoMore, TellsOn, GoesOn, StaysOpen, IsFileOf, LeavesBooks, IsSettled, IsAnswer, IsOwn, Notes}
 use Rattle.keeper_sqlite.proofs.Landing.{act_only, record_only, line_only}
 use Rattle.keeper_sqlite.proofs.Books.{book_once, schemas_differ, rows_once, exclusive}

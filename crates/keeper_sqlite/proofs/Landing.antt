@@ -11,12 +11,12 @@ use Rattle.sqlite_keyed.proofs.ListLemmas.{ascending-append}
 use Rattle.record_history.specs.declared.records.Record.{Record}
 use Rattle.voucher_core.specs.declared.line.Line.{Line}
 use Rattle.book_rows.specs.declared.rows.{ActRow.ActRow}
-use Rattle.book_texts.specs.Wide.{wide_act, wide_record, wide_line, wide_day, wide_month, wide_kind, wide_event, wide_notice, wide_done}
+use Rattle.store_sql.specs.Wide.{wide_act, wide_record, wide_line, wide_day, wide_month, wide_kind, wide_event, wide_notice, wide_done}
 use Rattle.sqlite.specs.Values.{or_null}
 use Rattle.sqlite.specs.declared.types.Value.TheVariants.{Int}
 use Rattle.record_history.specs.declared.records.{Kind.Kind, Dates.Dates}
 use Rattle.record_history.specs.declared.records.Kind.TheVariants.{MI, IC, AR, IR, GR, UT, MO, TM, WD}
-use Rattle.book_texts.specs.Rows.{stored_act, stored_record, line_values}
+use Rattle.store_sql.specs.Rows.{stored_act, stored_record, line_values}
 use Rattle.keeper_sqlite.proofs.Back.{Before, before}
 use Rattle.keeper_sqlite.proofs.Orders.{same_rise}
 

@@ -1,7 +1,7 @@
 -- Lists of one item and of three, and the names of the indexes.
 use Rattle.std.proofs.Common.{◌≡◌, ◌≤◌, ◌<◌, List, [], ◌∷◌, length, slice_index_or, sym, ap, refl, arith}
 use Rattle.sqlite_tied.specs.Compute.{everything}
-use Rattle.book_texts.specs.Schema.{book_schema}
+use Rattle.store_sql.specs.Schema.{book_schema}
 use Rattle.keeper_sqlite.specs.Own.{key_indexes}
 
 pub one_item : {X : Type 0} (xs : List X) (x : X) → 1 ≤ length xs → length xs < 2 → x ≡ slice_index_or xs 0 x → xs ≡ x ∷ []

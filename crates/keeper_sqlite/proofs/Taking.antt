@@ -9,10 +9,10 @@ use Rattle.voucher_core.specs.declared.line.Line.{Line}
 use Rattle.book_rows.specs.declared.rows.{ActRow.ActRow, Batch.Batch}
 use Rattle.book_rows.specs.Book.{Book, IsBatch, IsBefore}
 use Rattle.keeper_core.specs.declared.keeper.Committed.{Committed}
-use Rattle.book_texts.specs.declared.wide.{WideAct.WideAct, WideRecord.WideRecord, WideLine.WideLine}
-use Rattle.book_texts.specs.Wide.{wide_act, wide_record, wide_line}
-use Rattle.book_texts.specs.Takes.{IsExcused, IsServing, IsNewAct, IsNewRecord, IsNewLine}
-use Rattle.book_statements.specs.Causes.{Takes}
+use Rattle.store_sql.specs.declared.wide.{WideAct.WideAct, WideRecord.WideRecord, WideLine.WideLine}
+use Rattle.store_sql.specs.Wide.{wide_act, wide_record, wide_line}
+use Rattle.store_sql.specs.Takes.{IsExcused, IsServing, IsNewAct, IsNewRecord, IsNewLine}
+use Rattle.store_write.specs.Causes.{Takes}
 use Rattle.keeper_sqlite.specs.Told.{Holds, HoldsRows, TakesBatch, FailsByFault}
 use Rattle.keeper_sqlite.proofs.Books.{schemas_differ}
 

@@ -6,12 +6,12 @@ use Rattle.sqlite_schema.specs.declared.schema.Schema.{Schema}
 use Rattle.sqlite_disk.specs.Disk.{MoreFaults}
 use Rattle.book_rows.specs.{declared.rows.Batch.Batch, Book.Book, Book.empty_book, Book.appended, Book.is_request_of}
 use Rattle.keeper_core.specs.{Keeping.BadRow, Keeping.Keeps, declared.keeper.Loaded.Loaded, declared.keeper.Committed.Committed}
-use Rattle.book_texts.specs.declared.wide.{WideAct.WideAct, WideRecord.WideRecord, WideLine.WideLine}
-use Rattle.book_texts.specs.Wide.{wide_act, wide_record, wide_line}
-use Rattle.book_texts.specs.Schema.{no_schema, book_schema}
-use Rattle.book_texts.specs.Trees.{StandsFor}
-use Rattle.book_texts.specs.Takes.{HasNumbers, longest_body}
-use Rattle.book_ranges.specs.Ranges.{first_bad}
+use Rattle.store_sql.specs.declared.wide.{WideAct.WideAct, WideRecord.WideRecord, WideLine.WideLine}
+use Rattle.store_sql.specs.Wide.{wide_act, wide_record, wide_line}
+use Rattle.store_sql.specs.Schema.{no_schema, book_schema}
+use Rattle.store_sql.specs.Trees.{StandsFor}
+use Rattle.store_sql.specs.Takes.{HasNumbers, longest_body}
+use Rattle.store_decode.specs.Ranges.{first_bad}
 
 -- the three tables hold the rows of the book, and each number is in its range
 pub record HoldsRows (db : Database) (book : Book) : Type 0 where

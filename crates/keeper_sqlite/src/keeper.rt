@@ -1,11 +1,13 @@
+//! The keeper of a file.
+
 use crate::loading::{is_want_of_memory, load_noting};
-use book_ranges::batch_fits;
 use book_rows::Batch;
-use book_statements::write_batch;
 use keeper_core::{Committed, Keeper, Loaded};
 use sqlite::{Alter, Connection};
 use std::alloc::Global;
 use std::marker::Model;
+use store_decode::batch_fits;
+use store_write::write_batch;
 
 /// A keeper of a book in a file.
 ///

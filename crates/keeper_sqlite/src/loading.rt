@@ -1,20 +1,22 @@
+//! A book is loaded, or its tables are made.
+
 ghost use Rattle.std.specs.Prelude.{◌≡◌, ◌↔◌, false, Bool, IsTrue, OnOk, IfOk};
 ghost use Rattle.sqlite.specs.{Held.state, State.Survives};
 ghost use Rattle.sqlite.specs.declared.error.{Error.TheVariants.SqliteFailure, ErrorCode.TheVariants.OutOfMemory};
-ghost use Rattle.book_texts.specs.Schema.{no_schema, book_schema};
-ghost use Rattle.book_ranges.specs.Ranges.{Narrows};
+ghost use Rattle.store_sql.specs.Schema.{no_schema, book_schema};
+ghost use Rattle.store_decode.specs.Ranges.{Narrows};
 ghost use Rattle.book_rows.specs.Book.{Book, book_of, empty_book};
 ghost use Rattle.keeper_core.specs.{Keeping.Gives, declared.keeper.Loaded.TheVariants.Rows};
 ghost use Rattle.keeper_sqlite.specs.Told.{Holds, HoldsBad, TellsNoMore, GoesOn, StaysOpen, LeavesBooks, IsSettled, IsAnswer, Notes};
 
 use crate::own::is_book_schema;
-use book_asking::{AskFault, AskedRows, ask_tables};
-use book_ranges::narrowed;
 use book_rows::Tables;
-use book_statements::make_tables;
 use keeper_core::Loaded;
 use sqlite::{Alter, Connection, Error, ErrorCode};
 use std::alloc::Global;
+use store_decode::narrowed;
+use store_read::{AskFault, AskedRows, ask_tables};
+use store_write::make_tables;
 
 /// Whether memory ran out.
 pub(crate) fn is_want_of_memory(error: &Error) -> bool

@@ -3,7 +3,7 @@
 ghost use Rattle.std.specs.Prelude.{◌≡◌, ◌↔◌, [], ◌∷◌, map, IsTrue, false};
 ghost use Rattle.sqlite.specs.declared.types.Value.TheVariants.{Null};
 ghost use Rattle.sqlite_value.specs.Keys.{plain};
-ghost use Rattle.book_texts.specs.Schema.{book_schema};
+ghost use Rattle.store_sql.specs.Schema.{book_schema};
 ghost use Rattle.keeper_sqlite.specs.Own.{column_of, table_of, index_of, key_indexes};
 
 use sqlite_items::Items;

@@ -1,3 +1,5 @@
+//! The program on a file, and on one that another hand changed.
+
 use book_rows::Tables;
 use keeper_core::{Keeper, Loaded, MemoryKeeper};
 use keeper_sqlite::SqliteKeeper;

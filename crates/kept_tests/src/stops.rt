@@ -1,3 +1,5 @@
+//! The program stopped at each call of its disks.
+
 use fused_disks::{Disks, Kept, after_stop, new_disks};
 use keeper_core::{Keeper, Loaded};
 use keeper_sqlite::SqliteKeeper;

@@ -1,3 +1,5 @@
+//! What a read brought.
+
 /// What one read added to the bytes that are held.
 #[derive(Clone, Copy, Debug, PartialEq, Eq)]
 pub enum More {

@@ -1,3 +1,5 @@
+//! Lines, cut from a source however its reads fall.
+
 ghost use Rattle.std.specs.Prelude.{◌≡◌, None, false, IfSome};
 ghost use Rattle.line_input.specs.Lines.{has_end, EndsAt};
 

@@ -1,3 +1,5 @@
+//! All lines as CSV.
+
 ghost use Rattle.std.specs.Prelude.{◌≡◌, ◌++◌, IfOk, OnOk, string_bytes};
 ghost use Rattle.std.specs.Fmt.{signed_decimal};
 ghost use Rattle.csv_records.specs.Between.{IsBetween, text_of};

@@ -1,3 +1,5 @@
+//! One worker alone.
+
 ghost use Rattle.std.specs.Prelude.{◌≡◌, ◌<◌, true, false, IfSome, Some};
 ghost use Rattle.office_io.specs.Outside.{Faulted};
 ghost use Rattle.office_links.specs.Links.{Standing, after_giving_back, standing_by};

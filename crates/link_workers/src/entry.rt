@@ -1,3 +1,5 @@
+//! What lies behind the lock of the listener.
+
 ghost use Rattle.std.specs.Prelude.{◌≡◌, ◌<◌, ◌≤◌, true, false, IfSome, Contains, map};
 ghost use Rattle.office_io.specs.Outside.{Faulted};
 ghost use Rattle.office_links.specs.Links.{Standing, standing_by, unused};

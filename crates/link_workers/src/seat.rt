@@ -1,3 +1,5 @@
+//! What a worker serves by.
+
 use office_io::{Sink, Source};
 use std::alloc::Global;
 

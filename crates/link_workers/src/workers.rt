@@ -1,3 +1,5 @@
+//! Several workers at one listener.
+
 ghost use Rattle.std.specs.Prelude.{◌≡◌, ◌<◌, ◌≤◌, true, false, List, length};
 ghost use Rattle.std.specs.List.{All};
 ghost use Rattle.office_io.specs.Outside.{Faulted};

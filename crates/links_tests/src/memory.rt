@@ -1,3 +1,5 @@
+//! Listeners in memory.
+
 use office_io::{Got, MemorySink, MemorySource, Put, Sink, Source};
 use office_links::{Accepted, Link, Listener, MemoryListener, listener_of_inputs};
 use plain_data::Text;

@@ -1,3 +1,5 @@
+//! Listeners over TCP.
+
 use office_io::{Got, Put, Sink, Source};
 use office_links::{Accepted, Listener, TcpLinks};
 use std::alloc::Global;

@@ -1,3 +1,5 @@
+//! Numbers, read of their digits.
+
 ghost use Rattle.std.specs.Prelude.{◌≡◌, ℕ, ◌^◌, ◌<◌, ◌≤◌, Some, IfSome, decimal};
 ghost use Rattle.numerals.specs.Numerals.{number_between, plain_number_between};
 

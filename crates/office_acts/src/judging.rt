@@ -1,3 +1,5 @@
+//! A command is judged: its tests in their one order, and then what it makes.
+
 ghost use Rattle.std.specs.Prelude.{◌≡◌, ◌≤◌, true, IfSome, IfOk, IsOk};
 ghost use Rattle.days_core.specs.OfficeDays.{last_office_day, last_office_month};
 ghost use Rattle.record_history.specs.Held.{IsWithin};

@@ -23,9 +23,9 @@ mod records;
 mod refusing;
 mod terms;
 
+pub use admission_order;
 pub use closing::lines_of;
 pub use judging::judge;
 pub use office_refusals;
 pub use office_register;
 pub use office_step;
-pub use office_turns;

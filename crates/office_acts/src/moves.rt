@@ -7,9 +7,9 @@ ghost use Rattle.office_acts.specs.Moves.{moving_by};
 ghost use Rattle.office_acts.specs.Matter.{matter_by};
 
 use crate::matter::Matter;
+use admission_order::unit_in;
 use days_core::{Day, Month};
 use office_step::MoveIn;
-use office_turns::unit_in;
 use record_history::{Dates, Record};
 use rent_table::{Plan, Unit};
 use wait_list::Candidate;

@@ -1,3 +1,5 @@
+//! A refusal if a test stands, or unless it does.
+
 ghost use Rattle.std.specs.Prelude.{◌≡◌};
 ghost use Rattle.office_step.specs.Refusals.{refused_if, refused_unless};
 

@@ -1,7 +1,7 @@
 -- When an answer is the right one.
 use Rattle.std.specs.Prelude.{◌≡◌, ⊤, Option, Some, None, Result, Ok, Err}
 use Rattle.std.specs.Option.{option_map_or}
-use Rattle.office_turns.specs.Below.office_step.declared.refusal.Refusal.{Refusal}
+use Rattle.admission_order.specs.Below.office_step.declared.refusal.Refusal.{Refusal}
 use Rattle.office_answers.specs.declared.answer.{Answer.Answer, Asked.Asked}
 
 -- the answer, unless it is refused

@@ -3,7 +3,7 @@ use Rattle.std.specs.Prelude.{ℕ, ◌+◌, ◌==◌, nat_le, not, if◌then◌e
 use Rattle.std.specs.{List.range_with_len, List.filter_map, List.flat_map, Option.option_map_or}
 use Rattle.record_history.specs.{declared.records.Record.Record, Records.in_force, Held.records_of}
 use Rattle.due_dates.specs.Stale.{ends_assistance}
-use Rattle.office_turns.specs.Below.office_step.{declared.refusal.Refusal.Refusal, Known.Known, Refusals.annual_right}
+use Rattle.admission_order.specs.Below.office_step.{declared.refusal.Refusal.Refusal, Known.Known, Refusals.annual_right}
 use Rattle.office_answers.specs.{declared.answer.Answer.Answer, declared.answer.DueDay.DueDay, Answered.answered}
 
 -- the record in force on the day is there, and is neither a move-out nor a termination

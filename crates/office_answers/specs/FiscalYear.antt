@@ -3,7 +3,7 @@ use Rattle.std.specs.Prelude.{ℕ, ◌+◌, ◌-◌, ◌*◌, Result}
 use Rattle.days_core.specs.Calendar.{month_of, first_of}
 use Rattle.rent_table.specs.declared.plan.Plan.{Plan}
 use Rattle.wait_list.specs.{declared.targets.Targets.Targets, Target.is_target_open}
-use Rattle.office_turns.specs.Below.office_step.{declared.refusal.Refusal.Refusal, Known.Known, Candidates.fiscal_year, Candidates.targets_of}
+use Rattle.admission_order.specs.Below.office_step.{declared.refusal.Refusal.Refusal, Known.Known, Candidates.fiscal_year, Candidates.targets_of}
 use Rattle.office_answers.specs.{declared.answer.Answer.Answer, declared.answer.Admissions.Admissions, Answered.answered}
 
 -- the month with which the fiscal year of a month begins, and 1880-01 where that is earlier

@@ -1,7 +1,7 @@
 -- What is asked of one household.
 use Rattle.std.specs.Prelude.{ℕ, Result, Ok, List, [], map, unwrap_or}
 use Rattle.record_history.specs.{declared.records.Record.Record, Records.live_records, Records.newest_number}
-use Rattle.office_turns.specs.Below.office_step.{declared.refusal.Refusal.Refusal, Acts.at_number, Known.Known, Known.own_in, Households.record_at, Against.no_household, declared.refusal.Named.Named}
+use Rattle.admission_order.specs.Below.office_step.{declared.refusal.Refusal.Refusal, Acts.at_number, Known.Known, Known.own_in, Households.record_at, Against.no_household, declared.refusal.Named.Named}
 use Rattle.office_answers.specs.{declared.answer.Answer.Answer, declared.answer.HouseholdSummary.HouseholdSummary, Answered.unless, Answered.answered}
 
 -- the household's name, and the empty one where there is no such household

@@ -2,7 +2,7 @@
 use Rattle.std.specs.Prelude.{◌≡◌, ◌≢◌, ◌↔◌, ◌⊎◌, ℕ, ◌+◌, ◌≤◌, ◌<◌, ◌+ℤ◌, List, length, Some, AllPairs, Contains, IsSomeAnd}
 use Rattle.record_history.specs.{declared.records.Kind.Kind, declared.records.Record.Record, Records.in_force, Held.records_of}
 use Rattle.voucher_core.specs.{declared.line.Line.Line, Lines.total}
-use Rattle.office_turns.specs.Below.office_step.Refusals.{annual_right}
+use Rattle.admission_order.specs.Below.office_step.Refusals.{annual_right}
 use Rattle.office_answers.specs.{declared.answer.DueDay.DueDay, DueList.due_list, Vouchers.voucher_of}
 
 -- The household is there; the record in force for it on the day asked is neither a move-out nor a termination; and its next

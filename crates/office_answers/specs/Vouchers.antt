@@ -2,7 +2,7 @@
 use Rattle.std.specs.Prelude.{ℕ, ◌==◌, ◌&&◌, nat_le, not, if◌then◌else◌, Bool, false, Option, Some, None, Result, Ok, List, filter}
 use Rattle.rent_table.specs.declared.plan.Plan.{Plan}
 use Rattle.voucher_core.specs.{declared.line.Line.Line, Lines.total, Lines.paid}
-use Rattle.office_turns.specs.Below.office_step.{declared.known.Closed.Closed, declared.refusal.Refusal.Refusal, Known.Known, Against.no_household}
+use Rattle.admission_order.specs.Below.office_step.{declared.known.Closed.Closed, declared.refusal.Refusal.Refusal, Known.Known, Against.no_household}
 use Rattle.office_answers.specs.{declared.answer.Answer.Answer, declared.answer.Voucher.Voucher, Answered.unless}
 
 -- the month is closed: it lies between the plan's first and the last that was closed

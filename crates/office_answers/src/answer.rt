@@ -1,5 +1,7 @@
+//! The answers to the seven questions.
+
+use admission_order::office_step::Refusal;
 use days_core::{Day, Month};
-use office_turns::office_step::Refusal;
 use plain_data::{Listed, NoMemory, Text};
 use record_history::{Dates, Record};
 use voucher_core::Line;

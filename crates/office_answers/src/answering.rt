@@ -1,3 +1,5 @@
+//! A question is answered by what an office knows.
+
 ghost use Rattle.std.specs.Prelude.{◌≡◌, ◌≤◌, length, Result};
 ghost use Rattle.office_answers.specs.Answered.{Answers};
 ghost use Rattle.office_answers.specs.Answering.{answer_by};
@@ -8,8 +10,8 @@ use crate::households::{household_answer, record_answer};
 use crate::next::next_answer;
 use crate::vouchers::{paid_answer, voucher_answer};
 use crate::{Answer, Asked, BookLines, Question};
-use office_turns::office_register::Register;
-use office_turns::office_step::Refusal;
+use admission_order::office_register::Register;
+use admission_order::office_step::Refusal;
 use std::alloc::Global;
 
 /// The answer to a question, by what an office knows and by the lines of all closings, at most 4,000,000.

@@ -1,3 +1,5 @@
+//! The lines of a book, with what speeds the search among them.
+
 use std::marker::Model;
 use voucher_core::Line;
 

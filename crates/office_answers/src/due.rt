@@ -7,9 +7,9 @@ ghost use Rattle.office_answers.specs.Answered.{Answers};
 ghost use Rattle.office_answers.specs.DueList.{is_assisted_on, horizon, due_of, due_days, due_list, due_answer};
 
 use crate::{Answer, Asked, DueDay};
+use admission_order::office_register::Register;
+use admission_order::office_step::Refusal;
 use days_core::Day;
-use office_turns::office_register::Register;
-use office_turns::office_step::Refusal;
 use plain_data::{Listed, NoMemory};
 use record_history::{Dates, History, Kind, Record};
 use rent_table::Plan;

@@ -5,10 +5,10 @@ ghost use Rattle.wait_list.specs.Target.{is_target_open};
 ghost use Rattle.office_answers.specs.FiscalYear.{first_fiscal_month, first_fiscal_day, targets_answer};
 
 use crate::{Admissions, Answer};
+use admission_order::office_register::Register;
+use admission_order::office_step::Refusal;
+use admission_order::targets;
 use days_core::{Day, Month, first_of, month_of};
-use office_turns::office_register::Register;
-use office_turns::office_step::Refusal;
-use office_turns::targets;
 use rent_table::Plan;
 use wait_list::Targets;
 

@@ -1,3 +1,5 @@
+//! What a due list and a voucher come to, as laws in plain facts.
+
 ghost use Rattle.office_answers.specs.Laws.{DueListIsWhole, VouchersTotal};
 
 /// The due list has exactly the households whose next annual certification is due, in the order of days and then of

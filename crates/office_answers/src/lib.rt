@@ -14,13 +14,13 @@ mod question;
 mod reply;
 mod vouchers;
 
+pub use admission_order;
+pub use admission_order::{office_register, office_step};
 pub use answer::{Admissions, Answer, Asked, DueDay, HouseholdSummary, Voucher};
 pub use answering::answer_to;
 pub use book_lines::BookLines;
 pub use in_turn::{are_in_turn, stay_in_turn};
 pub use laws::{due_list_is_whole, vouchers_total};
 pub use office_refusals;
-pub use office_turns;
-pub use office_turns::{office_register, office_step};
 pub use question::Question;
 pub use reply::Reply;

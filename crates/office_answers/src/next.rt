@@ -1,11 +1,13 @@
+//! The answer to who is next.
+
 ghost use Rattle.std.specs.Prelude.{◌≡◌};
 ghost use Rattle.office_answers.specs.Answering.{next_answer};
 
 use crate::Answer;
+use admission_order::office_register::Register;
+use admission_order::office_step::{Named, Refusal};
+use admission_order::{next_for, unit_in};
 use days_core::Day;
-use office_turns::office_register::Register;
-use office_turns::office_step::{Named, Refusal};
-use office_turns::{next_for, unit_in};
 use rent_table::{Plan, Unit};
 use wait_list::Candidate;
 

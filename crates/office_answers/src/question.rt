@@ -1,3 +1,5 @@
+//! The seven questions.
+
 use days_core::{Day, Month};
 
 /// What is asked of an office. A question changes nothing.

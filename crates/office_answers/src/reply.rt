@@ -1,4 +1,6 @@
-use office_turns::office_step::{Done, Refusal};
+//! The reply to a call, accepted or not.
+
+use admission_order::office_step::{Done, Refusal};
 
 /// What a clerk is told of a call.
 #[derive(Clone, Copy, Debug, PartialEq, Eq)]

@@ -7,10 +7,10 @@ ghost use Rattle.office_answers.specs.Vouchers.{is_closed, lines_of_closing, own
 
 use crate::in_turn::{closing_in_turn, is_for, paying_in_turn};
 use crate::{Answer, Asked, BookLines, Voucher};
+use admission_order::office_register::Register;
+use admission_order::office_step::Closed;
 use days_core::Month;
 use office_refusals::no_household;
-use office_turns::office_register::Register;
-use office_turns::office_step::Closed;
 use plain_data::{Listed, NoMemory};
 use rent_table::Plan;
 use std::alloc::Global;

@@ -1,3 +1,5 @@
+//! A planned step is appended to the book. No memory is taken.
+
 use crate::reply::{certified_by, closed};
 use crate::{Office, Step};
 use book_replay::book_search::act_key;

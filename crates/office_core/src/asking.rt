@@ -1,3 +1,5 @@
+//! The office answers questions.
+
 use crate::{Answer, Asked, Office, Question};
 use book_replay::office_laws::within_room;
 use office_answers::{BookLines, answer_to};

@@ -1,3 +1,5 @@
+//! The rows of a call's act are drafted, or the call is refused.
+
 ghost use Rattle.std.specs.Prelude.{◌≡◌, ◌≤◌, ◌<◌, ◌^◌, true, Err, length, option_copied, IfOk, IfErr, IfSome};
 ghost use Rattle.days_core.specs.OfficeDays.{last_office_day};
 ghost use Rattle.book_rows.specs.Book.{Book};

@@ -1,3 +1,5 @@
+//! What comes of judging a call: a step, the first reply again, or why neither.
+
 use book_rows::{Batch, Command};
 use office_answers::office_step::{Done, Refusal};
 use plain_data::Text;

@@ -21,7 +21,7 @@ pub use office_answers::office_step::{
     Application, Call, Capacity, Closed, Done, Fault, Made, Named, Refusal,
 };
 pub use office_answers::{
-    Admissions, Answer, Asked, DueDay, HouseholdSummary, Question, Reply, Voucher, office_refusals,
-    office_register, office_step, office_turns,
+    Admissions, Answer, Asked, DueDay, HouseholdSummary, Question, Reply, Voucher, admission_order,
+    office_refusals, office_register, office_step,
 };
 pub use opening::OpenFault;

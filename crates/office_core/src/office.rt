@@ -1,3 +1,5 @@
+//! The office of one clerk: its book, and what it knows by that.
+
 use crate::Step;
 use book_replay::office_laws::{books_are_upheld, within_room};
 use book_rows::Tables;

@@ -1,3 +1,5 @@
+//! An office is opened on tables that are given.
+
 ghost use Rattle.std.specs.Prelude.{◌≡◌, ◌≤◌, None, IfOk, IfErr, IfSome};
 ghost use Rattle.book_rows.specs.Book.{book_of, empty_book};
 ghost use Rattle.office_answers.specs.Below.office_step.Valid.{first_fault};

@@ -1,3 +1,5 @@
+//! A call is judged without a change, for an office as it is.
+
 use crate::drafting::{Held, last_day, new_step};
 use crate::{Judged, Judgment, Office, Step};
 use book_replay::book_search::act_of_request;

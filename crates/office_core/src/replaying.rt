@@ -1,3 +1,5 @@
+//! The acts of given tables are done again, one after another.
+
 use crate::drafting::{Held, last_day, new_step};
 use crate::reserve::household_of;
 use crate::{Judgment, OpenFault, Step};

@@ -1,3 +1,5 @@
+//! The first reply to an act, made again of the book.
+
 ghost use Rattle.std.specs.Prelude.{◌≡◌, ◌≤◌, length, nat_le, count_by, option_copied, IfSome};
 ghost use Rattle.std.specs.Option.{option_map_or};
 ghost use Rattle.record_history.specs.Held.{IsWithin};

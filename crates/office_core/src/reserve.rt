@@ -1,3 +1,5 @@
+//! Memory for a step is taken before anything is kept.
+
 ghost use Rattle.std.specs.Prelude.{◌≡◌};
 ghost use Rattle.std.specs.Option.{option_map_or};
 

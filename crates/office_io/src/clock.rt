@@ -1,3 +1,5 @@
+//! Clocks: one that stands still, and the system's.
+
 ghost use Rattle.std.specs.Prelude.{◌≡◌};
 
 use days_core::Day;

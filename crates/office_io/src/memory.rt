@@ -1,3 +1,5 @@
+//! Sources and sinks in memory, which can be told to fail.
+
 use crate::{Got, Put, Sink, Source};
 use plain_data::NoMemory;
 use std::alloc::Global;

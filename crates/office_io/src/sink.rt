@@ -1,3 +1,5 @@
+//! Where bytes go.
+
 /// What a write took.
 #[derive(Clone, Copy, Debug, PartialEq, Eq)]
 pub enum Put {

@@ -1,3 +1,5 @@
+//! Where bytes come from.
+
 /// What a read gave.
 #[derive(Clone, Copy, Debug, PartialEq, Eq)]
 pub enum Got {

@@ -1,3 +1,5 @@
+//! Streams of the system.
+
 use crate::{Got, Put, Sink, Source};
 use std::io::{Read, Write};
 use std::marker::Model;

@@ -1,3 +1,5 @@
+//! Whole inputs are read, and whole pieces written.
+
 ghost use Rattle.std.specs.Prelude.{◌≡◌, ℕ, ◌<◌, List, length, true, false, IsSome, IsNone, IfSome};
 ghost use Rattle.std.specs.Io.KnownBytes.{Appends, Consumes};
 ghost use Rattle.office_io.specs.Outside.{Faulted};

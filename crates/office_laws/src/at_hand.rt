@@ -1,3 +1,5 @@
+//! Laws by which the office finds at once what a definition searches for.
+
 ghost use Rattle.office_laws.specs.AtHand.{NewRequests, RepeatedRequests, ReusedRequests, NewReplies, UnitReplies, ApplicantReplies, ApplicationsRise, LastDayIsLived, NextDayIsLived, NextDayStays, NextRecords, ActsAreWithinRoom, LinesAreWithinRoom};
 
 /// One act at most is of a clerk and request, so that finding it says whether a call repeats it or uses its request

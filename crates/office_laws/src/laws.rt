@@ -1,3 +1,5 @@
+//! The laws of every book that an office makes.
+
 ghost use Rattle.office_laws.specs.Accepted.{AppendedIsAccepted, NewIsAppended};
 ghost use Rattle.office_laws.specs.Kept.{BooksAreKept, BatchesFollow};
 ghost use Rattle.office_laws.specs.History.{RowsCameByActs};

@@ -1,3 +1,5 @@
+//! Listeners of given texts, for tests.
+
 ghost use Rattle.std.specs.Prelude.{◌≡◌, [], length, map, IfOk};
 ghost use Rattle.office_links.specs.Memory.{link_of};
 

@@ -1,3 +1,5 @@
+//! What a listener does, and what it tells.
+
 use office_io::{Sink, Source};
 
 /// What an accept gave.

@@ -1,3 +1,5 @@
+//! A listener in memory.
+
 use crate::{Accepted, Link, Listener};
 use office_io::{Sink, Source};
 use plain_data::NoMemory;

@@ -1,3 +1,5 @@
+//! The sending side of a connection.
+
 use office_io::{Put, Sink};
 use std::io::Write;
 use std::marker::Model;

@@ -1,3 +1,5 @@
+//! Connections over TCP.
+
 use crate::sending::Sending;
 use crate::{Accepted, Listener};
 use office_io::StreamSource;

@@ -1,8 +1,8 @@
 -- What the program answers to its words and its input.
 use Rattle.std.specs.Prelude.{ℕ, nat_le, if◌then◌else◌, List, [], length, codes}
 use Rattle.assess_command.specs.{declared.answer.Assessed.Assessed, Assess.assessed}
-use Rattle.made_office.specs.Lines.{made_text}
-use Rattle.office_trial.specs.Trial.{trial_text}
+use Rattle.generator.specs.Lines.{made_text}
+use Rattle.simulation.specs.Trial.{trial_text}
 use Rattle.program_answers.specs.{Answer.Answer, Opening.largest}
 
 -- other words are answered with how the program is used

@@ -1,3 +1,5 @@
+//! The command `batch`.
+
 ghost use Rattle.std.specs.Prelude.{◌≡◌};
 ghost use Rattle.book_rows.specs.Book.{Book};
 ghost use Rattle.keeper_core.specs.Keeping.{Keeps};

@@ -1,3 +1,5 @@
+//! The command `import`.
+
 ghost use Rattle.std.specs.Prelude.{◌≡◌, ◌≤◌, ℕ, Option, Some, List};
 ghost use Rattle.book_rows.specs.Book.{Book};
 ghost use Rattle.keeper_core.specs.Keeping.{Keeps};

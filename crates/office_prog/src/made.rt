@@ -1,11 +1,13 @@
+//! The commands `make` and `trial`.
+
 ghost use Rattle.std.specs.Prelude.{◌≡◌, ◌≢◌};
 ghost use Rattle.program_answers.specs.Answer.{Ends};
 ghost use Rattle.office_prog.specs.Run.{made_answer, trial_answer};
 
-use made_office::made_lines;
+use generator::made_lines;
 use office_io::Sink;
-use office_trial::trial;
 use program_answers::{LARGEST, finish};
+use simulation::trial;
 use std::alloc::Global;
 
 /// Writes the lines of a made office of so many households, and gives the status.

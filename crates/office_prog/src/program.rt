@@ -1,3 +1,5 @@
+//! The program, by its words; and the command `assess`.
+
 ghost use Rattle.std.specs.Prelude.{◌≡◌, ◌≢◌, ◌≤◌, ℕ, false, List, length, Some, None, IfSome};
 ghost use Rattle.std.specs.Io.KnownBytes.{Consumes};
 ghost use Rattle.office_io.specs.Outside.{Faulted};

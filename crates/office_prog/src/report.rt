@@ -1,3 +1,5 @@
+//! The commands that print a report of the book.
+
 ghost use Rattle.std.specs.Prelude.{◌≡◌, ℕ, Option, List, IfOk};
 ghost use Rattle.program_answers.specs.Opening.{Comes, Says, door};
 ghost use Rattle.program_answers.specs.Keeping.{StillTells, OutlivesStops};

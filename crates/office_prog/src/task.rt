@@ -1,3 +1,5 @@
+//! What the words ask for.
+
 ghost use Rattle.std.specs.Prelude.{◌≡◌, IfOk, Some};
 ghost use Rattle.command_words.specs.Words.{HasClerk as NamesClerk};
 ghost use Rattle.office_prog.specs.Task.{built, task_in, HasClerk};

@@ -1,3 +1,5 @@
+//! Refusals by the book as a whole: its plan, and how much it holds.
+
 ghost use Rattle.std.specs.Prelude.{◌≡◌};
 ghost use Rattle.office_step.specs.Refusals.{lines_full};
 

@@ -1,3 +1,5 @@
+//! Refusals of a closing by its month, and by rents that are due.
+
 ghost use Rattle.std.specs.Prelude.{◌≡◌};
 ghost use Rattle.record_history.specs.Held.{records_of};
 ghost use Rattle.office_step.specs.Refusals.{month_after, next_to_close, household_rent_due};

@@ -1,3 +1,5 @@
+//! The day of an act.
+
 ghost use Rattle.std.specs.Prelude.{◌≡◌, ◌≤◌};
 ghost use Rattle.office_step.specs.Step.{day_after};
 

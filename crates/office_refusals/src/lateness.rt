@@ -1,3 +1,5 @@
+//! Refusals of a closing by households whose certification is overdue.
+
 ghost use Rattle.std.specs.Prelude.{◌≡◌, ◌≤◌, ◌+◌, length};
 ghost use Rattle.std.specs.Option.{option_or};
 ghost use Rattle.days_core.specs.OfficeDays.{last_office_month};

@@ -1,3 +1,5 @@
+//! The record that an act would make.
+
 ghost use Rattle.std.specs.Prelude.{◌≡◌, ◌≤◌, option_copied};
 ghost use Rattle.record_history.specs.Held.{records_of};
 ghost use Rattle.due_dates.specs.Stale.{unit_rents_on};

@@ -1,3 +1,5 @@
+//! Refusals of numbers that name nothing, and of what a clerk hasn't seen.
+
 ghost use Rattle.std.specs.Prelude.{◌≡◌, ◌&&◌, nat_le};
 ghost use Rattle.office_step.specs.declared.refusal.Refusal.TheVariants as refusal;
 ghost use Rattle.office_step.specs.declared.refusal.Named.TheVariants as named;

@@ -1,3 +1,5 @@
+//! What a certification is answered with.
+
 ghost use Rattle.std.specs.Prelude.{◌≡◌, ◌≤◌};
 ghost use Rattle.office_step.specs.Reply.{certified};
 

@@ -1,3 +1,5 @@
+//! The register: what an office knows, kept so that no question scans its acts.
+
 ghost use Rattle.std.specs.Prelude.{◌≡◌, true, Some, IfOk, is_some, min, max};
 ghost use Rattle.wait_list.specs.Rank.{best_rank};
 ghost use Rattle.office_step.specs.Acts.{ranks_of};

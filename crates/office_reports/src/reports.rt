@@ -1,3 +1,5 @@
+//! The reports of `due` and `targets`.
+
 ghost use Rattle.std.specs.Prelude.{◌≡◌, ◌++◌, IfOk, OnOk};
 ghost use Rattle.std.specs.List.{flat_map};
 ghost use Rattle.office_reports.specs.Reports.{admissions_text, due_line, due_text, targets_text, no_plan};

@@ -1,3 +1,5 @@
+//! Workers serve connections at a desk, which then ends.
+
 ghost use Rattle.std.specs.Prelude.{◌≡◌, ◌⊎◌, ◌≤◌, ◌<◌, [], ◌∷◌, All, length};
 ghost use Rattle.book_rows.specs.Book.{Book, book_of as rows_of};
 ghost use Rattle.office_io.specs.Outside.{Faulted};

@@ -1,3 +1,5 @@
+//! The law over all connections of a server.
+
 ghost use Rattle.office_server.specs.Together.{LinksShareAHistory};
 
 use http_front::sessions_share_a_history;

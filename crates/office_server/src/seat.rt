@@ -1,3 +1,5 @@
+//! A worker's seat at the desk.
+
 ghost use Rattle.std.specs.Prelude.{◌≡◌, IfSome};
 ghost use mathlib.Core.List.{IsPrefix};
 

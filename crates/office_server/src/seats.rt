@@ -1,3 +1,5 @@
+//! The passes and seats of all workers.
+
 ghost use Rattle.std.specs.Prelude.{◌≡◌, ◌<◌, ◌≤◌, ◌+◌, [], ◌∷◌, All, Contains, List, map, length, vec_capacity, ◌++◌, IfOk, IfErr, IfSome};
 ghost use Rattle.desk_history.specs.declared.views.{PassView.PassView, Start.Start};
 ghost use Rattle.shared_desk.specs.Passes.{AreFresh, IsFresh};

@@ -1,3 +1,5 @@
+//! A server, from opening its book to its exit status.
+
 ghost use Rattle.std.specs.Prelude.{◌≡◌, ◌<◌, ◌≤◌, [], None, IfOk, IfSome, string_bytes};
 ghost use Rattle.std.specs.Io.KnownBytes.{Keeps as KeepsBytes};
 ghost use Rattle.book_rows.specs.Book.{Book, book_of as rows_of};

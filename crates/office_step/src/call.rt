@@ -1,3 +1,5 @@
+//! A call: which clerk asks for what, by which request; and how much a book may hold.
+
 use book_rows::Command;
 
 /// What a clerk asks of the office.

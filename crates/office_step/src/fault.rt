@@ -1,3 +1,5 @@
+//! Where the tables of a book are not an office's.
+
 use book_rows::Table;
 
 /// Where the tables of a book go wrong.

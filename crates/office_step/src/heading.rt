@@ -1,3 +1,5 @@
+//! The part of a record that no figure is in.
+
 use days_core::Day;
 use record_history::{Dates, Kind};
 

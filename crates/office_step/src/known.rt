@@ -1,3 +1,5 @@
+//! What acts leave known beside the rows: applications, requests for other units, closings, and who would move.
+
 use book_rows::ApplyAct;
 use days_core::Month;
 

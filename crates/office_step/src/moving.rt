@@ -1,3 +1,5 @@
+//! A move into a unit.
+
 use days_core::Day;
 use wait_list::Candidate;
 

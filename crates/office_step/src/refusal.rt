@@ -1,3 +1,5 @@
+//! The refusals of an office, numbered in their one order.
+
 use days_core::{Day, Month};
 use wait_list::Candidate;
 

@@ -1,3 +1,5 @@
+//! What an accepted act is answered with.
+
 use days_core::{Day, Month};
 
 /// What an act made.

@@ -1,3 +1,5 @@
+//! The rightful first day of a record.
+
 use days_core::Day;
 
 /// On which days a record may begin.

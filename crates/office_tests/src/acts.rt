@@ -1,8 +1,10 @@
+//! An office's acts, accepted and refused.
+
 use crate::telling::{Known, act, command, tell, told};
+use office_core::admission_order::{next_for, targets};
 use office_core::office_acts::judge;
 use office_core::office_register::Register;
 use office_core::office_step::{Made, Named, Refusal};
-use office_core::office_turns::{next_for, targets};
 use sample_office::{
     ADMIT, APPLY, LIMITS, OTHER_UNIT, PLAN, RENTS, START, UNIT, day, month, office_day,
 };

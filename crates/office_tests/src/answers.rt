@@ -1,3 +1,5 @@
+//! The answers to questions.
+
 use crate::telling::{Known, told};
 use office_core::office_answers::{
     Admissions, Answer, Asked, BookLines, DueDay, HouseholdSummary, Question, Voucher, answer_to,

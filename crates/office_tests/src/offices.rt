@@ -1,3 +1,5 @@
+//! Offices that are opened, and calls that are sent twice.
+
 ghost use Rattle.std.specs.Prelude.{◌≡◌, true, IfOk};
 ghost use Rattle.office_core.specs.Below.office_step.Step.{is_fit_call};
 ghost use Rattle.office_core.specs.Judged.{PlansFor};

@@ -1,3 +1,5 @@
+//! What a register knows.
+
 use crate::telling::told;
 use office_core::office_register::Register;
 use office_core::office_step::Closed;

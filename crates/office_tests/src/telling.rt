@@ -1,3 +1,5 @@
+//! Acts that an office is told, as texts.
+
 ghost use Rattle.std.specs.Prelude.{◌≡◌, ◌≤◌, ◌<◌, ◌+◌, ◌^◌, length, true, IfOk, IfSome};
 ghost use Rattle.days_core.specs.OfficeDays.{last_office_month};
 ghost use Rattle.record_history.specs.Held.{IsWithin, room_of};

@@ -1,3 +1,5 @@
+//! An office that goes to another thread.
+
 use crate::offices::let_go;
 use office_core::Office;
 use office_core::office_step::Capacity;

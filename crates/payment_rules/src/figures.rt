@@ -1,3 +1,5 @@
+//! What a payment is made of.
+
 /// A month's payment for a unit, in whole dollars.
 #[derive(Clone, Copy, Debug, PartialEq, Eq, Hash)]
 pub struct Payment {

@@ -1,3 +1,5 @@
+//! The payment, and how it splits the rents.
+
 ghost use Rattle.std.specs.Prelude.{◌≡◌, ◌+◌, ◌≤◌};
 ghost use Rattle.payment_rules.specs.Payment.{share_of_adjusted, share_of_annual, payment_of, split_of};
 

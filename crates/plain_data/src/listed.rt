@@ -1,3 +1,5 @@
+//! A list of rows.
+
 use std::marker::Model;
 
 /// Rows in their order, which contracts see as a list.

@@ -1,3 +1,5 @@
+//! The want of memory.
+
 use std::alloc::{AllocError, AllocFailed};
 
 /// Memory ran out. No clause says when: a caller may meet it at any call that takes an allocator.

@@ -1,3 +1,5 @@
+//! A text that several own.
+
 use crate::NoMemory;
 use std::marker::Model;
 use std::sync::Arc;

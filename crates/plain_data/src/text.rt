@@ -1,3 +1,5 @@
+//! A text that one owns.
+
 use std::marker::Model;
 
 /// A text, which contracts see as the list of its bytes.

@@ -1,3 +1,5 @@
+//! The last answer of a run, with its exit status.
+
 ghost use Rattle.program_answers.specs.Answer.{Ends};
 
 use office_io::{Sink, write_whole};

@@ -1,3 +1,5 @@
+//! How large a book may be, and what a run says that can't open one.
+
 ghost use Rattle.std.specs.Prelude.{◌≡◌, ℕ, Option, List, IfOk, string_bytes};
 ghost use Rattle.batch_command.specs.Below.clerk_desk.Opening.{BlamesKeeper};
 ghost use Rattle.program_answers.specs.Opening.{Says, Tells, bad_book, door, table_name};

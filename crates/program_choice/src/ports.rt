@@ -1,3 +1,5 @@
+//! Ports, and the listeners that listen on them.
+
 use office_links::{Listener, TcpLinks};
 use std::net::{Net, TcpListener, TcpStream};
 

@@ -1,3 +1,5 @@
+//! The words choose a server or the program, which then runs.
+
 ghost use Rattle.std.specs.Prelude.{◌≡◌, ◌≤◌, None, Some, map, string_bytes};
 ghost use Rattle.command_words.specs.declared.serving.Serve.{Serve};
 ghost use Rattle.command_words.specs.Words.{serve_in};

@@ -1,3 +1,5 @@
+//! The program's batches.
+
 use crate::runs::{lines, ran};
 use book_rows::{Table, Tables};
 use keeper_core::{DamagedKeeper, MemoryKeeper, PlannedKeeper};

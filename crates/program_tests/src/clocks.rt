@@ -1,3 +1,5 @@
+//! A clock that goes on within a batch.
+
 ghost use Rattle.std.specs.Prelude.{◌≤◌};
 ghost use Rattle.days_core.specs.Calendar.{last_day};
 

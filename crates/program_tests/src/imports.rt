@@ -1,3 +1,5 @@
+//! The program's imports.
+
 use crate::runs::{act, ran};
 use book_rows::Table;
 use keeper_core::{DamagedKeeper, Keeper, MemoryKeeper, PlannedKeeper};

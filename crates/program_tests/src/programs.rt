@@ -1,3 +1,5 @@
+//! The program's words, and `assess`.
+
 use crate::runs::ran;
 use keeper_core::MemoryKeeper;
 use run_harness::{Told, Trial};

@@ -1,3 +1,5 @@
+//! The program's reports.
+
 use crate::runs::{act, five_months, ran};
 use book_rows::Table;
 use keeper_core::{DamagedKeeper, Keeper, MemoryKeeper, PlannedKeeper};

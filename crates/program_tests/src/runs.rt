@@ -1,3 +1,5 @@
+//! Runs on a keeper in memory.
+
 use keeper_core::Keeper;
 use office_io::Clock;
 use run_harness::{Told, Trial};

@@ -1,3 +1,5 @@
+//! The records of all households, held.
+
 use crate::force::{
     in_force_among, in_force_at, is_live_among, newest_act_among, newest_among, record_among,
 };

@@ -1,3 +1,5 @@
+//! Laws of the record in force.
+
 ghost use Rattle.std.specs.Prelude.{◌≤◌, ℕ, List, Contains};
 ghost use Rattle.record_history.specs.declared.records.Record.{Record};
 ghost use Rattle.record_history.specs.Records.{in_force, in_force_as_of};

@@ -1,3 +1,5 @@
+//! Which records count.
+
 ghost use Rattle.std.specs.Prelude.{◌≡◌, ◌==◌};
 ghost use Rattle.std.specs.List.{list_any};
 ghost use Rattle.record_history.specs.Records.{is_live, is_withdrawal};

@@ -1,3 +1,5 @@
+//! The order of records.
+
 ghost use Rattle.std.specs.Prelude.{◌≡◌, option_copied};
 ghost use Rattle.record_history.specs.Records.{comes_before, later};
 

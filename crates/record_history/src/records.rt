@@ -1,3 +1,5 @@
+//! A record.
+
 use days_core::{Day, Rents};
 
 /// Why a record was made.

@@ -1,3 +1,5 @@
+//! Runs of days with one record in force.
+
 ghost use Rattle.std.specs.Prelude.{◌≡◌, ◌≤◌, ◌+◌, ◌-◌, nat_eq, map, All, IfOk};
 ghost use Rattle.record_history.specs.Records.{as_of};
 ghost use Rattle.record_history.specs.Households.{IsIndexed};

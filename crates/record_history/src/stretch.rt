@@ -1,3 +1,5 @@
+//! Stretches of days with one key.
+
 ghost use Rattle.std.specs.Prelude.{◌≡◌, List, reverse, OnOk, OnErr};
 ghost use Rattle.record_history.specs.Stretch.{with_day};
 

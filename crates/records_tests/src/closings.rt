@@ -1,3 +1,5 @@
+//! Closings and their lines.
+
 use record_history::{History, Kind, Record};
 use sample_office::{day, hold, month, record};
 use std::alloc::Global;

@@ -1,3 +1,5 @@
+//! Rows and acts that are found.
+
 use book_rows::ActRow;
 use book_search::{
     act_key, act_of_number, act_of_other_body, act_of_request, act_of_same_body, lines_of_act,

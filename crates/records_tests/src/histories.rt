@@ -1,3 +1,5 @@
+//! What was known at each act.
+
 use record_history::{History, Kind, Record, Run};
 use sample_office::{day, history_of, record};
 use std::alloc::Global;

@@ -1,3 +1,5 @@
+//! Keepers in memory.
+
 ghost use Rattle.std.specs.Prelude.{◌≡◌, ◌<◌, ◌+◌, ℕ, length, slice_index_or, true, IsTrue};
 ghost use Rattle.std.specs.Str.{is_utf8};
 ghost use Rattle.book_rows.specs.Book.{Book, book_of, IsBatch, IsBefore};

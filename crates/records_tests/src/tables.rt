@@ -1,3 +1,5 @@
+//! Tables of a book.
+
 use book_rows::{Batch, Tables, is_name, same_act, same_line};
 use plain_data::Listed;
 use sample_office::{CLOSE_JANUARY, act_row, body, line};

@@ -1,3 +1,5 @@
+//! Order of records, and who has a unit.
+
 ghost use Rattle.std.specs.Prelude.{◌≡◌, ◌+◌};
 ghost use Rattle.record_history.specs.Held.{records_of};
 ghost use Rattle.tenancy_rules.specs.Changed.{AddsNext};

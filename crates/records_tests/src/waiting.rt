@@ -1,3 +1,5 @@
+//! Who is next.
+
 use rent_table::LimitRow;
 use sample_office::{day, limit_row, plan, unit};
 use std::alloc::Global;

@@ -1,6 +1,7 @@
+//! Files that are opened again after a stop.
+
 use book_recovery::{Reopened, reopen, restart};
 use book_rows::{ActRow, Batch, Tables};
-use book_statements::write_batch;
 use keeper_core::Loaded;
 use keeper_sqlite::SqliteKeeper;
 use plain_data::{Listed, SharedText};
@@ -9,6 +10,7 @@ use sqlite::{FileStore, Files, Options};
 use sqlite_disk::{Crash, Disk, Memory};
 use std::alloc::Global;
 use std::process::Abort;
+use store_write::write_batch;
 
 /// An act of that number, which made no record.
 fn act(rt: &impl Abort, alloc: Global, n: u32) -> Batch {

@@ -1,3 +1,5 @@
+//! Which units suit, and who may be admitted by income.
+
 ghost use Rattle.std.specs.Prelude.{◌≡◌, ◌≤◌};
 ghost use Rattle.rent_table.specs.Admission.{suits, admission_limit, has_extremely_low_income};
 

@@ -1,3 +1,5 @@
+//! Laws of the rows that stand on a day, and of units found.
+
 ghost use Rattle.std.specs.Prelude.{◌≡◌, ◌≢◌, ◌↔◌, ℕ, None, Some, List, All, Contains};
 ghost use Rattle.days_core.specs.declared.rents.Rents.{Rents};
 ghost use Rattle.rent_table.specs.declared.rows.Unit.{Unit as UnitRow};

@@ -1,3 +1,5 @@
+//! The plan.
+
 use days_core::Month;
 use plain_data::Listed;
 

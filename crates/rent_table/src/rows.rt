@@ -1,3 +1,5 @@
+//! Units, and rows of rents and limits.
+
 use days_core::{Day, Rents};
 use plain_data::Text;
 

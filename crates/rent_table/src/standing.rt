@@ -1,3 +1,5 @@
+//! The row that stands on a day.
+
 ghost use Rattle.std.specs.Prelude.{◌≡◌};
 ghost use Rattle.std.specs.Option.{option_copied};
 ghost use Rattle.row_choice.specs.Latest.{comes_before, later, latest};

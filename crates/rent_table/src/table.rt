@@ -1,3 +1,5 @@
+//! The property of an office, held.
+
 ghost use Rattle.std.specs.Prelude.{◌≡◌, ◌+◌, ◌<◌, ◌≤◌, [], ◌∷◌, ◌++◌, All, OnOk, IfOk, IsOk};
 ghost use Rattle.std.specs.Option.{option_copied};
 ghost use Rattle.rent_table.specs.Table.{unit_at, unit_named, rents_on, limits_on};

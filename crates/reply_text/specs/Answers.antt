@@ -4,8 +4,8 @@ use Rattle.serde_json.specs.{Data.Data, Data.null, Data.boolean, Data.string, Da
 use Rattle.json_form.specs.Written.{number_data, amount_data, day_data, month_data, text_data, or_null, array_data}
 use Rattle.record_history.specs.declared.records.{Kind.Kind, Dates.Dates, Record.Record}
 use Rattle.voucher_core.specs.declared.line.Line.{Line}
-use Rattle.office_answers.specs.declared.answer.{HouseholdSummary.HouseholdSummary, Voucher.Voucher, DueDay.DueDay, Admissions.Admissions, Answer.Answer, Asked.Asked}
-use Rattle.reply_text.specs.Refusals.{candidate_data, refusal_data, failure_data}
+use Rattle.office_answers.specs.declared.answer.{HouseholdSummary.HouseholdSummary, Voucher.Voucher, DueDay.DueDay, Admissions.Admissions, Answer.Answer}
+use Rattle.reply_text.specs.Refusals.{candidate_data}
 
 -- ---- households and records
 
@@ -101,11 +101,3 @@ answer_data (Answer.Targets targets) = targets_data targets
 -- the text of an answer
 abbrev pub answer_text : Answer → List ℕ
 answer_text told = compact_text (answer_data told)
-
--- why there is no answer: as any refusal
-abbrev pub asked_data : Asked → Data
-asked_data (Asked.Refused why) = refusal_data why
-asked_data Asked.NoMemory = failure_data (codes "NoMemory")
-
-abbrev pub asked_text : Asked → List ℕ
-asked_text told = compact_text (asked_data told)

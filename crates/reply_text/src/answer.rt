@@ -1,14 +1,15 @@
+//! Answers in JSON.
+
 ghost use Rattle.std.specs.Prelude.{◌≡◌, IfOk};
 ghost use Rattle.serde_json.specs.View.{view};
-ghost use Rattle.reply_text.specs.Answers.{household_data, due_day_data, targets_data, answer_data, answer_text, asked_data, asked_text};
+ghost use Rattle.reply_text.specs.Answers.{household_data, due_day_data, targets_data, answer_data, answer_text};
 
 use crate::members::one;
 use crate::record::record_value;
-use crate::refusal::{failure_value, refusal_value};
 use crate::values::next_member;
 use crate::voucher::voucher_value;
 use json_form::{Exact, Members, Writer, array_by};
-use office_answers::{Admissions, Answer, Asked, DueDay, HouseholdSummary};
+use office_answers::{Admissions, Answer, DueDay, HouseholdSummary};
 use plain_data::{NoMemory, Text};
 use std::alloc::Global;
 
@@ -17,13 +18,6 @@ pub fn text_of_answer(alloc: Global, answer: &Answer) -> Result<Text, NoMemory>
     ensures { IfOk result (λ text. text ≡ answer_text answer.now) }
 {
     answer_value(alloc, answer)?.text(alloc)
-}
-
-/// The text that tells why a question has no answer.
-pub fn text_of_asked(alloc: Global, asked: &Asked) -> Result<Text, NoMemory>
-    ensures { IfOk result (λ text. text ≡ asked_text asked.now) }
-{
-    asked_value(alloc, asked)?.text(alloc)
 }
 
 fn answer_value(alloc: Global, answer: &Answer) -> Result<Exact, NoMemory>
@@ -40,15 +34,6 @@ fn answer_value(alloc: Global, answer: &Answer) -> Result<Exact, NoMemory>
             Ok(Members::new(alloc).with_value("due", due)?.done())
         }
         Answer::Targets(targets) => targets_value(alloc, targets),
-    }
-}
-
-fn asked_value(alloc: Global, asked: &Asked) -> Result<Exact, NoMemory>
-    ensures { IfOk result (λ exact. view exact.value ≡ asked_data asked.now) }
-{
-    match asked {
-        Asked::Refused(why) => refusal_value(alloc, why),
-        Asked::NoMemory => failure_value(alloc, "NoMemory"),
     }
 }
 

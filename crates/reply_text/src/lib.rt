@@ -9,5 +9,5 @@ mod reply;
 mod values;
 mod voucher;
 
-pub use answer::{text_of_answer, text_of_asked};
+pub use answer::text_of_answer;
 pub use reply::{text_of_bad_form, text_of_reply};

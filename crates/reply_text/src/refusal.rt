@@ -1,3 +1,5 @@
+//! Refusals in JSON, each with its number, name and fields.
+
 ghost use Rattle.std.specs.Prelude.{◌≡◌, IfOk};
 ghost use Rattle.serde_json.specs.View.{view, members_view};
 ghost use Rattle.office_answers.specs.Below.office_step.Numbers.{number_of, name_of};

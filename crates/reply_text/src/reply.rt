@@ -1,3 +1,5 @@
+//! Replies in JSON.
+
 ghost use Rattle.std.specs.Prelude.{◌≡◌, IfOk};
 ghost use Rattle.serde_json.specs.View.{view};
 ghost use Rattle.reply_text.specs.Replies.{made_data, done_data, reply_data, reply_text, bad_form_text};

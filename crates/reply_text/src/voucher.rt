@@ -1,3 +1,5 @@
+//! A closing's request for payment, in JSON.
+
 ghost use Rattle.std.specs.Prelude.{◌≡◌, Some, IfOk};
 ghost use Rattle.serde_json.specs.View.{view};
 ghost use Rattle.reply_text.specs.Answers.{line_data, voucher_data};

@@ -1,3 +1,5 @@
+//! Laws of the latest row and of the first day.
+
 ghost use Rattle.row_choice.specs.Latest.{LatestIsLast};
 ghost use Rattle.row_choice.specs.FirstDay.{FirstDayIsABeginning};
 

@@ -1,3 +1,5 @@
+//! The index: entries by key, found by halves.
+
 use std::alloc::{AllocError, Global};
 use std::marker::Model;
 

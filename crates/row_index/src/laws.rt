@@ -1,3 +1,5 @@
+//! Laws of an index over rows.
+
 ghost use Rattle.row_index.specs.Laws.{IndexFinds, IndexGrows, RequestKeysDiffer};
 
 /// The row at the place that the index gives is the first row of that key. It does nothing.

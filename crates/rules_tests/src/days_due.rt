@@ -1,3 +1,5 @@
+//! Days that are due.
+
 use days_core::{Day, day_of_text};
 use due_dates::{Due, gross_day, overdue, rent_due_day, rightful_day};
 use record_history::{Dates, History, Kind, Record};

@@ -1,3 +1,5 @@
+//! Deductions.
+
 use days_core::Day;
 use deduction_rules::{Allowances, adjusted_income};
 use facts_core::{Facts, IncomeKind, Member, Relation, broken_rule};

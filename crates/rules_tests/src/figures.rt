@@ -1,3 +1,5 @@
+//! What facts come to.
+
 use certified_figures::{Figures, figures_carried, figures_of_facts, no_figures};
 use days_core::Day;
 use facts_core::{Facts, IncomeKind, Relation, broken_rule};

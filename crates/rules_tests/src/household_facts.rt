@@ -1,3 +1,5 @@
+//! The facts of a household.
+
 use days_core::Day;
 use facts_core::{
     Facts, IncomeKind, Member, Relation, broken_rule, facts_of_value, value_of_facts,

@@ -1,3 +1,5 @@
+//! Incomes.
+
 use days_core::Day;
 use facts_core::{Asset, Disposal, Facts, Income, IncomeKind, Member, Relation, broken_rule};
 use income_rules::{annual_income, counted_earned, net_assets};

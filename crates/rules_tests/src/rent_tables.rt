@@ -1,3 +1,5 @@
+//! Units, rents and limits.
+
 ghost use Rattle.std.specs.Prelude.{◌≡◌, ◌<◌, ◌++◌, [], ◌∷◌, All};
 
 use rent_table::{

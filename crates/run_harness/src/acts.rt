@@ -1,3 +1,5 @@
+//! Acts as lines of a batch.
+
 use crate::runs::{Told, ran, without_fault};
 use keeper_core::Keeper;
 use sample_office::{PLAN, RENTS, START, UNIT, written};

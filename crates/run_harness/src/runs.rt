@@ -1,3 +1,5 @@
+//! A run of the program in memory, and what it told.
+
 use keeper_core::Keeper;
 use office_io::{Clock, FixedClock, MemorySink, MemorySource};
 use office_prog::run;

@@ -1,3 +1,5 @@
+//! Calls and tables that tests of desks begin with.
+
 ghost use Rattle.std.specs.Prelude.{◌≡◌, ◌↔◌, ◌≤◌, true, [], IfOk};
 ghost use Rattle.book_rows.specs.Book.{Book, empty_book};
 ghost use Rattle.book_rows.specs.Fit.{is_fit};

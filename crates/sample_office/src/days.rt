@@ -1,3 +1,5 @@
+//! Days and months of the sample.
+
 ghost use Rattle.std.specs.Prelude.{◌≤◌};
 ghost use Rattle.days_core.specs.OfficeDays.{last_office_day};
 

@@ -1,3 +1,5 @@
+//! The sample's household.
+
 use days_core::Day;
 use facts_core::{Facts, Income, IncomeKind, Member, Relation};
 use plain_data::{Listed, NoMemory};

@@ -1,3 +1,5 @@
+//! The sample's records.
+
 ghost use Rattle.std.specs.Prelude.{◌≡◌, ◌≤◌, None};
 
 use crate::property::rents;

@@ -1,3 +1,5 @@
+//! The sample's rows.
+
 ghost use Rattle.std.specs.Prelude.{◌≡◌, IfOk};
 
 use crate::days::{day, month};

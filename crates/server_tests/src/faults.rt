@@ -1,3 +1,5 @@
+//! Servers whose accepts, sinks and keepers fail.
+
 use crate::serving::{ends, has_given_back, links, serve, small_office};
 use book_rows::Table;
 use keeper_core::{DamagedKeeper, MemoryKeeper, PlannedKeeper};

@@ -1,3 +1,5 @@
+//! What a session writes to its messages.
+
 ghost use Rattle.std.specs.Prelude.{◌≡◌, ◌↔◌, []};
 ghost use Rattle.book_rows.specs.Book.{Book};
 ghost use Rattle.desk_history.specs.declared.views.View.TheVariants.{Blank};

@@ -1,3 +1,5 @@
+//! Two links of which each waits for the other.
+
 use crate::serving::{RAISED, small_office};
 use gated_links::{Gate, GatedSink, GatedSource, gated_link};
 use office_io::{FixedClock, MemorySink};

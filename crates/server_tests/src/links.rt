@@ -1,3 +1,5 @@
+//! Links that are served on one book.
+
 use crate::serving::{ends, has_given_back, links, serve, serve_by, small_office};
 use sample_office::post;
 

@@ -1,3 +1,5 @@
+//! Servers that tests run, and what they told.
+
 ghost use Rattle.std.specs.Prelude.{◌≤◌};
 
 use keeper_core::{Keeper, MemoryKeeper};

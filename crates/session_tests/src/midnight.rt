@@ -1,3 +1,5 @@
+//! A session whose clock turns.
+
 ghost use Rattle.std.specs.Prelude.{◌≡◌, ◌↔◌, []};
 ghost use Rattle.book_rows.specs.Book.{Book, empty_book};
 ghost use Rattle.desk_history.specs.declared.views.View.TheVariants.{Blank};

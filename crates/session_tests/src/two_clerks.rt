@@ -1,3 +1,5 @@
+//! Two clerks' sessions at one desk.
+
 ghost use Rattle.std.specs.Prelude.{◌≡◌, ◌↔◌, []};
 ghost use Rattle.book_rows.specs.Book.{Book, book_of};
 ghost use Rattle.desk_history.specs.declared.views.View.TheVariants.{Blank};

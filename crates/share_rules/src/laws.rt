@@ -1,3 +1,5 @@
+//! The law that shares total their part.
+
 ghost use Rattle.share_rules.specs.Law.{SharesTotalTheirPart, NoShareIsAboveTheAmount};
 
 /// The shares of the days up to any one are the amount's part in proportion, to the nearest dollar. It does nothing.

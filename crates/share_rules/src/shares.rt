@@ -1,3 +1,5 @@
+//! Shares of days.
+
 ghost use Rattle.std.specs.Prelude.{◌≡◌, ◌≤◌};
 ghost use Rattle.days_core.specs.RentBounds.{most_gross_rent};
 ghost use Rattle.share_rules.specs.Shares.{share_to, day_share, run_share};

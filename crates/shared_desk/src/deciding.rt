@@ -1,3 +1,5 @@
+//! What is decided of a call while its pass is held.
+
 ghost use Rattle.std.specs.Prelude.{◌≡◌, ◌≤◌, ℕ, true, []};
 ghost use Rattle.office_core.specs.Below.office_step.declared.call.Call.{Call};
 ghost use Rattle.office_core.specs.Below.office_step.Step.{step, appends, is_fit_call};

@@ -1,3 +1,5 @@
+//! Laws of legal histories.
+
 ghost use Rattle.shared_desk.specs.History.{HistoriesGoOn, HistoriesWereLegal, HistoriesAreReached, HistoriesAreFew, HistoriesAreUpheld};
 
 use office_core::office_laws::{acts_give_the_book, books_are_kept, books_are_upheld};

@@ -1,3 +1,5 @@
+//! What lies behind the lock of a desk, and what is done while it is held.
+
 ghost use Rattle.std.specs.Prelude.{◌≡◌, ℕ, ◌+◌, true, [], All, length};
 ghost use Rattle.office_core.specs.Below.office_answers.{Answered.Answers, Answering.answer_to};
 ghost use Rattle.office_core.specs.Below.office_step.Step.{is_fit_call};

@@ -1,3 +1,5 @@
+//! The name of a desk, by which contracts tell it from others.
+
 use std::marker::Brand;
 
 /// Which desk it is, and what was known when it was opened. A program picks it at the call that opens the desk.

@@ -1,3 +1,5 @@
+//! A desk is opened, hands out passes, and ends.
+
 ghost use Rattle.std.specs.Prelude.{◌≡◌, ◌≤◌, ◌<◌, ◌+◌, None, Err, [], IfOk, IfErr, OnOk, IsOk};
 ghost use Rattle.std.specs.VecDeque.{deque_capacity};
 ghost use Rattle.book_rows.specs.Book.{Book, book_of as rows_of};

@@ -1,3 +1,5 @@
+//! Passes and notes.
+
 use crate::naming::Naming;
 use desk_history::HistoryBadge;
 use std::marker::{Model, PhantomData};

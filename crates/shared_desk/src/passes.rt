@@ -1,3 +1,5 @@
+//! All passes of a desk, made when it is opened.
+
 ghost use Rattle.std.specs.Prelude.{◌≡◌, ◌≤◌, [], length};
 ghost use Rattle.std.specs.VecDeque.{deque_capacity};
 ghost use Rattle.desk_history.specs.declared.views.View.TheVariants.{Free};

@@ -1,3 +1,5 @@
+//! A desk as its threads use it.
+
 ghost use Rattle.std.specs.Prelude.{◌≡◌, ℕ, true, []};
 ghost use mathlib.Core.List.{IsPrefix};
 ghost use Rattle.office_core.specs.Below.office_answers.{Answered.Answers, Answering.answer_to};

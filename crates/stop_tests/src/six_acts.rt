@@ -1,3 +1,5 @@
+//! Six acts at a desk on a file, and what they leave.
+
 ghost use Rattle.std.specs.Prelude.{◌≡◌, ◌≤◌, true, []};
 ghost use Rattle.book_rows.specs.Book.{Book};
 ghost use Rattle.office_core.specs.Below.office_step.Step.{is_fit_call};

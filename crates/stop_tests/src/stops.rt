@@ -1,3 +1,5 @@
+//! A desk stopped at each call of its disks.
+
 use crate::six_acts::{Told, Wanted, all_wanted, first_day, next_day, worked_over};
 use fused_disks::{Disks, Kept, after_stop, are_frozen, new_disks};
 use office_core::office_answers::Reply;

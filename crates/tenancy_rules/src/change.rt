@@ -1,3 +1,5 @@
+//! A change of one household's records.
+
 use record_history::Record;
 
 /// What an act does to the live records of one household.

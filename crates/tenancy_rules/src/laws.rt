@@ -1,3 +1,5 @@
+//! Laws of order and of who has a unit.
+
 ghost use Rattle.std.specs.Prelude.{◌≡◌, ◌<◌, ◌+◌};
 ghost use Rattle.record_history.specs.{Held.records_of, Records.newest_number};
 ghost use Rattle.tenancy_rules.specs.Law.{UnitsChangeByTransfer, NothingFollowsMoveOut, NoUnitHasTwo, DoubleUseHasTwo, ChangeIsWhatLives};

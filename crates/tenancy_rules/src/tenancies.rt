@@ -1,3 +1,5 @@
+//! The records of all households, with who was ever in which unit.
+
 use crate::Change;
 use crate::occupancy::double_use_by;
 use crate::uses::{Use, tell};

@@ -1,3 +1,5 @@
+//! The lines of all closings, held.
+
 ghost use Rattle.std.specs.Prelude.{◌≡◌, ◌≤◌, ℤ, pos, negsuc, ◌≤ℤ◌, if◌then◌else◌, length};
 ghost use Rattle.voucher_core.specs.Lines.{is_for, paid};
 

@@ -1,3 +1,5 @@
+//! What is certified for a month.
+
 ghost use Rattle.std.specs.Prelude.{◌≡◌, ◌≤◌};
 ghost use Rattle.days_core.specs.RentBounds.{most_gross_rent};
 ghost use Rattle.days_core.specs.Calendar.{days_in};

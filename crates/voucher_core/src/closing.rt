@@ -1,3 +1,5 @@
+//! The lines of a closing.
+
 ghost use Rattle.std.specs.Prelude.{◌≡◌, ◌≤◌, ◌<◌, ◌^◌, length, IfOk};
 ghost use Rattle.days_core.specs.OfficeDays.{first_office_month, last_office_month};
 ghost use Rattle.record_history.specs.Held.{records_of};

@@ -1,3 +1,5 @@
+//! Laws of closings and their lines.
+
 ghost use Rattle.voucher_core.specs.Law.{ClosingSettles, NothingIsSettled, SettledPaysNoOther, CertifiedStays, SettledStays, PaidIsTheSum};
 ghost use Rattle.voucher_core.specs.Naming.{LinesNameTheirPairs, ChangesAreLongest, NumberTellsAssistance, NumbersMakeTheRuns};
 ghost use Rattle.voucher_core.specs.EachRun.{LinesTellEachRun};

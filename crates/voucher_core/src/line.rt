@@ -1,3 +1,5 @@
+//! A line.
+
 use days_core::{Day, Month};
 
 /// One line of a closing: what is claimed, or taken back, for some days of a month.

@@ -1,3 +1,5 @@
+//! What lines come to.
+
 ghost use Rattle.std.specs.Prelude.{◌≡◌, ◌≤◌, pos, negsuc, ◌≤ℤ◌, length};
 ghost use Rattle.voucher_core.specs.Lines.{total};
 

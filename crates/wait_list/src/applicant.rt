@@ -1,3 +1,5 @@
+//! An applicant.
+
 /// A family that waits for a unit.
 #[derive(Clone, Copy, Debug, PartialEq, Eq)]
 pub struct Applicant {

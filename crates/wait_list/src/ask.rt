@@ -1,3 +1,5 @@
+//! What is asked of a waiting list, and who may be the answer.
+
 use rent_table::{LimitRow, Plan, Unit};
 
 /// Who may be given a unit, by the number of the applicant or of the household that would move there.

@@ -1,3 +1,5 @@
+//! Laws of who is next.
+
 ghost use Rattle.wait_list.specs.Law.{NextIsRightful};
 ghost use Rattle.wait_list.specs.{Wanted.WantedIsPlain, Wanted.RankIsPlain, RightfulNext.NextIsPlain};
 

@@ -1,3 +1,5 @@
+//! The waiting list, held.
+
 use crate::next::next_among;
 use crate::ranking::{put_in, take_out};
 use crate::{Applicant, Ask, Candidate};

@@ -1,3 +1,5 @@
+//! Ranks by preferences.
+
 ghost use Rattle.std.specs.Prelude.{◌≡◌, min};
 ghost use Rattle.std.specs.Option.{option_map_or};
 ghost use Rattle.wait_list.specs.Rank.{rank_of, best_rank};

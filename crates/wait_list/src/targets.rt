@@ -1,3 +1,5 @@
+//! Targets of a fiscal year.
+
 ghost use Rattle.std.specs.Prelude.{◌≡◌};
 ghost use Rattle.wait_list.specs.Target.{wants_extremely_low};
 

@@ -1,3 +1,5 @@
+//! Applicants of CSV.
+
 use applicant_rows::{ImportFault, ImportRow, applicants_of_csv};
 use book_rows::{ApplyAct, Command};
 use plain_data::{Listed, Text};

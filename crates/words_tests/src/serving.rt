@@ -1,3 +1,5 @@
+//! The words of a server, and the book before them.
+
 use crate::words::split;
 use command_words::{Serve, book_and_words, serve_words};
 

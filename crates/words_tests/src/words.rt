@@ -1,3 +1,5 @@
+//! The words of each command.
+
 use command_words::{Subcommand, subcommand_in};
 use days_core::{Day, Month, day_of_text, month_of_text};
 use plain_data::NoMemory;

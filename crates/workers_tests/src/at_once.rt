@@ -1,3 +1,5 @@
+//! Two links at once.
+
 use crate::seat::Echo;
 use gated_links::{Gate, gated_link};
 use link_workers::serve_all;

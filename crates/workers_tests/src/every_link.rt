@@ -1,3 +1,5 @@
+//! Each link is served once, by however many workers.
+
 ghost use Rattle.std.specs.Prelude.{◌<◌};
 
 use crate::seat::Echo;

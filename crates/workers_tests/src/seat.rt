@@ -1,3 +1,5 @@
+//! A seat that echoes what comes.
+
 use link_workers::Seat;
 use office_io::{Got, Put, Sink, Source};
 use std::alloc::Global;

@@ -1,3 +1,5 @@
+//! Workers at connections over TCP.
+
 use crate::seat::Echo;
 use link_workers::serve_all;
 use office_links::TcpLinks;

@@ -3,7 +3,7 @@ use Rattle.sqlite.specs.Held.{state}
 use Rattle.book_rows.specs.Book.{Book, IsBefore}
 use Rattle.keeper_core.specs.declared.keeper.Committed.{Committed}
 use Rattle.keeper_core.specs.Keeping.{Keeps, Commits, LeavesOrCommits}
-use Rattle.book_statements.specs.Effects.{BatchTrees}
+use Rattle.store_write.specs.Effects.{BatchTrees}
 use Rattle.keeper_sqlite.specs.Told.{Kept, Holds, HoldsBad, IsWell, CrashLeaves, TellsCrash, GoesOn, CommitsOn, LeavesBooks, FailsByFault}
 use Rattle.std.proofs.lemmas.Bool.{both_ways}
 use Rattle.keeper_sqlite.proofs.Taking.{failed_by_fault}

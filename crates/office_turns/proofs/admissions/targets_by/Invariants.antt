@@ -1,5 +1,0 @@
-use Rattle.office_turns.proofs.Counted.{SoFar}
-use Rattle.office_turns.proofs.admissions.targets_by.Given as goal
-
-abbrev pub invariant-loop-place : goal.invariant-loop-place
-invariant-loop-place l = SoFar l.plan l.fn.day l.history.households l.place l.admitted l.extremely

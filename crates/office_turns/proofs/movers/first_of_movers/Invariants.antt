@@ -1,9 +1,0 @@
-use Rattle.std.specs.Prelude.{◌≡◌, filter}
-use Rattle.std.specs.List.{range_with_len, filter_map}
-use Rattle.office_step.specs.Candidates.{mover_of}
-use Rattle.office_turns.specs.Turns.{is_turn, first_of_movers}
-use Rattle.office_turns.proofs.movers.first_of_movers.Given as goal
-
-abbrev pub invariant-loop-place : goal.invariant-loop-place
-invariant-loop-place l =
-    l.first ≡ first_of_movers (filter (is_turn l.vacancy.unit.now.accessible l.needing) (filter_map (mover_of l.vacancy.plan.now l.vacancy.unit.now l.vacancy.day l.vacancy.requests.now l.vacancy.history.now.households) (range_with_len 1 l.place)))

@@ -1,5 +1,0 @@
-use Rattle.std.proofs.Common.{refl}
-use Rattle.office_turns.proofs.next.next_if.Goals as goal
-
-pub returns : goal.returns
-returns c = simp (c.next_for.ensures, c.list.ensures.waiting, c.limits_on.ensures.value, c.table.ensures.limits) refl

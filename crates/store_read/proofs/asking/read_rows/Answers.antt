@@ -1,0 +1,61 @@
+use Rattle.std.proofs.Common.{[], not, refl, sym, ap, subst, ◌∙◌, rules, arith}
+use Rattle.sqlite.specs.State.{HasCleanDisk, IsUnchanged}
+use Rattle.sqlite.specs.Held.{state}
+use Rattle.sqlite.specs.Given.{HasBegun}
+use Rattle.sqlite.proofs.StateLemmas.{survives_then}
+use Rattle.store_read.specs.Asking.{OnlyReads}
+use Rattle.store_read.proofs.Asked.{fails, ended_undoes, commits_nothing, HasReadAs, begins, reads_more, reads_all}
+use Rattle.store_read.proofs.asking.read_rows.Goals as goal
+
+pub returns-in_err-rows-clause-undone : goal.returns-in_err-rows-clause-undone
+returns-in_err-rows-clause-undone g c clean =
+    let old = state g.S.Store c.args.conn.now in
+    let new = state g.S.Store c.query.follows.lender-at-none in
+    let refused = rw c.in_err-rows.was at c.query.follows.holds-at-none in
+    ended_undoes old new (c.requires.alone, c.is_autocommit-is_alone.ensures.settled (c.is_autocommit-is_alone.ensures.value ∙ ap not c.requires.alone)) (fails old new c.args.sql.now [] _ (refused.err clean))
+
+pub returns-in_err-rows-clause-survives : goal.returns-in_err-rows-clause-survives
+returns-in_err-rows-clause-survives g c =
+    let old = state g.S.Store c.args.conn.now in
+    let new = state g.S.Store c.query.follows.lender-at-none in
+    let refused = rw c.in_err-rows.was at c.query.follows.holds-at-none in
+    commits_nothing c.args.sql.now [] old new (subst OnlyReads (sym c.requires.text) c.requires.reads) refused.survives
+
+pub rows-init : goal.rows-init
+rows-init g c =
+    let made = c.in_ok-rows.ensures in
+    let now = c.in_ok-rows.rows.conn.now in (
+      refl,
+      made.mode c.requires.alone,
+      commits_nothing c.args.sql.now [] (state g.S.Store c.args.conn.now) (state g.S.Store now) (subst OnlyReads (sym c.requires.text) c.requires.reads) made.survives,
+      λ clean. subst (HasReadAs g.S.Store g.T.ShownRow.values g.T.ShownRow.text c.args.conn.now now) (sym c.new-read.ensures)
+          (begins g.S.Store g.T.ShownRow.values g.T.ShownRow.text c.args.conn.now now c.requires.reads (subst (λ s. HasBegun g.S.Store s [] c.args.conn.now now) c.requires.text (made.begun clean))),
+    )
+
+pub returns-in_default-clause-shown : goal.returns-in_default-clause-shown
+returns-in_default-clause-shown g c clean =
+    let moved = c.next.follows.holds-at-none in
+    let now = c.next.follows.lender-at-none.conn.now in
+    let late : HasCleanDisk (state g.S.Store now) = search rules in
+    let was = c.rows.invariant.3 (omega (arith, moved.survives.clean, late)) in
+    let same : IsUnchanged (state g.S.Store c.rows.rows.conn.now) (state g.S.Store now) = rw c.in_ok-row.was at (moved.same late) in
+    let on = rw (c.in_ok-row.was, c.in_default.is) at (moved.ok late) in
+    let all = reads_all g.S.Store g.T.ShownRow.values g.T.ShownRow.text c.args.conn.now c.rows.rows.conn.now now c.rows.read was on same in
+    search rules
+
+pub rows-preserved : goal.rows-preserved
+rows-preserved g c =
+    let moved = c.next.follows.holds-at-none in
+    let was = c.rows.rows.conn.now in
+    let now = c.next.follows.lender-at-none.conn.now in (
+      moved.same_reference ∙ c.rows.invariant.0,
+      moved.mode c.rows.invariant.1,
+      survives_then (state g.S.Store c.args.conn.now) (state g.S.Store was) (state g.S.Store now) (λ _. ⊥) (λ _. ⊥) (λ _. ⊥) (λ _ _ none. none) (λ _ _ none. none) c.rows.invariant.2 moved.survives,
+      λ clean.
+          let before = c.rows.invariant.3 (omega (arith, moved.survives.clean, clean)) in
+          let same : IsUnchanged (state g.S.Store was) (state g.S.Store now) = rw c.in_ok-row.was at (moved.same clean) in
+          let on = rw (c.in_ok-row.was, c.in-Some.is) at (moved.ok clean) in
+          let one = c.in_ok-of_row in
+          subst (HasReadAs g.S.Store g.T.ShownRow.values g.T.ShownRow.text c.args.conn.now now) (sym c.in_ok-hold.ensures)
+          (reads_more g.S.Store g.T.ShownRow.values g.T.ShownRow.text c.args.conn.now was now c.rows.read c.in-Some.row.now one.field-0 before on same one.ensures),
+    )

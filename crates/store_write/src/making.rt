@@ -1,0 +1,61 @@
+//! The tables are made.
+
+ghost use Rattle.std.specs.Prelude.{◌≡◌, OnOk, OnErr, IsTrue};
+ghost use Rattle.sqlite.specs.{State.HasCleanDisk, State.KeepsCommit, State.Survives, Held.state};
+ghost use Rattle.store_sql.specs.Schema.{no_schema};
+ghost use Rattle.store_write.specs.Effects.{Ran, IsMade, Makes, Undoes, MadeTrees};
+
+use sqlite::{Alter, Connection, Error, Transaction};
+
+fn create<S: Alter>(tx: &mut Transaction<'_, S>, sql: &str) -> Result<(), Error>
+    ensures same_reference { tx.new.conn.ghost_name ≡ tx.old.conn.ghost_name }
+    ensures ran { HasCleanDisk (state S.Store tx.new.conn.now) → OnOk result (Ran sql.now (state S.Store tx.old.conn.now) (state S.Store tx.new.conn.now)) }
+    ensures inside { HasCleanDisk (state S.Store tx.new.conn.now) → OnOk result (IsTrue (state S.Store tx.new.conn.now).in_transaction) }
+    ensures open { HasCleanDisk (state S.Store tx.new.conn.now) → OnOk result (IsTrue (state S.Store tx.new.conn.now).is_open) }
+    ensures kept { HasCleanDisk (state S.Store tx.new.conn.now) → KeepsCommit (state S.Store tx.old.conn.now) (state S.Store tx.new.conn.now) }
+    ensures survives { Survives (state S.Store tx.old.conn.now) (state S.Store tx.new.conn.now) (λ _. ⊥) }
+{
+    tx.execute(sql, &[])?;
+    Ok(())
+}
+
+fn create_tables<S: Alter>(tx: &mut Transaction<'_, S>) -> Result<(), Error>
+    ensures same_reference { tx.new.conn.ghost_name ≡ tx.old.conn.ghost_name }
+    ensures made { HasCleanDisk (state S.Store tx.new.conn.now) → OnOk result ((state S.Store tx.old.conn.now).now.schema ≡ no_schema → IsMade (state S.Store tx.new.conn.now).now) }
+    ensures inside { HasCleanDisk (state S.Store tx.new.conn.now) → OnOk result (IsTrue (state S.Store tx.new.conn.now).in_transaction) }
+    ensures open { HasCleanDisk (state S.Store tx.new.conn.now) → OnOk result (IsTrue (state S.Store tx.new.conn.now).is_open) }
+    ensures kept { HasCleanDisk (state S.Store tx.new.conn.now) → KeepsCommit (state S.Store tx.old.conn.now) (state S.Store tx.new.conn.now) }
+    ensures survives { Survives (state S.Store tx.old.conn.now) (state S.Store tx.new.conn.now) (λ _. ⊥) }
+{
+    create(
+        tx,
+        "CREATE TABLE acts (n INTEGER PRIMARY KEY, session INTEGER NOT NULL, clerk INTEGER NOT NULL, request INTEGER NOT NULL, day INTEGER NOT NULL, body TEXT NOT NULL, UNIQUE (clerk, request)) STRICT",
+    )?;
+    create(
+        tx,
+        "CREATE TABLE records (act INTEGER PRIMARY KEY, household INTEGER NOT NULL, number INTEGER NOT NULL, kind INTEGER NOT NULL, first INTEGER NOT NULL, corrects INTEGER NOT NULL, unit INTEGER NOT NULL, persons INTEGER NOT NULL, size INTEGER NOT NULL, extremely INTEGER NOT NULL, annual INTEGER NOT NULL, adjusted INTEGER NOT NULL, ttp INTEGER NOT NULL, contract_rent INTEGER NOT NULL, utility INTEGER NOT NULL, assistance INTEGER NOT NULL, event INTEGER, notice INTEGER, done INTEGER, UNIQUE (household, number)) STRICT",
+    )?;
+    create(
+        tx,
+        "CREATE TABLE lines (act INTEGER NOT NULL, place INTEGER NOT NULL, month INTEGER NOT NULL, household INTEGER NOT NULL, for_month INTEGER NOT NULL, first INTEGER NOT NULL, last INTEGER NOT NULL, old INTEGER NOT NULL, new INTEGER NOT NULL, amount INTEGER NOT NULL, PRIMARY KEY (act, place)) STRICT",
+    )
+}
+
+/// Makes the three tables by one transaction: all of them, or none.
+///
+/// # Errors
+///
+/// `OutOfMemory` where memory ran out, else the error of the statement that was refused. `InvalidQuery` where a transaction
+/// is open already.
+pub fn make_tables<S: Alter>(conn: &mut Connection<S>) -> Result<(), Error>
+    ensures made { HasCleanDisk (state S.Store conn.new) → OnOk result (Makes (state S.Store conn.old) (state S.Store conn.new)) }
+    ensures undone { HasCleanDisk (state S.Store conn.new) → OnErr result (Undoes (state S.Store conn.old) (state S.Store conn.new)) }
+    ensures survives { Survives (state S.Store conn.old) (state S.Store conn.new) (MadeTrees (state S.Store conn.old)) }
+{
+    if !conn.is_autocommit() {
+        return Err(Error::InvalidQuery);
+    }
+    let mut tx = conn.transaction();
+    create_tables(&mut tx)?;
+    tx.commit()
+}
