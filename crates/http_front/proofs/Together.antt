@@ -1,22 +1,23 @@
 -- What the sessions of passes that know beginnings of one history wrote, by that history.
-use Rattle.std.proofs.Common.{◌≡◌, ◌⊎◌, ◌∙◌, ◌+◌, ℕ, arith, refl, inl, inr, sym, ap, subst, Option, Some, None, List, [], ◌∷◌, ◌++◌, length, append-nil, take}
+use Rattle.std.proofs.Common.{◌≡◌, ◌⊎◌, ◌∙◌, ◌+◌, ℕ, arith, refl, inl, inr, sym, ap, subst, List, [], ◌∷◌, ◌++◌, length, append-nil, take}
 use Rattle.std.specs.Prelude.{Result, Ok, Err}
 use Rattle.std.proofs.lemmas.List.{length_push}
 use Rattle.std.proofs.Math.Seq.{take-append_seam}
 use mathlib.Core.List.{IsPrefix}
 use Rattle.book_rows.specs.{declared.rows.ActRow.ActRow, declared.rows.Batch.Batch, Book.Book}
-use Rattle.clerk_desk.specs.Below.{office_answers.Answering.answer_to, office_answers.declared.question.Question.Question, office_answers.declared.reply.Reply.Reply as OfficeReply, office_step.declared.call.Call.Call, office_step.Step.Outcome, office_step.Step.appends, office_step.Step.step}
+use Rattle.questions.specs.declared.question.Question.{Question}
+use Rattle.clerk_desk.specs.Below.{office_answers.Answering.answer_to, office_answers.declared.reply.Reply.Reply as OfficeReply, office_step.declared.call.Call.Call, office_step.Step.Outcome, office_step.Step.appends, office_step.Step.step}
 use Rattle.clerk_desk.specs.Serving.{reply_of as reply_of_office}
 use Rattle.desk_history.proofs.Fronts.{prefix_length, prefix_more}
 use Rattle.desk_history.specs.{declared.views.PassView.PassView, declared.views.Start.Start, Laws.GoesOn, Seen.entries_of, Seen.point_of}
 use Rattle.json_front.specs.Calls.{call_from}
 use Rattle.http_messages.specs.declared.message.Message.{Message}
 use Rattle.http_responses.specs.declared.body.Reply.{Reply}
-use Rattle.http_routes.specs.declared.asked.Routed.{Routed}
+use Rattle.http_routes.specs.declared.routed.Routed.{Routed}
 use Rattle.shared_desk.specs.{Calls.Further, Calls.IsBooked, Calls.IsCalled, Calls.IsUnbooked, Deciding.IsReplied, History.HistoriesWereLegal, History.IsLegalHistory, History.capacity_of, History.tables_at}
 use Rattle.http_front.proofs.Seen.{seen_ends, seen_told}
-use Rattle.http_front.specs.{Passes.AnswersPass, Passes.SaysAsked, Passes.SaysBody, Passes.SaysTo, Passes.reply_of, Told.IsSaid, Told.question_of, Told.said_of_answer, declared.said.Said.Said, declared.said.Silence.Silence}
-use Rattle.http_front.specs.Together.{point_behind, tables_behind, step_behind, acts_behind, IsBookedAt, IsUnbookedAt, SaysAskedAt, SaysAt, SaysBodyAt, IsReplyAt, Exchange, ByPass, ByHistory, SessionsShareAHistory}
+use Rattle.http_front.specs.{Passes.AnswersPass, Passes.SaysBody, Passes.SaysTo, Passes.reply_of, Told.IsSaid, Told.said_of_answer, declared.said.Said.Said, declared.said.Silence.Silence}
+use Rattle.http_front.specs.Together.{point_behind, tables_behind, step_behind, acts_behind, IsBookedAt, IsUnbookedAt, SaysAt, SaysBodyAt, IsReplyAt, Exchange, ByPass, ByHistory, SessionsShareAHistory}
 
 -- ---- a pass goes on from each reply to the next
 
@@ -25,12 +26,9 @@ body_further shows (Ok call) old new said (inl says) = inr says.goes_on
 body_further shows (Ok call) old new said (inr (same, silent)) = inl same
 body_further shows (Err path) old new said (same, right) = inl same
 
-asked_further : (shows : ℕ → Type 0) (body : List ℕ) (asked : Option Question) (old new : PassView) (said : Result Said Silence) → SaysAsked shows body asked old new said → Further old new
-asked_further shows body (Some question) old new said says = inr ([], [], says.goes_on)
-asked_further shows body None old new said says = body_further shows (call_from body) old new said says
-
 says_further : (shows : ℕ → Type 0) (body : List ℕ) (routed : Routed) (old new : PassView) (said : Result Said Silence) → SaysTo shows body routed old new said → Further old new
-says_further shows body (Routed.Asked asked) old new said says = asked_further shows body (question_of asked) old new said says
+says_further shows body Routed.Act old new said says = body_further shows (call_from body) old new said says
+says_further shows body (Routed.Question question) old new said says = inr ([], [], says.goes_on)
 says_further shows body (Routed.BadPart part) old new said (same, right) = inl same
 says_further shows body Routed.NoRoute old new said (same, right) = inl same
 says_further shows body Routed.NoMethod old new said (same, right) = inl same
@@ -138,17 +136,13 @@ module _ (were : HistoriesWereLegal) (start : Start) (history : List ActRow) (le
     body_at shows (Ok call) said (inr (same, silent)) = inr (same_count same, silent)
     body_at shows (Err path) said (same, right) = (same_count same, right)
 
-    asked_at : (shows : ℕ → Type 0) (body : List ℕ) (asked : Option Question) (said : Result Said Silence) → SaysAsked shows body asked old new said
-        → SaysAskedAt start history number (length old.list) (length new.list) shows body asked said
-    asked_at shows body (Some question) said says = record {
+    says_at : (shows : ℕ → Type 0) (body : List ℕ) (routed : Routed) (said : Result Said Silence) → SaysTo shows body routed old new said
+        → SaysAt start history number (length old.list) (length new.list) shows body routed said
+    says_at shows body Routed.Act said says = body_at shows (call_from body) said says
+    says_at shows body (Routed.Question question) said says = record {
       own = acts_stay [] says.goes_on;
       told = subst (λ (tables : Book). IsSaid (said_of_answer (answer_to tables question)) said) (tables_are new knows new.list knows.front) says.told;
     }
-    asked_at shows body None said says = body_at shows (call_from body) said says
-
-    says_at : (shows : ℕ → Type 0) (body : List ℕ) (routed : Routed) (said : Result Said Silence) → SaysTo shows body routed old new said
-        → SaysAt start history number (length old.list) (length new.list) shows body routed said
-    says_at shows body (Routed.Asked asked) said says = asked_at shows body (question_of asked) said says
     says_at shows body (Routed.BadPart part) said (same, right) = (same_count same, right)
     says_at shows body Routed.NoRoute said (same, right) = (same_count same, right)
     says_at shows body Routed.NoMethod said (same, right) = (same_count same, right)

@@ -1,13 +1,14 @@
 -- The replies of a desk that several clerks share to the messages of one session, which has a pass.
-use Rattle.std.specs.Prelude.{◌≡◌, ◌≤◌, ◌⊎◌, ℕ, Option, Some, None, Result, Ok, Err, List, []}
-use Rattle.clerk_desk.specs.Below.{office_answers.Answering.answer_to, office_answers.declared.question.Question.Question, office_answers.declared.reply.Reply.Reply as OfficeReply, office_step.declared.call.Call.Call}
+use Rattle.std.specs.Prelude.{◌≡◌, ◌≤◌, ◌⊎◌, ℕ, Result, Ok, Err, List, []}
+use Rattle.questions.specs.declared.question.Question.{Question}
+use Rattle.clerk_desk.specs.Below.{office_answers.Answering.answer_to, office_answers.declared.reply.Reply.Reply as OfficeReply, office_step.declared.call.Call.Call}
 use Rattle.clerk_desk.specs.Serving.{ReplyCause}
 use Rattle.desk_history.specs.{declared.views.PassView.PassView, Laws.GoesOn, Seen.point_of}
 use Rattle.json_front.specs.Calls.{call_from}
 use Rattle.http_messages.specs.declared.message.Message.{Message}
 use Rattle.http_responses.specs.declared.{body.Reply.Reply, refusal.Refusal.Refusal}
-use Rattle.http_routes.specs.{Asks.name_of, declared.asked.Routed.Routed}
-use Rattle.http_front.specs.{Told.IsLed, Told.IsSaid, Told.bad_form, Told.question_of, Told.refused, Told.said_of_answer, Told.said_of_reply, declared.said.Said.Said, declared.said.Silence.Silence}
+use Rattle.http_routes.specs.{Asks.name_of, declared.routed.Routed.Routed}
+use Rattle.http_front.specs.{Told.IsLed, Told.IsSaid, Told.bad_form, Told.refused, Told.said_of_answer, Told.said_of_reply, declared.said.Said.Said, declared.said.Silence.Silence}
 use Rattle.shared_desk.specs.{History.IsLegalHistory, History.tables_at, Calls.IsCalled, Calls.KnowsMore}
 
 -- the desk's reply in text, unless memory ran out; there is none where the keeper failed, or memory ran out before
@@ -43,14 +44,10 @@ abbrev pub SaysBody : (ℕ → Type 0) → Result Call (List ℕ) → PassView �
 SaysBody shows (Ok call) old new said = SaysCall shows call old new said ⊎ ((new ≡ old) × (said ≡ Err Silence.NoMemory))
 SaysBody shows (Err path) old new said = SaysAlone (bad_form path) old new said
 
--- a question, or else the act that the body says
-abbrev pub SaysAsked : (ℕ → Type 0) → List ℕ → Option Question → PassView → PassView → Result Said Silence → Type 0
-SaysAsked shows body (Some question) old new said = SaysAnswer question old new said
-SaysAsked shows body None old new said = SaysBody shows (call_from body) old new said
-
 -- By where a message leads, and its body. A refusal of where it leads takes no memory.
 abbrev pub SaysTo : (ℕ → Type 0) → List ℕ → Routed → PassView → PassView → Result Said Silence → Type 0
-SaysTo shows body (Routed.Asked asked) old new said = SaysAsked shows body (question_of asked) old new said
+SaysTo shows body Routed.Act old new said = SaysBody shows (call_from body) old new said
+SaysTo shows body (Routed.Question question) old new said = SaysAnswer question old new said
 SaysTo shows body (Routed.BadPart part) old new said = SaysAlone (bad_form (name_of part)) old new said
 SaysTo shows body Routed.NoRoute old new said = (new ≡ old) × (said ≡ Ok (refused Refusal.NoRoute))
 SaysTo shows body Routed.NoMethod old new said = (new ≡ old) × (said ≡ Ok (refused Refusal.NoMethod))

@@ -1,17 +1,18 @@
 -- The sessions of one desk, by one history: each reply is the one that the office of one clerk gives at a point of it.
-use Rattle.std.specs.Prelude.{◌≡◌, ◌≤◌, ◌⊎◌, ◌+◌, ℕ, Option, Some, None, Result, Ok, Err, List, [], ◌∷◌, ◌++◌, length, take, IfSome}
+use Rattle.std.specs.Prelude.{◌≡◌, ◌≤◌, ◌⊎◌, ◌+◌, ℕ, Option, Result, Ok, Err, List, [], ◌∷◌, ◌++◌, length, take, IfSome}
 use mathlib.Core.List.{IsPrefix}
 use Rattle.book_rows.specs.{declared.rows.ActRow.ActRow, declared.rows.Batch.Batch, Book.Book}
-use Rattle.clerk_desk.specs.Below.{office_answers.Answering.answer_to, office_answers.declared.question.Question.Question, office_answers.declared.reply.Reply.Reply as OfficeReply, office_step.declared.call.Call.Call, office_step.Step.Outcome, office_step.Step.appends, office_step.Step.step}
+use Rattle.questions.specs.declared.question.Question.{Question}
+use Rattle.clerk_desk.specs.Below.{office_answers.Answering.answer_to, office_answers.declared.reply.Reply.Reply as OfficeReply, office_step.declared.call.Call.Call, office_step.Step.Outcome, office_step.Step.appends, office_step.Step.step}
 use Rattle.clerk_desk.specs.Serving.{reply_of as reply_of_office}
 use Rattle.desk_history.specs.{declared.views.PassView.PassView, declared.views.Start.Start, Seen.entries_of, Seen.point_of}
 use Rattle.json_front.specs.Calls.{call_from}
 use Rattle.http_messages.specs.declared.message.Message.{Message}
 use Rattle.http_responses.specs.declared.{body.Reply.Reply, refusal.Refusal.Refusal}
-use Rattle.http_routes.specs.{Asks.name_of, declared.asked.Routed.Routed}
+use Rattle.http_routes.specs.{Asks.name_of, declared.routed.Routed.Routed}
 use Rattle.http_session.specs.{Completeness.Completes, Sessions.Ends, declared.end.SessionEnd.SessionEnd}
 use Rattle.shared_desk.specs.{Deciding.IsReplied, History.IsLegalHistory, History.capacity_of, History.tables_at}
-use Rattle.http_front.specs.{Passes.AnswersPass, Passes.IsToldAs, Passes.reply_of, Told.IsLed, Told.IsSaid, Told.bad_form, Told.question_of, Told.refused, Told.said_of_answer, declared.said.Said.Said, declared.said.Silence.Silence}
+use Rattle.http_front.specs.{Passes.AnswersPass, Passes.IsToldAs, Passes.reply_of, Told.IsLed, Told.IsSaid, Told.bad_form, Told.refused, Told.said_of_answer, declared.said.Said.Said, declared.said.Silence.Silence}
 
 -- ---- a history behind its first so many rows
 
@@ -75,14 +76,10 @@ module _ (start : Start) (history : List ActRow) (number before count : ℕ) whe
   SaysBodyAt shows (Ok call) said = SaysCallAt shows call said ⊎ ((count ≡ before) × (said ≡ Err Silence.NoMemory))
   SaysBodyAt shows (Err path) said = SaysAloneAt (bad_form path) said
 
-  -- a question, or else the act that the body says
-  abbrev pub SaysAskedAt : (ℕ → Type 0) → List ℕ → Option Question → Result Said Silence → Type 0
-  SaysAskedAt shows body (Some question) said = SaysAnswerAt question said
-  SaysAskedAt shows body None said = SaysBodyAt shows (call_from body) said
-
   -- by where a message leads, and its body
   abbrev pub SaysAt : (ℕ → Type 0) → List ℕ → Routed → Result Said Silence → Type 0
-  SaysAt shows body (Routed.Asked asked) said = SaysAskedAt shows body (question_of asked) said
+  SaysAt shows body Routed.Act said = SaysBodyAt shows (call_from body) said
+  SaysAt shows body (Routed.Question question) said = SaysAnswerAt question said
   SaysAt shows body (Routed.BadPart part) said = SaysAloneAt (bad_form (name_of part)) said
   SaysAt shows body Routed.NoRoute said = (count ≡ before) × (said ≡ Ok (refused Refusal.NoRoute))
   SaysAt shows body Routed.NoMethod said = (count ≡ before) × (said ≡ Ok (refused Refusal.NoMethod))

@@ -1,12 +1,12 @@
 -- What is said of a message.
-use Rattle.std.specs.Prelude.{◌≡◌, ℕ, ◌⊎◌, ⊤, List, Option, Some, None, Result, Ok, Err}
+use Rattle.std.specs.Prelude.{◌≡◌, ℕ, ◌⊎◌, ⊤, List, Result, Ok, Err}
 use Rattle.std.specs.Str.{IsUtf8}
 use Rattle.clerk_desk.specs.Below.office_step.declared.refusal.Refusal.{Refusal as OfficeRefusal}
-use Rattle.clerk_desk.specs.Below.office_answers.{declared.answer.Answer.Answer, declared.question.Question.Question, declared.reply.Reply.Reply as OfficeReply}
+use Rattle.clerk_desk.specs.Below.office_answers.{declared.answer.Answer.Answer, declared.reply.Reply.Reply as OfficeReply}
 use Rattle.reply_text.specs.{Replies.reply_text, Replies.bad_form_text, Answers.answer_text}
 use Rattle.http_messages.specs.declared.message.Message.{Message}
 use Rattle.http_responses.specs.{Responses.refusal_status, declared.body.Body.Body, declared.refusal.Refusal.Refusal, declared.status.Status.Status}
-use Rattle.http_routes.specs.{Asks.Leads, declared.asked.Asked.Asked, declared.asked.Routed.Routed}
+use Rattle.http_routes.specs.{Asks.Leads, declared.routed.Routed.Routed}
 use Rattle.http_front.specs.declared.said.{Said.Said, Silence.Silence}
 
 -- this text is said
@@ -32,16 +32,6 @@ abbrev pub said_of_reply : OfficeReply → Said
 said_of_reply reply = in_text (status_of reply) (reply_text reply)
 
 -- ---- questions
-
-abbrev pub question_of : Asked → Option Question
-question_of Asked.Act = None
-question_of (Asked.Household household) = Some (Question.Household household)
-question_of (Asked.Record household number) = Some (Question.Record household number)
-question_of (Asked.Paid household month) = Some (Question.Paid household month)
-question_of (Asked.Next unit day) = Some (Question.Next unit day)
-question_of (Asked.Voucher month) = Some (Question.Voucher month)
-question_of (Asked.Due day) = Some (Question.Due day)
-question_of (Asked.Targets day) = Some (Question.Targets day)
 
 -- the answer, or why there is none
 abbrev pub said_of_answer : Result Answer OfficeRefusal → Said

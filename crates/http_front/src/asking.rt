@@ -5,13 +5,13 @@ ghost use Rattle.clerk_desk.specs.Below.office_answers.Answered.{Answers};
 ghost use Rattle.clerk_desk.specs.Below.office_answers.declared.answer.Answer.{Answer};
 ghost use Rattle.clerk_desk.specs.Below.office_step.declared.refusal.Refusal.{Refusal};
 ghost use Rattle.http_session.specs.Replies.{refuses};
-ghost use Rattle.http_front.specs.Told.{IsLed, IsSaid, bad_form, question_of, said_of_answer};
+ghost use Rattle.http_front.specs.Told.{IsLed, IsSaid, bad_form, said_of_answer};
 
 use crate::said::{Said, Silence};
-use clerk_desk::office_answers::{Answer, Asked as Unasked, Question, Reply};
+use clerk_desk::office_answers::{Answer, Asked, Reply};
 use http_messages::Message;
 use http_responses::{Body, Status};
-use http_routes::{Asked, Routed, Routes};
+use http_routes::{Routed, Routes};
 use plain_data::NoMemory;
 use reply_text::{text_of_answer, text_of_bad_form, text_of_reply};
 use std::alloc::Global;
@@ -29,40 +29,21 @@ pub(crate) fn lead(routes: &Routes, message: &Message) -> Routed
     routes.lead(method, target)
 }
 
-/// The question that is asked; an act is none.
-pub(crate) fn question_of(asked: Asked) -> Option<Question>
-    ensures { result ≡ question_of asked }
-{
-    match asked {
-        Asked::Act => None,
-        Asked::Household { household } => Some(Question::Household { household }),
-        Asked::Record { household, record } => Some(Question::Record {
-            household,
-            target: record,
-        }),
-        Asked::Paid { household, month } => Some(Question::Paid { household, month }),
-        Asked::Next { unit, day } => Some(Question::Next { unit, day }),
-        Asked::Voucher { month } => Some(Question::Voucher { month }),
-        Asked::Due { day } => Some(Question::Due { day }),
-        Asked::Targets { day } => Some(Question::Targets { day }),
-    }
-}
-
 /// What is said of an answer, or of why there is none.
-pub(crate) fn said_of_answer(alloc: Global, asked: Result<Answer, Unasked>) -> Result<Said, Silence>
-    ensures said { (right : Result Answer Refusal) → Answers right asked → IsSaid (said_of_answer right) result }
+pub(crate) fn said_of_answer(alloc: Global, answer: Result<Answer, Asked>) -> Result<Said, Silence>
+    ensures said { (right : Result Answer Refusal) → Answers right answer → IsSaid (said_of_answer right) result }
     ensures taken { IfOk result (λ said. refuses said.status ≡ false) }
 {
-    match asked {
+    match answer {
         Ok(answer) => Ok(Said {
             status: Status::Okay,
             body: Body::Text(text_of_answer(alloc, &answer)?),
         }),
-        Err(Unasked::Refused(refusal)) => Ok(Said {
+        Err(Asked::Refused(refusal)) => Ok(Said {
             status: Status::Conflict,
             body: Body::Text(text_of_reply(alloc, &Reply::Refused(refusal))?),
         }),
-        Err(Unasked::NoMemory) => Err(Silence::NoMemory),
+        Err(Asked::NoMemory) => Err(Silence::NoMemory),
     }
 }
 

@@ -7,7 +7,7 @@ ghost use Rattle.http_session.specs.Replies.{refuses};
 ghost use Rattle.shared_desk.specs.Calls.{Further};
 ghost use Rattle.http_front.specs.Passes.{AnswersPass, SaysAnswer, SaysBody, SaysCall, SaysTo};
 
-use crate::asking::{lead, question_of, said_of_answer, said_of_bad_form};
+use crate::asking::{lead, said_of_answer, said_of_bad_form};
 use crate::replying::{refused, replied, said_of_reply};
 use crate::said::{Said, Silence};
 use clerk_desk::office_answers::Question;
@@ -58,10 +58,8 @@ fn said_to_pass<R: Wait, K: Keeper + Drop, B: Naming, C: Clock>(
     ensures further { Further pass.old pass.new }
 {
     match routed {
-        Routed::Asked(asked) => match question_of(asked) {
-            Some(question) => answer_for(rt, alloc, desk, pass, &question),
-            None => said_of_body_for(rt, alloc, desk, pass, clock, body),
-        },
+        Routed::Act => said_of_body_for(rt, alloc, desk, pass, clock, body),
+        Routed::Question(question) => answer_for(rt, alloc, desk, pass, &question),
         Routed::BadPart(part) => Ok(said_of_bad_form(alloc, part.name())?),
         Routed::NoRoute => Ok(refused(Refusal::NoRoute)),
         Routed::NoMethod => Ok(refused(Refusal::NoMethod)),

@@ -2,6 +2,7 @@
 use Rattle.std.proofs.Common.{◌≡◌, ℕ, ◌==◌, ◌&&◌, true, if◌then◌else◌, List, [], ◌∷◌, length, refl, sym, ap, ◌∙◌}
 use Rattle.std.specs.Prelude.{bytes_eq, codes, nat_lt}
 use Rattle.std.proofs.lemmas.{Bool.and_parts, Bool.true≢false, Slice.Eq.bytes_eq-Decides}
+use Rattle.questions.specs.declared.kind.QuestionKind.{QuestionKind}
 use Rattle.http_routes.specs.{Asks.OneRoute, Asks.path_of, Paths.behind, Paths.fits, Paths.part_of, Paths.steps_of, Paths.value, Paths.word, declared.place.Place.Place}
 
 past_slash : List ℕ → List ℕ
@@ -65,56 +66,56 @@ four_parts text second (b ∷ path) fit =
 
 first_word : Place → List ℕ
 first_word Place.Acts = codes "acts"
-first_word Place.Household = codes "households"
-first_word Place.Record = codes "households"
-first_word Place.Paid = codes "households"
-first_word Place.Next = codes "units"
-first_word Place.Voucher = codes "vouchers"
-first_word Place.Due = codes "due"
-first_word Place.Targets = codes "targets"
+first_word (Place.Question QuestionKind.Household) = codes "households"
+first_word (Place.Question QuestionKind.Record) = codes "households"
+first_word (Place.Question QuestionKind.Paid) = codes "households"
+first_word (Place.Question QuestionKind.Next) = codes "units"
+first_word (Place.Question QuestionKind.Voucher) = codes "vouchers"
+first_word (Place.Question QuestionKind.Due) = codes "due"
+first_word (Place.Question QuestionKind.Targets) = codes "targets"
 
 third_word : Place → List ℕ
-third_word Place.Record = codes "records"
-third_word Place.Paid = codes "paid"
-third_word Place.Next = codes "next"
+third_word (Place.Question QuestionKind.Record) = codes "records"
+third_word (Place.Question QuestionKind.Paid) = codes "paid"
+third_word (Place.Question QuestionKind.Next) = codes "next"
 third_word Place.Acts = []
-third_word Place.Household = []
-third_word Place.Voucher = []
-third_word Place.Due = []
-third_word Place.Targets = []
+third_word (Place.Question QuestionKind.Household) = []
+third_word (Place.Question QuestionKind.Voucher) = []
+third_word (Place.Question QuestionKind.Due) = []
+third_word (Place.Question QuestionKind.Targets) = []
 
 words_of : (place : Place) (path : List ℕ) → fits (steps_of place) path ≡ true → (first_part path ≡ first_word place) × (third_part path ≡ third_word place)
 unfolding first_word third_word
 words_of Place.Acts path fit = one_part (codes "acts") path fit
-words_of Place.Household path fit = two_parts (codes "households") path fit
-words_of Place.Record path fit = four_parts (codes "households") (codes "records") path fit
-words_of Place.Paid path fit = four_parts (codes "households") (codes "paid") path fit
-words_of Place.Next path fit = four_parts (codes "units") (codes "next") path fit
-words_of Place.Voucher path fit = two_parts (codes "vouchers") path fit
-words_of Place.Due path fit = two_parts (codes "due") path fit
-words_of Place.Targets path fit = two_parts (codes "targets") path fit
+words_of (Place.Question QuestionKind.Household) path fit = two_parts (codes "households") path fit
+words_of (Place.Question QuestionKind.Record) path fit = four_parts (codes "households") (codes "records") path fit
+words_of (Place.Question QuestionKind.Paid) path fit = four_parts (codes "households") (codes "paid") path fit
+words_of (Place.Question QuestionKind.Next) path fit = four_parts (codes "units") (codes "next") path fit
+words_of (Place.Question QuestionKind.Voucher) path fit = two_parts (codes "vouchers") path fit
+words_of (Place.Question QuestionKind.Due) path fit = two_parts (codes "due") path fit
+words_of (Place.Question QuestionKind.Targets) path fit = two_parts (codes "targets") path fit
 
 route_of : List ℕ → List ℕ → Place
 route_of first third =
     if bytes_eq first (codes "acts") then Place.Acts
-    else (if bytes_eq first (codes "units") then Place.Next
-    else (if bytes_eq first (codes "vouchers") then Place.Voucher
-    else (if bytes_eq first (codes "due") then Place.Due
-    else (if bytes_eq first (codes "targets") then Place.Targets
-    else (if bytes_eq third (codes "records") then Place.Record
-    else (if bytes_eq third (codes "paid") then Place.Paid
-    else Place.Household))))))
+    else (if bytes_eq first (codes "units") then (Place.Question QuestionKind.Next)
+    else (if bytes_eq first (codes "vouchers") then (Place.Question QuestionKind.Voucher)
+    else (if bytes_eq first (codes "due") then (Place.Question QuestionKind.Due)
+    else (if bytes_eq first (codes "targets") then (Place.Question QuestionKind.Targets)
+    else (if bytes_eq third (codes "records") then (Place.Question QuestionKind.Record)
+    else (if bytes_eq third (codes "paid") then (Place.Question QuestionKind.Paid)
+    else (Place.Question QuestionKind.Household)))))))
 
 route_is : (place : Place) → route_of (first_word place) (third_word place) ≡ place
 unfolding route_of first_word third_word
 route_is Place.Acts = refl
-route_is Place.Household = refl
-route_is Place.Record = refl
-route_is Place.Paid = refl
-route_is Place.Next = refl
-route_is Place.Voucher = refl
-route_is Place.Due = refl
-route_is Place.Targets = refl
+route_is (Place.Question QuestionKind.Household) = refl
+route_is (Place.Question QuestionKind.Record) = refl
+route_is (Place.Question QuestionKind.Paid) = refl
+route_is (Place.Question QuestionKind.Next) = refl
+route_is (Place.Question QuestionKind.Voucher) = refl
+route_is (Place.Question QuestionKind.Due) = refl
+route_is (Place.Question QuestionKind.Targets) = refl
 
 told : (place : Place) (path : List ℕ) → fits (steps_of place) path ≡ true → place ≡ route_of (first_part path) (third_part path)
 told place path fit =

@@ -4,6 +4,7 @@ use Rattle.std.specs.Prelude.{is_some}
 use Rattle.std.proofs.lemmas.Bool.{and_from, false_from_ne_true, lt-ltb, true≢false}
 use Rattle.matchit.specs.{Router.RouteOf, Router.map_key, Rows.RowsOf, Seek.first}
 use Rattle.matchit.proofs.RenameLemmas.{first-rename}
+use Rattle.questions.specs.declared.kind.QuestionKind.{QuestionKind}
 use Rattle.http_routes.specs.{Paths.fits, Paths.steps_of, Table.IsTable, Table.number_of, Table.table, Table.tokens_of, declared.place.Place.Place}
 use Rattle.http_routes.proofs.{Tokens.are_plain, Tokens.token_fits_steps, Walks.AllPlain, Walks.Has, Walks.are_bytes, Walks.fitting_found, Walks.found_fits, Walks.token_fits}
 
@@ -16,47 +17,47 @@ plain = (refl, (refl, (refl, (refl, (refl, (refl, (refl, (refl, tt))))))))
 
 all_plain : (place : Place) → are_plain (steps_of place) ≡ true
 all_plain Place.Acts = refl
-all_plain Place.Household = refl
-all_plain Place.Record = refl
-all_plain Place.Paid = refl
-all_plain Place.Next = refl
-all_plain Place.Voucher = refl
-all_plain Place.Due = refl
-all_plain Place.Targets = refl
+all_plain (Place.Question QuestionKind.Household) = refl
+all_plain (Place.Question QuestionKind.Record) = refl
+all_plain (Place.Question QuestionKind.Paid) = refl
+all_plain (Place.Question QuestionKind.Next) = refl
+all_plain (Place.Question QuestionKind.Voucher) = refl
+all_plain (Place.Question QuestionKind.Due) = refl
+all_plain (Place.Question QuestionKind.Targets) = refl
 
 -- each place has its row
 row_there : (place : Place) → Has table (tokens_of (steps_of place)) (number_of place)
 row_there Place.Acts = inl (refl, refl)
-row_there Place.Due = inr (inl (refl, refl))
-row_there Place.Paid = inr (inr (inl (refl, refl)))
-row_there Place.Record = inr (inr (inr (inl (refl, refl))))
-row_there Place.Household = inr (inr (inr (inr (inl (refl, refl)))))
-row_there Place.Targets = inr (inr (inr (inr (inr (inl (refl, refl))))))
-row_there Place.Next = inr (inr (inr (inr (inr (inr (inl (refl, refl)))))))
-row_there Place.Voucher = inr (inr (inr (inr (inr (inr (inr (inl (refl, refl))))))))
+row_there (Place.Question QuestionKind.Due) = inr (inl (refl, refl))
+row_there (Place.Question QuestionKind.Paid) = inr (inr (inl (refl, refl)))
+row_there (Place.Question QuestionKind.Record) = inr (inr (inr (inl (refl, refl))))
+row_there (Place.Question QuestionKind.Household) = inr (inr (inr (inr (inl (refl, refl)))))
+row_there (Place.Question QuestionKind.Targets) = inr (inr (inr (inr (inr (inl (refl, refl))))))
+row_there (Place.Question QuestionKind.Next) = inr (inr (inr (inr (inr (inr (inl (refl, refl)))))))
+row_there (Place.Question QuestionKind.Voucher) = inr (inr (inr (inr (inr (inr (inr (inl (refl, refl))))))))
 
 -- the tokens of the row of that number
 tokens_at : ℕ → List ℕ
 tokens_at k =
     if k == 0 then tokens_of (steps_of Place.Acts)
-    else (if k == 1 then tokens_of (steps_of Place.Household)
-    else (if k == 2 then tokens_of (steps_of Place.Record)
-    else (if k == 3 then tokens_of (steps_of Place.Paid)
-    else (if k == 4 then tokens_of (steps_of Place.Next)
-    else (if k == 5 then tokens_of (steps_of Place.Voucher)
-    else (if k == 6 then tokens_of (steps_of Place.Due)
-    else tokens_of (steps_of Place.Targets)))))))
+    else (if k == 1 then tokens_of (steps_of (Place.Question QuestionKind.Household))
+    else (if k == 2 then tokens_of (steps_of (Place.Question QuestionKind.Record))
+    else (if k == 3 then tokens_of (steps_of (Place.Question QuestionKind.Next))
+    else (if k == 4 then tokens_of (steps_of (Place.Question QuestionKind.Voucher))
+    else (if k == 5 then tokens_of (steps_of (Place.Question QuestionKind.Paid))
+    else (if k == 6 then tokens_of (steps_of (Place.Question QuestionKind.Due))
+    else tokens_of (steps_of (Place.Question QuestionKind.Targets))))))))
 
 tokens_at-number : (place : Place) → tokens_at (number_of place) ≡ tokens_of (steps_of place)
 unfolding tokens_at
 tokens_at-number Place.Acts = refl
-tokens_at-number Place.Household = refl
-tokens_at-number Place.Record = refl
-tokens_at-number Place.Paid = refl
-tokens_at-number Place.Next = refl
-tokens_at-number Place.Voucher = refl
-tokens_at-number Place.Due = refl
-tokens_at-number Place.Targets = refl
+tokens_at-number (Place.Question QuestionKind.Household) = refl
+tokens_at-number (Place.Question QuestionKind.Record) = refl
+tokens_at-number (Place.Question QuestionKind.Paid) = refl
+tokens_at-number (Place.Question QuestionKind.Next) = refl
+tokens_at-number (Place.Question QuestionKind.Voucher) = refl
+tokens_at-number (Place.Question QuestionKind.Due) = refl
+tokens_at-number (Place.Question QuestionKind.Targets) = refl
 
 row_is : (t : List ℕ) (k : ℕ) → Has table t k → t ≡ tokens_at k
 unfolding tokens_at

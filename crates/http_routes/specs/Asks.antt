@@ -2,7 +2,8 @@
 use Rattle.std.specs.Prelude.{◌≡◌, ◌≢◌, ℕ, zero, suc, ◌&&◌, ◌==◌, nat_le, nat_lt, true, if◌then◌else◌, List, length, Option, Some, None, Result, Ok, Err, ok_or, codes}
 use Rattle.std.specs.{List.after_first, List.before_first, List.list_all, Char.is_ascii_digit, Str.Parse.digits_value}
 use Rattle.days_core.specs.DayText.{day_from, month_from}
-use Rattle.http_routes.specs.{Paths.fits, Paths.steps_of, declared.asked.Asked.Asked, declared.asked.Routed.Routed, declared.asked.ValuePart.ValuePart, declared.place.Place.Place}
+use Rattle.questions.specs.declared.{kind.QuestionKind.QuestionKind, question.Question.Question}
+use Rattle.http_routes.specs.{Paths.fits, Paths.steps_of, declared.routed.Routed.Routed, declared.routed.ValuePart.ValuePart, declared.place.Place.Place}
 
 -- the target up to its first question mark
 abbrev pub path_of : List ℕ → List ℕ
@@ -33,33 +34,32 @@ abbrev pub ◌>>=◌ : {A B : Type 0} → Result A ValuePart → (A → Result B
 (Ok x) >>= next = next x
 (Err part) >>= next = Err part
 
--- what the parts of a path ask for at its place, or the first that is of another form
-abbrev pub asked_at : Place → List ℕ → Result Asked ValuePart
-asked_at Place.Acts path = Ok Asked.Act
-asked_at Place.Household path = do
+-- the question of that kind that the parts of a path ask, or the first of them that is of another form
+abbrev pub question_in : QuestionKind → List ℕ → Result Question ValuePart
+question_in QuestionKind.Household path = do
   household ← ok_or (number_from (part_at 2 path)) ValuePart.Household
-  Ok (Asked.Household household)
-asked_at Place.Record path = do
+  Ok (Question.Household household)
+question_in QuestionKind.Record path = do
   household ← ok_or (number_from (part_at 2 path)) ValuePart.Household
-  record_number ← ok_or (number_from (part_at 4 path)) ValuePart.Record
-  Ok (Asked.Record household record_number)
-asked_at Place.Paid path = do
-  household ← ok_or (number_from (part_at 2 path)) ValuePart.Household
-  month ← ok_or (month_from (part_at 4 path)) ValuePart.Month
-  Ok (Asked.Paid household month)
-asked_at Place.Next path = do
+  target ← ok_or (number_from (part_at 4 path)) ValuePart.Record
+  Ok (Question.Record household target)
+question_in QuestionKind.Next path = do
   unit ← ok_or (number_from (part_at 2 path)) ValuePart.Unit
   day ← ok_or (day_from (part_at 4 path)) ValuePart.Day
-  Ok (Asked.Next unit day)
-asked_at Place.Voucher path = do
+  Ok (Question.Next unit day)
+question_in QuestionKind.Voucher path = do
   month ← ok_or (month_from (part_at 2 path)) ValuePart.Month
-  Ok (Asked.Voucher month)
-asked_at Place.Due path = do
+  Ok (Question.Voucher month)
+question_in QuestionKind.Paid path = do
+  household ← ok_or (number_from (part_at 2 path)) ValuePart.Household
+  month ← ok_or (month_from (part_at 4 path)) ValuePart.Month
+  Ok (Question.Paid household month)
+question_in QuestionKind.Due path = do
   day ← ok_or (day_from (part_at 2 path)) ValuePart.Day
-  Ok (Asked.Due day)
-asked_at Place.Targets path = do
+  Ok (Question.Due day)
+question_in QuestionKind.Targets path = do
   day ← ok_or (day_from (part_at 2 path)) ValuePart.Day
-  Ok (Asked.Targets day)
+  Ok (Question.Targets day)
 
 -- ---- routes
 
@@ -71,12 +71,17 @@ method_of _ = codes "GET"
 abbrev pub IsRoute : List ℕ → Place → Type 0
 IsRoute target place = fits (steps_of place) (path_of target) ≡ true
 
+-- the method is the one of the place's route, which fits the target
+abbrev pub IsAt : List ℕ → List ℕ → Place → Type 0
+IsAt method target place = IsRoute target place × (method ≡ method_of place)
+
 -- where a method and a target lead
 abbrev pub Leads : List ℕ → List ℕ → Routed → Type 0
-Leads method target (Routed.Asked asked) =
-    (place : Place) × IsRoute target place × (method ≡ method_of place) × (asked_at place (path_of target) ≡ Ok asked)
+Leads method target Routed.Act = IsAt method target Place.Acts
+Leads method target (Routed.Question question) =
+    (kind : QuestionKind) × IsAt method target (Place.Question kind) × (question_in kind (path_of target) ≡ Ok question)
 Leads method target (Routed.BadPart part) =
-    (place : Place) × IsRoute target place × (method ≡ method_of place) × (asked_at place (path_of target) ≡ Err part)
+    (kind : QuestionKind) × IsAt method target (Place.Question kind) × (question_in kind (path_of target) ≡ Err part)
 Leads method target Routed.NoMethod = (place : Place) × IsRoute target place × (method ≢ method_of place)
 Leads method target Routed.NoRoute = (place : Place) → ¬ (IsRoute target place)
 

@@ -1,5 +1,6 @@
 -- Paths and their parts, which stand behind slashes.
 use Rattle.std.specs.Prelude.{ℕ, ◌&&◌, ◌==◌, nat_lt, Bool, true, false, if◌then◌else◌, List, [], ◌∷◌, length, codes, bytes_eq}
+use Rattle.questions.specs.declared.kind.QuestionKind.{QuestionKind}
 use Rattle.http_routes.specs.declared.place.Place.{Place}
 
 -- the bytes up to the next slash
@@ -31,10 +32,10 @@ fits (step ∷ steps) (b ∷ path) = 47 == b && (takes step (part_of path) && fi
 -- the routes
 abbrev pub steps_of : Place → List Step
 steps_of Place.Acts = word (codes "acts") ∷ []
-steps_of Place.Household = word (codes "households") ∷ value ∷ []
-steps_of Place.Record = word (codes "households") ∷ value ∷ word (codes "records") ∷ value ∷ []
-steps_of Place.Paid = word (codes "households") ∷ value ∷ word (codes "paid") ∷ value ∷ []
-steps_of Place.Next = word (codes "units") ∷ value ∷ word (codes "next") ∷ value ∷ []
-steps_of Place.Voucher = word (codes "vouchers") ∷ value ∷ []
-steps_of Place.Due = word (codes "due") ∷ value ∷ []
-steps_of Place.Targets = word (codes "targets") ∷ value ∷ []
+steps_of (Place.Question QuestionKind.Household) = word (codes "households") ∷ value ∷ []
+steps_of (Place.Question QuestionKind.Record) = word (codes "households") ∷ value ∷ word (codes "records") ∷ value ∷ []
+steps_of (Place.Question QuestionKind.Paid) = word (codes "households") ∷ value ∷ word (codes "paid") ∷ value ∷ []
+steps_of (Place.Question QuestionKind.Next) = word (codes "units") ∷ value ∷ word (codes "next") ∷ value ∷ []
+steps_of (Place.Question QuestionKind.Voucher) = word (codes "vouchers") ∷ value ∷ []
+steps_of (Place.Question QuestionKind.Due) = word (codes "due") ∷ value ∷ []
+steps_of (Place.Question QuestionKind.Targets) = word (codes "targets") ∷ value ∷ []

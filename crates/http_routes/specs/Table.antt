@@ -1,6 +1,7 @@
 -- The rows of the router, by tokens: a byte, or 256 for a parameter.
 use Rattle.std.specs.Prelude.{◌≡◌, ℕ, List, [], ◌∷◌, ◌++◌}
 use Rattle.matchit.specs.{Router.RouteOf, Router.rename, Rows.Rows, Rows.RowsOf}
+use Rattle.questions.specs.declared.kind.QuestionKind.{QuestionKind}
 use Rattle.http_routes.specs.{Paths.Step, Paths.steps_of, Paths.value, Paths.word, declared.place.Place.Place}
 
 abbrev pub tokens_of : List Step → List ℕ
@@ -10,20 +11,20 @@ tokens_of (value ∷ steps) = 47 ∷ 256 ∷ tokens_of steps
 
 abbrev pub number_of : Place → ℕ
 number_of Place.Acts = 0
-number_of Place.Household = 1
-number_of Place.Record = 2
-number_of Place.Paid = 3
-number_of Place.Next = 4
-number_of Place.Voucher = 5
-number_of Place.Due = 6
-number_of Place.Targets = 7
+number_of (Place.Question QuestionKind.Household) = 1
+number_of (Place.Question QuestionKind.Record) = 2
+number_of (Place.Question QuestionKind.Next) = 3
+number_of (Place.Question QuestionKind.Voucher) = 4
+number_of (Place.Question QuestionKind.Paid) = 5
+number_of (Place.Question QuestionKind.Due) = 6
+number_of (Place.Question QuestionKind.Targets) = 7
 
 abbrev pub row : Place → List ℕ × ℕ
 row place = (tokens_of (steps_of place), number_of place)
 
 abbrev pub table : Rows
 table =
-    row Place.Acts ∷ row Place.Due ∷ row Place.Paid ∷ row Place.Record ∷ row Place.Household ∷ row Place.Targets ∷ row Place.Next ∷ row Place.Voucher ∷ []
+    row Place.Acts ∷ row (Place.Question QuestionKind.Due) ∷ row (Place.Question QuestionKind.Paid) ∷ row (Place.Question QuestionKind.Record) ∷ row (Place.Question QuestionKind.Household) ∷ row (Place.Question QuestionKind.Targets) ∷ row (Place.Question QuestionKind.Next) ∷ row (Place.Question QuestionKind.Voucher) ∷ []
 
 -- the router has these rows
 abbrev pub IsTable : RowsOf (RouteOf Place) → Type 0

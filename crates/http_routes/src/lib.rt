@@ -1,10 +1,10 @@
 //! The routes: what a method and a target ask for.
 #![tactic(auto)]
 
-mod asked;
 mod parts;
 mod place;
+mod routed;
 mod routes;
 
-pub use asked::{Asked, Routed, ValuePart};
+pub use routed::{Routed, ValuePart};
 pub use routes::{Routes, one_route_fits};

@@ -1,14 +1,10 @@
 //! Where a route leads.
 
+use questions::QuestionKind;
+
 /// Where a route leads.
 #[derive(Clone, Copy, Debug)]
 pub(crate) enum Place {
     Acts,
-    Household,
-    Record,
-    Paid,
-    Next,
-    Voucher,
-    Due,
-    Targets,
+    Question(QuestionKind),
 }

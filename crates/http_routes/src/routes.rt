@@ -2,18 +2,19 @@
 
 ghost use Rattle.std.specs.Prelude.{◌≡◌, true, false, None, ok_or, IfOk, IfSome};
 ghost use Rattle.days_core.specs.DayText.{day_from, month_from};
-ghost use Rattle.http_routes.specs.Asks.{Leads, OneRoute, asked_at, method_of, path_of};
+ghost use Rattle.http_routes.specs.Asks.{Leads, OneRoute, method_of, path_of, question_in};
 ghost use Rattle.http_routes.specs.Paths.{fits, steps_of};
 ghost use Rattle.http_routes.specs.Table.{IsTable};
 ghost use Rattle.http_routes.specs.declared.place.Place.{Place};
 
-use crate::asked::{Asked, Routed, ValuePart};
 use crate::parts::{fourth_part, number, second_part};
 use crate::place::Place;
+use crate::routed::{Routed, ValuePart};
 use days_core::{Day, Month, day_of_text, month_of_text};
 use http::Method;
 use matchit::{InsertError, Router};
 use plain_data::NoMemory;
+use questions::{Question, QuestionKind};
 use std::alloc::Global;
 
 /// The routes of the office.
@@ -42,9 +43,12 @@ impl Routes {
         if method != method_of(place).as_str() {
             return Routed::NoMethod;
         }
-        match asked_at(place, path) {
-            Ok(asked) => Routed::Asked(asked),
-            Err(part) => Routed::BadPart(part),
+        match place {
+            Place::Acts => Routed::Act,
+            Place::Question(kind) => match question_in(kind, path) {
+                Ok(question) => Routed::Question(question),
+                Err(part) => Routed::BadPart(part),
+            },
         }
     }
 }
@@ -54,13 +58,19 @@ fn router(alloc: Global) -> Result<Router<Place>, InsertError>
 {
     let mut router = Router::new(alloc);
     router.insert("/acts", Place::Acts)?;
-    router.insert("/due/{day}", Place::Due)?;
-    router.insert("/households/{h}", Place::Household)?;
-    router.insert("/households/{h}/paid/{month}", Place::Paid)?;
-    router.insert("/households/{h}/records/{r}", Place::Record)?;
-    router.insert("/targets/{day}", Place::Targets)?;
-    router.insert("/units/{u}/next/{day}", Place::Next)?;
-    router.insert("/vouchers/{month}", Place::Voucher)?;
+    router.insert("/due/{day}", Place::Question(QuestionKind::Due))?;
+    router.insert("/households/{h}", Place::Question(QuestionKind::Household))?;
+    router.insert(
+        "/households/{h}/paid/{month}",
+        Place::Question(QuestionKind::Paid),
+    )?;
+    router.insert(
+        "/households/{h}/records/{r}",
+        Place::Question(QuestionKind::Record),
+    )?;
+    router.insert("/targets/{day}", Place::Question(QuestionKind::Targets))?;
+    router.insert("/units/{u}/next/{day}", Place::Question(QuestionKind::Next))?;
+    router.insert("/vouchers/{month}", Place::Question(QuestionKind::Voucher))?;
     Ok(router)
 }
 
@@ -95,42 +105,41 @@ fn method_of(place: Place) -> Method
     }
 }
 
-/// What the parts of the path ask for at its place.
-fn asked_at(place: Place, path: &str) -> Result<Asked, ValuePart>
-    ensures { result ≡ asked_at place path.now }
+/// The question of that kind that the parts of the path ask.
+fn question_in(kind: QuestionKind, path: &str) -> Result<Question, ValuePart>
+    ensures { result ≡ question_in kind path.now }
 {
-    match place {
-        Place::Acts => Ok(Asked::Act),
-        Place::Household => {
+    match kind {
+        QuestionKind::Household => {
             let household = number(second_part(path)).ok_or(ValuePart::Household)?;
-            Ok(Asked::Household { household })
+            Ok(Question::Household { household })
         }
-        Place::Record => {
+        QuestionKind::Record => {
             let household = number(second_part(path)).ok_or(ValuePart::Household)?;
-            let record = number(fourth_part(path)).ok_or(ValuePart::Record)?;
-            Ok(Asked::Record { household, record })
+            let target = number(fourth_part(path)).ok_or(ValuePart::Record)?;
+            Ok(Question::Record { household, target })
         }
-        Place::Paid => {
-            let household = number(second_part(path)).ok_or(ValuePart::Household)?;
-            let month = month(fourth_part(path))?;
-            Ok(Asked::Paid { household, month })
-        }
-        Place::Next => {
+        QuestionKind::Next => {
             let unit = number(second_part(path)).ok_or(ValuePart::Unit)?;
             let day = day(fourth_part(path))?;
-            Ok(Asked::Next { unit, day })
+            Ok(Question::Next { unit, day })
         }
-        Place::Voucher => {
+        QuestionKind::Voucher => {
             let month = month(second_part(path))?;
-            Ok(Asked::Voucher { month })
+            Ok(Question::Voucher { month })
         }
-        Place::Due => {
-            let day = day(second_part(path))?;
-            Ok(Asked::Due { day })
+        QuestionKind::Paid => {
+            let household = number(second_part(path)).ok_or(ValuePart::Household)?;
+            let month = month(fourth_part(path))?;
+            Ok(Question::Paid { household, month })
         }
-        Place::Targets => {
+        QuestionKind::Due => {
             let day = day(second_part(path))?;
-            Ok(Asked::Targets { day })
+            Ok(Question::Due { day })
+        }
+        QuestionKind::Targets => {
+            let day = day(second_part(path))?;
+            Ok(Question::Targets { day })
         }
     }
 }

@@ -1,6 +1,7 @@
 //! Routes.
 
-use http_routes::{Asked, Routed, Routes};
+use http_routes::{Routed, Routes};
+use questions::Question;
 use std::alloc::Global;
 use std::process::Abort;
 
@@ -8,23 +9,23 @@ use std::process::Abort;
 fn told(rt: &impl Abort, alloc: Global, method: &str, target: &str) -> &'static str {
     let routes = Routes::new(alloc).expect(rt, "memory");
     match routes.lead(method, target) {
-        Routed::Asked(asked) => asked_told(asked),
+        Routed::Act => "act",
+        Routed::Question(question) => told_question(question),
         Routed::NoRoute => "no route",
         Routed::NoMethod => "no method",
         Routed::BadPart(part) => part.name(),
     }
 }
 
-fn asked_told(asked: Asked) -> &'static str {
-    match asked {
-        Asked::Act => "act",
-        Asked::Household { .. } => "household",
-        Asked::Record { .. } => "record",
-        Asked::Paid { .. } => "paid",
-        Asked::Next { .. } => "next",
-        Asked::Voucher { .. } => "voucher",
-        Asked::Due { .. } => "due",
-        Asked::Targets { .. } => "targets",
+fn told_question(question: Question) -> &'static str {
+    match question {
+        Question::Household { .. } => "household",
+        Question::Record { .. } => "record",
+        Question::Next { .. } => "next",
+        Question::Voucher { .. } => "voucher",
+        Question::Paid { .. } => "paid",
+        Question::Due { .. } => "due",
+        Question::Targets { .. } => "targets",
     }
 }
 
@@ -67,9 +68,9 @@ fn targets_lead_where_they_say(rt: HostRuntime) {
 fn numbers_are_those_of_the_target(rt: HostRuntime) {
     let routes = Routes::new(rt.alloc()).expect(&rt, "memory");
     match routes.lead("GET", "/households/007/records/2") {
-        Routed::Asked(Asked::Record { household, record }) => {
+        Routed::Question(Question::Record { household, target }) => {
             assert!(rt; household == 7);
-            assert!(rt; record == 2);
+            assert!(rt; target == 2);
         }
         _ => assert!(rt; false),
     }

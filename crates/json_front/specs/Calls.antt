@@ -3,7 +3,7 @@ use Rattle.std.specs.Prelude.{ℕ, List, [], ◌∷◌, Result, Ok, codes}
 use Rattle.serde_json.specs.Data.{Data}
 use Rattle.json_form.specs.Form.{◌>>=◌, fit, data_from, is_object_at, number_at, field, closed}
 use Rattle.command_forms.specs.Commands.{command_at}
-use Rattle.office_answers.specs.Below.office_step.declared.call.Call.{Call}
+use Rattle.office_step.specs.declared.call.Call.{Call}
 
 abbrev pub call_names : List (List ℕ)
 call_names = codes "clerk" ∷ codes "request" ∷ codes "act" ∷ []

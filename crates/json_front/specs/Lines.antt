@@ -2,7 +2,7 @@
 use Rattle.std.specs.Prelude.{ℕ, if◌then◌else◌, Bool, true, List, [], ◌∷◌, is_some, Result, codes}
 use Rattle.serde_json.specs.{Data.Data, Find.get}
 use Rattle.json_form.specs.Form.{◌>>=◌, fit, data_from, is_object_at, day_at, field, optional_field, closed}
-use Rattle.office_answers.specs.Below.office_step.Step.{is_fit_call}
+use Rattle.office_step.specs.Step.{is_fit_call}
 use Rattle.json_front.specs.{declared.line.BatchLine.BatchLine, Calls.call_names, Calls.call_fields, Questions.question_at}
 
 -- a question, and nothing beside it

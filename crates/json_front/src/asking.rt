@@ -6,35 +6,31 @@ ghost use Rattle.json_form.specs.Gives.{Gives};
 ghost use Rattle.json_form.specs.Form.{one_of};
 ghost use Rattle.json_front.specs.Questions.{kinds, fields_at, names_of, question_at};
 
-use json_form::{Form, FormFault, Formed, closed, field, object, one_of};
-use office_answers::Question;
+use json_form::{Form, FormFault, closed, field, field_by, object, one_of};
+use questions::{Question, QuestionKind};
 use serde_json::Value;
 use std::alloc::Global;
 
-/// Which question it is.
-#[derive(Clone, Copy)]
-pub enum Kind {
-    Household,
-    Record,
-    Next,
-    Voucher,
-    Paid,
-    Due,
-    Targets,
-}
+/// The kind of a question.
+#[derive(Drop)]
+struct KindWord;
 
-impl Formed for Kind {
-    ghost form = { one_of kinds };
+impl Form for KindWord {
+    type Read = QuestionKind;
 
-    fn of_value(alloc: Global, value: &Value) -> Result<Kind, FormFault> {
+    ghost form = { λ _. one_of kinds };
+
+    ghost passes = { λ _ _. true };
+
+    fn read(&self, alloc: Global, value: &Value) -> Result<QuestionKind, FormFault> {
         let kinds = [
-            ("household", Kind::Household),
-            ("record", Kind::Record),
-            ("next", Kind::Next),
-            ("voucher", Kind::Voucher),
-            ("paid", Kind::Paid),
-            ("due", Kind::Due),
-            ("targets", Kind::Targets),
+            ("household", QuestionKind::Household),
+            ("record", QuestionKind::Record),
+            ("next", QuestionKind::Next),
+            ("voucher", QuestionKind::Voucher),
+            ("paid", QuestionKind::Paid),
+            ("due", QuestionKind::Due),
+            ("targets", QuestionKind::Targets),
         ];
         one_of(alloc, value, &kinds)
     }
@@ -54,61 +50,61 @@ impl Form for Ask {
     #[tactic(auto, unfolding(crate::specs::Questions::question_at))]
     fn read(&self, alloc: Global, value: &Value) -> Result<Question, FormFault> {
         object(alloc, value)?;
-        let kind = field(alloc, value, "kind")?;
+        let kind = field_by(alloc, value, "kind", &KindWord)?;
         let asked = fields_of(alloc, value, kind)?;
         closed(alloc, value, names_of(kind), asked)
     }
 }
 
 #[tactic(auto, unfolding(crate::specs::Questions::fields_at))]
-fn fields_of(alloc: Global, value: &Value, kind: Kind) -> Result<Question, FormFault>
+fn fields_of(alloc: Global, value: &Value, kind: QuestionKind) -> Result<Question, FormFault>
     ensures { Gives (λ asked. asked) result (fields_at kind (view value.now)) }
 {
     match kind {
-        Kind::Household => {
+        QuestionKind::Household => {
             let household = field(alloc, value, "household")?;
             Ok(Question::Household { household })
         }
-        Kind::Record => {
+        QuestionKind::Record => {
             let household = field(alloc, value, "household")?;
             let target = field(alloc, value, "record")?;
             Ok(Question::Record { household, target })
         }
-        Kind::Next => {
+        QuestionKind::Next => {
             let unit = field(alloc, value, "unit")?;
             let day = field(alloc, value, "day")?;
             Ok(Question::Next { unit, day })
         }
-        Kind::Voucher => {
+        QuestionKind::Voucher => {
             let month = field(alloc, value, "month")?;
             Ok(Question::Voucher { month })
         }
-        Kind::Paid => {
+        QuestionKind::Paid => {
             let household = field(alloc, value, "household")?;
             let month = field(alloc, value, "month")?;
             Ok(Question::Paid { household, month })
         }
-        Kind::Due => {
+        QuestionKind::Due => {
             let day = field(alloc, value, "day")?;
             Ok(Question::Due { day })
         }
-        Kind::Targets => {
+        QuestionKind::Targets => {
             let day = field(alloc, value, "day")?;
             Ok(Question::Targets { day })
         }
     }
 }
 
-fn names_of(kind: Kind) -> &'static [&'static str]
+fn names_of(kind: QuestionKind) -> &'static [&'static str]
     ensures { map (λ name. name.now) result.now ≡ names_of kind }
 {
     match kind {
-        Kind::Household => &["kind", "household"],
-        Kind::Record => &["kind", "household", "record"],
-        Kind::Next => &["kind", "unit", "day"],
-        Kind::Voucher => &["kind", "month"],
-        Kind::Paid => &["kind", "household", "month"],
-        Kind::Due => &["kind", "day"],
-        Kind::Targets => &["kind", "day"],
+        QuestionKind::Household => &["kind", "household"],
+        QuestionKind::Record => &["kind", "household", "record"],
+        QuestionKind::Next => &["kind", "unit", "day"],
+        QuestionKind::Voucher => &["kind", "month"],
+        QuestionKind::Paid => &["kind", "household", "month"],
+        QuestionKind::Due => &["kind", "day"],
+        QuestionKind::Targets => &["kind", "day"],
     }
 }

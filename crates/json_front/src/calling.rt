@@ -5,13 +5,13 @@ ghost use Rattle.serde_json.specs.View.{view};
 ghost use Rattle.json_form.specs.Gives.{Gives};
 ghost use Rattle.book_rows.specs.Fit.{is_fit};
 ghost use Rattle.command_forms.specs.Commands.{command_at};
-ghost use Rattle.office_answers.specs.Below.office_step.Step.{is_fit_call};
+ghost use Rattle.office_step.specs.Step.{is_fit_call};
 ghost use Rattle.json_front.specs.Calls.{call_fields, call_at, call_from};
 
 use book_rows::Command;
 use command_text::command_of_value;
 use json_form::{Form, FormFault, closed, field_by, number_field, object, value_of_bytes};
-use office_answers::office_step::Call;
+use office_step::Call;
 use serde_json::Value;
 use std::alloc::Global;
 

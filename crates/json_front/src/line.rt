@@ -9,8 +9,8 @@ use crate::asking::Ask;
 use crate::calling::call_fields;
 use days_core::Day;
 use json_form::{FormFault, closed, field_by, object, optional_field, value_of_bytes};
-use office_answers::Question;
-use office_answers::office_step::Call;
+use office_step::Call;
+use questions::Question;
 use serde_json::Value;
 use std::alloc::Global;
 

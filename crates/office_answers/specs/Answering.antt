@@ -5,7 +5,8 @@ use Rattle.wait_list.specs.{declared.ask.Candidate.Candidate, Next.next_candidat
 use Rattle.voucher_core.specs.declared.line.Line.{Line}
 use Rattle.book_rows.specs.Book.{Book}
 use Rattle.admission_order.specs.Below.office_step.{declared.refusal.Refusal.Refusal, Known.Known, Known.known_of, Candidates.asked_of, declared.refusal.Named.Named}
-use Rattle.office_answers.specs.{declared.question.Question.Question, declared.answer.Answer.Answer, Answered.answered, Households.household_answer, Households.record_answer, Vouchers.voucher_answer, Vouchers.paid_answer, DueList.due_answer, FiscalYear.targets_answer}
+use Rattle.questions.specs.declared.question.Question.{Question}
+use Rattle.office_answers.specs.{declared.answer.Answer.Answer, Answered.answered, Households.household_answer, Households.record_answer, Vouchers.voucher_answer, Vouchers.paid_answer, DueList.due_answer, FiscalYear.targets_answer}
 
 -- who is next for the unit on the day
 abbrev pub next_in : Known → Plan → ℕ → UnitRow → Option Candidate

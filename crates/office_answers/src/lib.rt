@@ -10,7 +10,6 @@ mod households;
 mod in_turn;
 mod laws;
 mod next;
-mod question;
 mod reply;
 mod vouchers;
 
@@ -22,5 +21,5 @@ pub use book_lines::BookLines;
 pub use in_turn::{are_in_turn, stay_in_turn};
 pub use laws::{due_list_is_whole, vouchers_total};
 pub use office_refusals;
-pub use question::Question;
+pub use questions::Question;
 pub use reply::Reply;

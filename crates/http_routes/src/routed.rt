@@ -1,28 +1,16 @@
-//! What a message asks for.
+//! Where a message leads.
 
 ghost use Rattle.std.specs.Prelude.{◌≡◌};
 ghost use Rattle.http_routes.specs.Asks.{name_of};
 
-use days_core::{Day, Month};
-
-/// What a message asks for.
-#[derive(Clone, Copy, Debug)]
-pub enum Asked {
-    /// An act, which the body says.
-    Act,
-    Household { household: u32 },
-    Record { household: u32, record: u32 },
-    Paid { household: u32, month: Month },
-    Next { unit: u32, day: Day },
-    Voucher { month: Month },
-    Due { day: Day },
-    Targets { day: Day },
-}
+use questions::Question;
 
 /// Where a method and a target lead.
 #[derive(Clone, Copy, Debug)]
 pub enum Routed {
-    Asked(Asked),
+    /// To the acts: the body says which.
+    Act,
+    Question(Question),
     /// No route fits the target.
     NoRoute,
     /// The route has another method.
