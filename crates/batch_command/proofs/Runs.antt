@@ -7,7 +7,7 @@ use Rattle.line_input.specs.{declared.reader.Next.Next, Lines.IsEndless, Lines.l
 use Rattle.book_rows.specs.Book.{Book}
 use Rattle.clerk_desk.specs.Below.office_step.declared.call.Capacity.{Capacity}
 use Rattle.batch_command.specs.{declared.ending.Ending.Ending, Output.Given, Output.told_of, Output.batch_output, Line.AnswersLine}
-use Rattle.batch_command.specs.{Answers.Writes, Batch.line_limit, Batch.most_lines, Batch.lines_in, Batch.ending_of, Batch.Follows, Batch.Ran}
+use Rattle.batch_command.specs.{Answers.Writes, Batch.line_limit, Batch.most_lines, Batch.lines_in, Batch.ending_of, Batch.Follows, Batch.LinesRan}
 use Rattle.batch_command.proofs.More.{book-more, written-more, part_written}
 use Rattle.batch_command.proofs.SoFar.{IsTaken, SoFar, joined-more}
 use Rattle.batch_command.proofs.Ends.{none_behind, IsFront, is_front, is_front_last, follows_done, follows_last, follows_failed, follows_long, follows_more, follows_more_last}
@@ -31,7 +31,7 @@ endless_lines shows given taken =
 module _ {capacity : Capacity} {shows : ℕ → Type 0} {old : Book} {left held : Option (List ℕ)} where
   finish : (new : Book) (left_now held_now : Option (List ℕ)) (given : List Given) (end : Ending) → All (IsTaken shows) given → length given ≤ most_lines
       → IfSome left (λ input. Follows input left_now (lines_in given) end) → new ≡ (batch_output capacity old given).book
-      → Writes (told_of capacity) old given held held_now end → Ran capacity shows old new left left_now held held_now end
+      → Writes (told_of capacity) old given held held_now end → LinesRan capacity shows old new left left_now held held_now end
   finish new left_now held_now given end taken few follows book writes = record {
     given = given;
     shown = All-weaker (IsTaken shows) (λ g. shows g.day) (λ g t. t.shown) given taken;
@@ -49,12 +49,12 @@ module _ {capacity : Capacity} {shows : ℕ → Type 0} {old : Book} {left held 
     endless = endless_lines shows given so_far.taken
 
     stop : (left_now : Option (List ℕ)) (end : Ending) → IfSome left (λ input. Follows input left_now (lines_in given) end)
-        → Writes (told_of capacity) old given held held_now end → Ran capacity shows old new left left_now held held_now end
+        → Writes (told_of capacity) old given held held_now end → LinesRan capacity shows old new left left_now held held_now end
     stop left_now end follows writes = finish new left_now held_now given end so_far.taken few follows so_far.book writes
 
     pub ran_without : {known_now left_now : Option (List ℕ)} (reading : Reading) (what : Next) → (IsLine what → length given ≡ most_lines)
         → Comes line_limit known known_now reading what → known_now ≡ prepend_known reading.rest left_now
-        → Ran capacity shows old new left left_now held held_now (ending_of what)
+        → LinesRan capacity shows old new left left_now held held_now (ending_of what)
     ran_without {known_now} {left_now} reading Next.End many comes is =
         stop left_now Ending.Done (follows_done left known (lines_in given) so_far.consumed endless known_now left_now comes.0 comes.1
         (none_behind reading.rest left_now (subst IsAtEnd is comes.1))) so_far.written
@@ -75,14 +75,14 @@ module _ {capacity : Capacity} {shows : ℕ → Type 0} {old : Book} {left held 
   module _ {mid new : Book} {known held_mid held_now : Option (List ℕ)} {given : List Given} (so_far : SoFar capacity shows old mid left known held held_mid given)
       (few : length given + 1 ≤ most_lines) (g : Given) (taken : IsTaken shows g) where
     with_line : (left_now : Option (List ℕ)) (end : Ending) → IfSome left (λ input. Follows input left_now (lines_in (given ++ g ∷ [])) end)
-        → new ≡ (told_of capacity mid g).book → Writes (told_of capacity) old (given ++ g ∷ []) held held_now end → Ran capacity shows old new left left_now held held_now end
+        → new ≡ (told_of capacity mid g).book → Writes (told_of capacity) old (given ++ g ∷ []) held held_now end → LinesRan capacity shows old new left left_now held held_now end
     with_line left_now end follows book writes =
         finish new left_now held_now (given ++ g ∷ []) end (All-push (IsTaken shows) given g so_far.taken taken) (omega (arith, length-append given (g ∷ []))) follows
         (book-more (told_of capacity) old mid new given g so_far.book book) writes
 
     -- the batch ends within the line
     ran_within : (left_now : Option (List ℕ)) (end : Ending) → IfSome left (λ input. IsFront input (lines_in (given ++ g ∷ [])))
-        → AnswersLine (told_of capacity mid g) mid new held_mid held_now (Some end) → Ran capacity shows old new left left_now held held_now end
+        → AnswersLine (told_of capacity mid g) mid new held_mid held_now (Some end) → LinesRan capacity shows old new left left_now held held_now end
     ran_within left_now Ending.WriteFault front answers =
         with_line left_now Ending.WriteFault front answers.0 (part_written (told_of capacity) old mid held held_mid held_now given g so_far.book so_far.written answers.1)
     ran_within left_now Ending.StoreFault front answers =
@@ -91,7 +91,7 @@ module _ {capacity : Capacity} {shows : ℕ → Type 0} {old : Book} {left held 
         (Appends-kept held held_mid held_now _ so_far.written answers.1)
     ran_within left_now Ending.NoMemory front answers = by_book answers.0
       where
-        by_book : (new ≡ mid) ⊎ (new ≡ (told_of capacity mid g).book) → Ran capacity shows old new left left_now held held_now Ending.NoMemory
+        by_book : (new ≡ mid) ⊎ (new ≡ (told_of capacity mid g).book) → LinesRan capacity shows old new left left_now held held_now Ending.NoMemory
         by_book (inl same) =
             finish new left_now held_now given Ending.NoMemory so_far.taken (omega arith)
             (is_front left known (lines_in given) so_far.consumed (endless_lines shows given so_far.taken)) (same ∙ so_far.book)
@@ -105,7 +105,7 @@ module _ {capacity : Capacity} {shows : ℕ → Type 0} {old : Book} {left held 
 
     -- the batch ends within a line whose end was read
     pub ran_line : (known_now left_now : Option (List ℕ)) (end : Ending) → Consumes known known_now (g.line ++ 10 ∷ [])
-        → AnswersLine (told_of capacity mid g) mid new held_mid held_now (Some end) → Ran capacity shows old new left left_now held held_now end
+        → AnswersLine (told_of capacity mid g) mid new held_mid held_now (Some end) → LinesRan capacity shows old new left left_now held held_now end
     ran_line known_now left_now end consumed answers =
         ran_within left_now end
         (is_front left known_now (lines_in (given ++ g ∷ []))
@@ -113,7 +113,7 @@ module _ {capacity : Capacity} {shows : ℕ → Type 0} {old : Book} {left held 
 
     -- the batch ends with its last line, or within it
     pub ran_last : (known_now left_now : Option (List ℕ)) (found : Option Ending) → 0 < length g.line → Consumes known known_now g.line → IsAtEnd known_now → IsAtEnd left_now
-        → AnswersLine (told_of capacity mid g) mid new held_mid held_now found → Ran capacity shows old new left left_now held held_now (unwrap_or found Ending.Done)
+        → AnswersLine (told_of capacity mid g) mid new held_mid held_now found → LinesRan capacity shows old new left left_now held held_now (unwrap_or found Ending.Done)
     ran_last known_now left_now found some consumed ended at_end answers = by_end found answers
       where
         follows : IfSome left (λ input. lines_in (given ++ g ∷ []) ≡ lines_of input)
@@ -122,7 +122,7 @@ module _ {capacity : Capacity} {shows : ℕ → Type 0} {old : Book} {left held 
             (follows_last left known (lines_in given) so_far.consumed (endless_lines shows given so_far.taken) known_now g.line taken.endless some consumed ended)
 
         by_end : (found : Option Ending) → AnswersLine (told_of capacity mid g) mid new held_mid held_now found
-            → Ran capacity shows old new left left_now held held_now (unwrap_or found Ending.Done)
+            → LinesRan capacity shows old new left left_now held held_now (unwrap_or found Ending.Done)
         by_end None answers =
             with_line left_now Ending.Done (IfSome_then left follows (λ input all. (all, at_end))) answers.0 (written-more (told_of capacity) old mid held held_mid held_now given g so_far.book so_far.written answers.1)
         by_end (Some end) answers = ran_within left_now end (is_front_last left (lines_in (given ++ g ∷ [])) follows) answers

@@ -6,7 +6,7 @@ use Rattle.line_input.specs.declared.reader.Next.{Next}
 use Rattle.line_input.specs.Reading.{Reading, Comes}
 use Rattle.book_rows.specs.Book.{Book}
 use Rattle.clerk_desk.specs.Below.office_step.declared.call.Capacity.{Capacity}
-use Rattle.batch_command.specs.{declared.ending.Ending.Ending, Output.Given, Output.told_of, Line.AnswersLine, Batch.line_limit, Batch.most_lines, Batch.Ran}
+use Rattle.batch_command.specs.{declared.ending.Ending.Ending, Output.Given, Output.told_of, Line.AnswersLine, Batch.line_limit, Batch.most_lines, Batch.LinesRan}
 use Rattle.batch_command.proofs.{SoFar.SoFar, SoFar.so_far_more, Runs.ran_line, Runs.ran_last}
 
 -- the line was answered on a day that the clock may show
@@ -37,7 +37,7 @@ module _ (capacity own : Capacity) (shows : ℕ → Type 0) (old mid new : Book)
 
   -- the batch ends within the line
   pub ends_within : (left_now : Option (List ℕ)) (end : Ending) → count < most_lines → Comes line_limit known known_now reading Next.Line
-      → AnsweredOn shows own mid new line held_mid held_now (Some end) → Ran capacity shows old new left left_now held held_now end
+      → AnsweredOn shows own mid new line held_mid held_now (Some end) → LinesRan capacity shows old new left left_now held held_now end
   ends_within left_now end few comes answered =
       let a : AnsweredOn shows capacity mid new reading.line held_mid held_now (Some end) =
       same_line shows capacity own mid new line reading.line held_mid held_now (Some end) same is_line answered in
@@ -45,7 +45,7 @@ module _ (capacity own : Capacity) (shows : ℕ → Type 0) (old mid new : Book)
 
   -- the batch ends with its last line
   pub ends_with : (left_now : Option (List ℕ)) (found : Option Ending) (end : Ending) → count < most_lines → Comes line_limit known known_now reading Next.Last → IsAtEnd left_now
-      → AnsweredOn shows own mid new line held_mid held_now found → end ≡ unwrap_or found Ending.Done → Ran capacity shows old new left left_now held held_now end
+      → AnsweredOn shows own mid new line held_mid held_now found → end ≡ unwrap_or found Ending.Done → LinesRan capacity shows old new left left_now held held_now end
   ends_with left_now found end few comes at_end answered is =
       let a : AnsweredOn shows capacity mid new reading.line held_mid held_now found =
       same_line shows capacity own mid new line reading.line held_mid held_now found same is_line answered in

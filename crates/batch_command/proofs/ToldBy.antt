@@ -5,7 +5,7 @@ use Rattle.book_rows.specs.Book.{Book}
 use Rattle.clerk_desk.specs.Below.office_step.{declared.call.Call.Call, declared.call.Capacity.Capacity, Step.step}
 use Rattle.json_front.specs.declared.line.BatchLine.{BatchLine}
 use Rattle.batch_command.specs.Output.{Told, session, told_of_call, told_by}
-use Rattle.batch_command.specs.{Line.Tells, declared.ending.Ending.Ending}
+use Rattle.batch_command.specs.{Line.TellsLine, declared.ending.Ending.Ending}
 
 pub call_told : (capacity : Capacity) (old : Book) (today day : ℕ) (own : Option ℕ) (call : Call) (read : Result BatchLine (List ℕ))
     → read ≡ Ok (BatchLine.Act own call) → day ≡ unwrap_or own today → told_of_call old (step old capacity session day call) ≡ told_by capacity old today read
@@ -14,6 +14,6 @@ call_told capacity old today day own call read is dated =
 
 pub tells_call : (capacity : Capacity) (old new : Book) (today day : ℕ) (own : Option ℕ) (call : Call) (read : Result BatchLine (List ℕ)) (result : Result (List ℕ) Ending)
     → read ≡ Ok (BatchLine.Act own call) → day ≡ unwrap_or own today
-    → Tells (told_of_call old (step old capacity session day call)) old new result → Tells (told_by capacity old today read) old new result
+    → TellsLine (told_of_call old (step old capacity session day call)) old new result → TellsLine (told_by capacity old today read) old new result
 tells_call capacity old new today day own call read result is dated tells =
-    subst (λ (t : Told). Tells t old new result) (call_told capacity old today day own call read is dated) tells
+    subst (λ (t : Told). TellsLine t old new result) (call_told capacity old today day own call read is dated) tells

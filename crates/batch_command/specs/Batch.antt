@@ -38,7 +38,7 @@ Follows input left lines _ = (rest : List (List ℕ)) × (lines_of input ≡ lin
 
 -- These lines were answered, each on a day that the clock may show: the book is the one after them, and what was written is
 -- their answers. `left` is what the source had left before and now, `held` what the sink held.
-pub record Ran (capacity : Capacity) (shows : ℕ → Type 0) (old new : Book) (left left_now held held_now : Option (List ℕ)) (end : Ending) : Type 0 where
+pub record LinesRan (capacity : Capacity) (shows : ℕ → Type 0) (old new : Book) (left left_now held held_now : Option (List ℕ)) (end : Ending) : Type 0 where
   pub given : List Given
   pub shown : All (λ g. shows g.day) given
   pub short : All (λ g. length g.line ≤ line_limit) given

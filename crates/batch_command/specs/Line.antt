@@ -8,11 +8,11 @@ use Rattle.batch_command.specs.{Output.Told, Output.line_end, declared.ending.En
 
 -- The text of the answer is at hand and the book is the one after the line; or the keeper failed, and the book is as before;
 -- or memory ran out before the act was appended, or after it.
-abbrev pub Tells : Told → Book → Book → Result (List ℕ) Ending → Type 0
-Tells told old new (Ok text) = (text ≡ told.text) × (new ≡ told.book)
-Tells told old new (Err Ending.StoreFault) = new ≡ old
-Tells told old new (Err Ending.NoMemory) = (new ≡ old) ⊎ (new ≡ told.book)
-Tells told old new _ = ⊥
+abbrev pub TellsLine : Told → Book → Book → Result (List ℕ) Ending → Type 0
+TellsLine told old new (Ok text) = (text ≡ told.text) × (new ≡ told.book)
+TellsLine told old new (Err Ending.StoreFault) = new ≡ old
+TellsLine told old new (Err Ending.NoMemory) = (new ≡ old) ⊎ (new ≡ told.book)
+TellsLine told old new _ = ⊥
 
 -- The line was answered, and the batch goes on; or the sink failed within its answer; or it ends before anything of the
 -- answer was written.

@@ -5,7 +5,7 @@ ghost use Rattle.book_rows.specs.Book.{Book};
 ghost use Rattle.keeper_core.specs.Keeping.{Keeps};
 ghost use Rattle.clerk_desk.specs.Serving.{ToldBefore, TellsOn, Outlives};
 ghost use Rattle.batch_command.specs.Answers.{Blames};
-ghost use Rattle.batch_command.specs.Batch.{Ran, LeavesByLine, ending_of};
+ghost use Rattle.batch_command.specs.Batch.{LinesRan, LeavesByLine, ending_of};
 
 use crate::Ending;
 use crate::line::answer_line;
@@ -31,7 +31,7 @@ pub fn answer_lines<K: Keeper, S: Source, W: Sink, C: Clock>(
     keeper: &mut K,
 ) -> Ending
     requires { (book : Book) → K.holds keeper.old book → book ≡ office.old.book }
-    ensures ran { Ran office.old.capacity (C.may_show clock.now) office.old.book office.new.book
+    ensures ran { LinesRan office.old.capacity (C.may_show clock.now) office.old.book office.new.book
         (S.left source.old) (S.left source.new) (W.held sink.old) (W.held sink.new) result }
     ensures capacity { office.new.capacity ≡ office.old.capacity }
     ensures kept { (book : Book) → K.holds keeper.new book → book ≡ office.new.book }

@@ -9,7 +9,7 @@ ghost use Rattle.reply_text.specs.Replies.{bad_form_text};
 ghost use Rattle.keeper_core.specs.Keeping.{Keeps};
 ghost use Rattle.clerk_desk.specs.Serving.{ToldBefore, TellsOn, IsFurther};
 ghost use Rattle.batch_command.specs.Output.{session, is_passed_over, line_end, told_of, told_by, told_of_call, answered_text};
-ghost use Rattle.batch_command.specs.Line.{Tells, IsText, WritesText, AnswersLine, LineBlames, SinkBlames, TellBlames, IsMadeBy, TellCrash, LineCrash};
+ghost use Rattle.batch_command.specs.Line.{TellsLine, IsText, WritesText, AnswersLine, LineBlames, SinkBlames, TellBlames, IsMadeBy, TellCrash, LineCrash};
 
 use crate::Ending;
 use clerk_desk::office_answers::{Asked, Question, Reply};
@@ -65,7 +65,7 @@ pub fn answer_of_line<K: Keeper>(
     line: &[u8],
 ) -> Result<Text, Ending>
     requires { (book : Book) → K.holds keeper.old book → book ≡ office.old.book }
-    ensures told { Tells (told_of office.old.capacity office.old.book (record { line = line.now; day = today })) office.old.book office.new.book result }
+    ensures told { TellsLine (told_of office.old.capacity office.old.book (record { line = line.now; day = today })) office.old.book office.new.book result }
     ensures capacity { office.new.capacity ≡ office.old.capacity }
     ensures kept { (book : Book) → K.holds keeper.new book → book ≡ office.new.book }
     ensures told_before { ToldBefore (K.holds keeper.old) (K.holds keeper.new) }
@@ -110,7 +110,7 @@ fn told<K: Keeper>(
     line: &[u8],
 ) -> Result<Text, Ending>
     requires { (book : Book) → K.holds keeper.old book → book ≡ office.old.book }
-    ensures told { Tells (told_by office.old.capacity office.old.book today (line_from line.now)) office.old.book office.new.book result }
+    ensures told { TellsLine (told_by office.old.capacity office.old.book today (line_from line.now)) office.old.book office.new.book result }
     ensures capacity { office.new.capacity ≡ office.old.capacity }
     ensures kept { (book : Book) → K.holds keeper.new book → book ≡ office.new.book }
     ensures told_before { ToldBefore (K.holds keeper.old) (K.holds keeper.new) }
@@ -142,7 +142,7 @@ pub fn answer_call<K: Keeper>(
 ) -> Result<Text, Ending>
     requires fit { is_fit_call call ≡ true }
     requires told { (book : Book) → K.holds keeper.old book → book ≡ office.old.book }
-    ensures told { Tells (told_of_call office.old.book (step office.old.book office.old.capacity session day call)) office.old.book office.new.book result }
+    ensures told { TellsLine (told_of_call office.old.book (step office.old.book office.old.capacity session day call)) office.old.book office.new.book result }
     ensures capacity { office.new.capacity ≡ office.old.capacity }
     ensures kept { (book : Book) → K.holds keeper.new book → book ≡ office.new.book }
     ensures told_before { ToldBefore (K.holds keeper.old) (K.holds keeper.new) }

@@ -52,7 +52,7 @@ fn answer(rt: &HostRuntime, keeper: &mut MemoryKeeper) -> Result<u8, AllocError>
     let mut sink = StreamSink::new(rt.stdout());
     // Each line tells its own day, so any clock will do.
     let clock = FixedClock::new(Day::from_number(43_829).unwrap());
-    Ok(run(alloc, &words, &mut source, &mut sink, &clock, keeper))
+    Ok(run(alloc, &words, &mut source, &mut sink, &clock, keeper).number())
 }
 
 /// Opens the office on the keeper's book so many times, and gives how many acts the book has.

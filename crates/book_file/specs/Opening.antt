@@ -2,6 +2,7 @@
 use Rattle.std.specs.Prelude.{◌≡◌, ℕ, ◌||◌, Bool, List, codes, bytes_eq, take}
 use Rattle.std.specs.IoError.{error_kind}
 use Rattle.std.specs.declared.io.ErrorKind.{ErrorKind}
+use Rattle.office_io.specs.declared.status.ExitStatus.{ExitStatus}
 use Rattle.sqlite.specs.declared.error.{Error.Error, ErrorCode.ErrorCode}
 use Rattle.sqlite.specs.declared.Options.{Options}
 use Rattle.sqlite_std_file.specs.declared.pair.OpenError.{OpenError}
@@ -28,10 +29,10 @@ error_of OpenError.OutOfMemory = no_memory
 error_of (OpenError.Io error) = error_of_kind (error_kind error)
 error_of _ = cannot_open
 
--- the status of the program then: 7 is want of memory
-abbrev pub status_of : Error → ℕ
-status_of (Error.SqliteFailure ErrorCode.OutOfMemory) = 7
-status_of _ = 5
+-- how the program ends then
+abbrev pub status_of : Error → ExitStatus
+status_of (Error.SqliteFailure ErrorCode.OutOfMemory) = ExitStatus.NoMemory
+status_of _ = ExitStatus.StoreFault
 
 -- ---- how
 

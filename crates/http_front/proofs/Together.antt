@@ -16,17 +16,17 @@ use Rattle.http_responses.specs.declared.body.Reply.{Reply}
 use Rattle.http_routes.specs.declared.routed.Routed.{Routed}
 use Rattle.shared_desk.specs.{Calls.Further, Calls.IsBooked, Calls.IsCalled, Calls.IsUnbooked, Deciding.IsReplied, History.HistoriesWereLegal, History.IsLegalHistory, History.capacity_of, History.tables_at}
 use Rattle.http_front.proofs.Seen.{seen_ends, seen_told}
-use Rattle.http_front.specs.{Passes.AnswersPass, Passes.SaysBody, Passes.SaysTo, Passes.reply_of, Told.IsSaid, Told.said_of_answer, declared.said.Said.Said, declared.said.Silence.Silence}
+use Rattle.http_front.specs.{Passes.AnswersPass, Passes.SaysBody, Passes.SaysTo, Passes.reply_of, Told.IsSaid, Told.said_of_answer, declared.draft.ReplyDraft.ReplyDraft, declared.draft.NoReply.NoReply}
 use Rattle.http_front.specs.Together.{point_behind, tables_behind, step_behind, acts_behind, IsBookedAt, IsUnbookedAt, SaysAt, SaysBodyAt, IsReplyAt, Exchange, ByPass, ByHistory, SessionsShareAHistory}
 
 -- ---- a pass goes on from each reply to the next
 
-body_further : (shows : ℕ → Type 0) (read : Result Call (List ℕ)) (old new : PassView) (said : Result Said Silence) → SaysBody shows read old new said → Further old new
+body_further : (shows : ℕ → Type 0) (read : Result Call (List ℕ)) (old new : PassView) (said : Result ReplyDraft NoReply) → SaysBody shows read old new said → Further old new
 body_further shows (Ok call) old new said (inl says) = inr says.goes_on
 body_further shows (Ok call) old new said (inr (same, silent)) = inl same
 body_further shows (Err path) old new said (same, right) = inl same
 
-says_further : (shows : ℕ → Type 0) (body : List ℕ) (routed : Routed) (old new : PassView) (said : Result Said Silence) → SaysTo shows body routed old new said → Further old new
+says_further : (shows : ℕ → Type 0) (body : List ℕ) (routed : Routed) (old new : PassView) (said : Result ReplyDraft NoReply) → SaysTo shows body routed old new said → Further old new
 says_further shows body Routed.Act old new said says = body_further shows (call_from body) old new said says
 says_further shows body (Routed.Question question) old new said says = inr ([], [], says.goes_on)
 says_further shows body (Routed.BadPart part) old new said (same, right) = inl same
@@ -124,7 +124,7 @@ module _ (were : HistoriesWereLegal) (start : Start) (history : List ActRow) (le
     same_count : new ≡ old → length new.list ≡ length old.list
     same_count same = ap (λ (pass : PassView). length pass.list) same
 
-    body_at : (shows : ℕ → Type 0) (read : Result Call (List ℕ)) (said : Result Said Silence) → SaysBody shows read old new said
+    body_at : (shows : ℕ → Type 0) (read : Result Call (List ℕ)) (said : Result ReplyDraft NoReply) → SaysBody shows read old new said
         → SaysBodyAt start history number (length old.list) (length new.list) shows read said
     body_at shows (Ok call) said (inl says) = inl (record {
       day = says.day;
@@ -136,7 +136,7 @@ module _ (were : HistoriesWereLegal) (start : Start) (history : List ActRow) (le
     body_at shows (Ok call) said (inr (same, silent)) = inr (same_count same, silent)
     body_at shows (Err path) said (same, right) = (same_count same, right)
 
-    says_at : (shows : ℕ → Type 0) (body : List ℕ) (routed : Routed) (said : Result Said Silence) → SaysTo shows body routed old new said
+    says_at : (shows : ℕ → Type 0) (body : List ℕ) (routed : Routed) (said : Result ReplyDraft NoReply) → SaysTo shows body routed old new said
         → SaysAt start history number (length old.list) (length new.list) shows body routed said
     says_at shows body Routed.Act said says = body_at shows (call_from body) said says
     says_at shows body (Routed.Question question) said says = record {

@@ -12,7 +12,7 @@ use Rattle.http_responses.specs.declared.{body.Reply.Reply, refusal.Refusal.Refu
 use Rattle.http_routes.specs.{Asks.name_of, declared.routed.Routed.Routed}
 use Rattle.http_session.specs.{Completeness.Completes, Sessions.Ends, declared.end.SessionEnd.SessionEnd}
 use Rattle.shared_desk.specs.{Deciding.IsReplied, History.IsLegalHistory, History.capacity_of, History.tables_at}
-use Rattle.http_front.specs.{Passes.AnswersPass, Passes.IsToldAs, Passes.reply_of, Told.IsLed, Told.IsSaid, Told.bad_form, Told.refused, Told.said_of_answer, declared.said.Said.Said, declared.said.Silence.Silence}
+use Rattle.http_front.specs.{Passes.AnswersPass, Passes.IsToldAs, Passes.reply_of, Told.IsLed, Told.IsSaid, Told.bad_form, Told.refused, Told.said_of_answer, declared.draft.ReplyDraft.ReplyDraft, declared.draft.NoReply.NoReply}
 
 -- ---- a history behind its first so many rows
 
@@ -55,7 +55,7 @@ module _ (start : Start) (history : List ActRow) (number before count : ℕ) whe
     pub own : acts_behind history count number ≡ acts_behind history before number
 
   -- a call, on a day that the clock may show; whether the keeper failed is no matter of the history
-  pub record SaysCallAt (shows : ℕ → Type 0) (call : Call) (said : Result Said Silence) : Type 0 where
+  pub record SaysCallAt (shows : ℕ → Type 0) (call : Call) (said : Result ReplyDraft NoReply) : Type 0 where
     pub day : ℕ
     pub shown : shows day
     pub reply : OfficeReply
@@ -63,21 +63,21 @@ module _ (start : Start) (history : List ActRow) (number before count : ℕ) whe
     pub told : IsToldAs reply said
 
   -- a question: the answer is the one there, and the session has no further act
-  pub record SaysAnswerAt (question : Question) (said : Result Said Silence) : Type 0 where
+  pub record SaysAnswerAt (question : Question) (said : Result ReplyDraft NoReply) : Type 0 where
     pub own : acts_behind history count number ≡ acts_behind history before number
     pub told : IsSaid (said_of_answer (answer_to (tables_behind start history count) question)) said
 
   -- what the office isn't asked for, at the point of the reply before
-  abbrev pub SaysAloneAt : Said → Result Said Silence → Type 0
+  abbrev pub SaysAloneAt : ReplyDraft → Result ReplyDraft NoReply → Type 0
   SaysAloneAt right said = (count ≡ before) × IsSaid right said
 
   -- the call that a body is read as, unless memory ran out before the office was asked
-  abbrev pub SaysBodyAt : (ℕ → Type 0) → Result Call (List ℕ) → Result Said Silence → Type 0
-  SaysBodyAt shows (Ok call) said = SaysCallAt shows call said ⊎ ((count ≡ before) × (said ≡ Err Silence.NoMemory))
+  abbrev pub SaysBodyAt : (ℕ → Type 0) → Result Call (List ℕ) → Result ReplyDraft NoReply → Type 0
+  SaysBodyAt shows (Ok call) said = SaysCallAt shows call said ⊎ ((count ≡ before) × (said ≡ Err NoReply.NoMemory))
   SaysBodyAt shows (Err path) said = SaysAloneAt (bad_form path) said
 
   -- by where a message leads, and its body
-  abbrev pub SaysAt : (ℕ → Type 0) → List ℕ → Routed → Result Said Silence → Type 0
+  abbrev pub SaysAt : (ℕ → Type 0) → List ℕ → Routed → Result ReplyDraft NoReply → Type 0
   SaysAt shows body Routed.Act said = SaysBodyAt shows (call_from body) said
   SaysAt shows body (Routed.Question question) said = SaysAnswerAt question said
   SaysAt shows body (Routed.BadPart part) said = SaysAloneAt (bad_form (name_of part)) said
@@ -92,7 +92,7 @@ pub record IsReplyAt (shows : ℕ → Type 0) (start : Start) (history : List Ac
   pub legal : IsLegalHistory start (take count history)
   pub routed : Routed
   pub led : IsLed message routed
-  pub said : Result Said Silence
+  pub said : Result ReplyDraft NoReply
   pub says : SaysAt start history number before count shows message.body routed said
   pub reply_is : reply ≡ reply_of said (point_behind start count)
 

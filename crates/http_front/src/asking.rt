@@ -7,7 +7,7 @@ ghost use Rattle.clerk_desk.specs.Below.office_step.declared.refusal.Refusal.{Re
 ghost use Rattle.http_session.specs.Replies.{refuses};
 ghost use Rattle.http_front.specs.Told.{IsLed, IsSaid, bad_form, said_of_answer};
 
-use crate::said::{Said, Silence};
+use crate::draft::{NoReply, ReplyDraft};
 use clerk_desk::office_answers::{Answer, Asked, Reply};
 use http_messages::Message;
 use http_responses::{Body, Status};
@@ -30,28 +30,31 @@ pub(crate) fn lead(routes: &Routes, message: &Message) -> Routed
 }
 
 /// What is said of an answer, or of why there is none.
-pub(crate) fn said_of_answer(alloc: Global, answer: Result<Answer, Asked>) -> Result<Said, Silence>
+pub(crate) fn said_of_answer(
+    alloc: Global,
+    answer: Result<Answer, Asked>,
+) -> Result<ReplyDraft, NoReply>
     ensures said { (right : Result Answer Refusal) → Answers right answer → IsSaid (said_of_answer right) result }
     ensures taken { IfOk result (λ said. refuses said.status ≡ false) }
 {
     match answer {
-        Ok(answer) => Ok(Said {
+        Ok(answer) => Ok(ReplyDraft {
             status: Status::Okay,
             body: Body::Text(text_of_answer(alloc, &answer)?),
         }),
-        Err(Asked::Refused(refusal)) => Ok(Said {
+        Err(Asked::Refused(refusal)) => Ok(ReplyDraft {
             status: Status::Conflict,
             body: Body::Text(text_of_reply(alloc, &Reply::Refused(refusal))?),
         }),
-        Err(Asked::NoMemory) => Err(Silence::NoMemory),
+        Err(Asked::NoMemory) => Err(NoReply::NoMemory),
     }
 }
 
 /// What is said of the first place that isn't of its form.
-pub(crate) fn said_of_bad_form(alloc: Global, path: &str) -> Result<Said, NoMemory>
+pub(crate) fn said_of_bad_form(alloc: Global, path: &str) -> Result<ReplyDraft, NoMemory>
     ensures { IfOk result (λ said. said ≡ bad_form path.now) }
 {
-    Ok(Said {
+    Ok(ReplyDraft {
         status: Status::UnprocessableEntity,
         body: Body::Text(text_of_bad_form(alloc, path)?),
     })

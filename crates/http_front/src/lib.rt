@@ -2,11 +2,11 @@
 #![tactic(auto)]
 
 mod asking;
+mod draft;
 mod laws;
 mod pass_desk;
 mod passing;
 mod replying;
-mod said;
 mod sharing;
 
 pub use clerk_desk;

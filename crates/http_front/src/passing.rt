@@ -8,8 +8,8 @@ ghost use Rattle.shared_desk.specs.Calls.{Further};
 ghost use Rattle.http_front.specs.Passes.{AnswersPass, SaysAnswer, SaysBody, SaysCall, SaysTo};
 
 use crate::asking::{lead, said_of_answer, said_of_bad_form};
+use crate::draft::{NoReply, ReplyDraft};
 use crate::replying::{refused, replied, said_of_reply};
-use crate::said::{Said, Silence};
 use clerk_desk::office_answers::Question;
 use clerk_desk::office_core::Call;
 use http_messages::Message;
@@ -52,7 +52,7 @@ fn said_to_pass<R: Wait, K: Keeper + Drop, B: Naming, C: Clock>(
     clock: &C,
     routed: Routed,
     body: &[u8],
-) -> Result<Said, Silence>
+) -> Result<ReplyDraft, NoReply>
     ensures says { SaysTo (C.may_show clock.now) body.now routed pass.old pass.new result }
     ensures taken { IfOk result (λ said. refuses said.status ≡ false) }
     ensures further { Further pass.old pass.new }
@@ -73,7 +73,7 @@ fn answer_for<R: Wait, K: Keeper + Drop, B: Naming>(
     desk: &SharedDesk<K, B>,
     pass: &mut Pass<B>,
     question: &Question,
-) -> Result<Said, Silence>
+) -> Result<ReplyDraft, NoReply>
     ensures says { SaysAnswer question.now pass.old pass.new result }
     ensures taken { IfOk result (λ said. refuses said.status ≡ false) }
     ensures further { Further pass.old pass.new }
@@ -90,7 +90,7 @@ fn said_of_body_for<R: Wait, K: Keeper + Drop, B: Naming, C: Clock>(
     pass: &mut Pass<B>,
     clock: &C,
     body: &[u8],
-) -> Result<Said, Silence>
+) -> Result<ReplyDraft, NoReply>
     ensures says { SaysBody (C.may_show clock.now) (call_from body.now) pass.old pass.new result }
     ensures taken { IfOk result (λ said. refuses said.status ≡ false) }
     ensures further { Further pass.old pass.new }
@@ -98,7 +98,7 @@ fn said_of_body_for<R: Wait, K: Keeper + Drop, B: Naming, C: Clock>(
     match call_of_bytes(alloc, body) {
         Ok(call) => said_of_call_for(rt, alloc, desk, pass, clock, call),
         Err(FormFault::BadField(path)) => Ok(said_of_bad_form(alloc, path.as_str())?),
-        Err(FormFault::NoMemory) => Err(Silence::NoMemory),
+        Err(FormFault::NoMemory) => Err(NoReply::NoMemory),
     }
 }
 
@@ -110,7 +110,7 @@ fn said_of_call_for<R: Wait, K: Keeper + Drop, B: Naming, C: Clock>(
     pass: &mut Pass<B>,
     clock: &C,
     call: Call,
-) -> Result<Said, Silence>
+) -> Result<ReplyDraft, NoReply>
     requires fit { is_fit_call call ≡ true }
     ensures says { SaysCall (C.may_show clock.now) call pass.old pass.new result }
     ensures taken { IfOk result (λ said. refuses said.status ≡ false) }

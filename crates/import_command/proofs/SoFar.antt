@@ -6,7 +6,7 @@ use Rattle.std.proofs.lemmas.{List.map-append, List.map-id, List.take_more, List
 use Rattle.book_rows.specs.Book.{Book}
 use Rattle.applicant_rows.specs.declared.row.ImportRow.{ImportRow}
 use Rattle.batch_command.specs.Below.office_step.declared.call.Capacity.{Capacity}
-use Rattle.batch_command.specs.{declared.ending.Ending.Ending, Line.AnswersLine, Line.IsMadeBy, Line.Tells, Output.Told, Output.output}
+use Rattle.batch_command.specs.{declared.ending.Ending.Ending, Line.AnswersLine, Line.IsMadeBy, Line.TellsLine, Output.Told, Output.output}
 use Rattle.batch_command.proofs.More.{book-more, written-more, part_written}
 use Rattle.import_command.specs.Rows.{GivenRow, told_of_row, rows_in, RowsRan, LeavesByRow}
 
@@ -48,7 +48,7 @@ keeps_itself None = tt
 keeps_itself (Some bytes) = refl
 
 -- nothing is written of a row that has no answer
-pub unsaid : (told : Told) (old new : Book) (held : Option (List ℕ)) (end : Ending) → Tells told old new (Err end) → AnswersLine told old new held held (Some end)
+pub unsaid : (told : Told) (old new : Book) (held : Option (List ℕ)) (end : Ending) → TellsLine told old new (Err end) → AnswersLine told old new held held (Some end)
 unsaid told old new held Ending.StoreFault tells = (tells, keeps_itself held)
 unsaid told old new held Ending.NoMemory tells = (tells, keeps_itself held)
 unsaid told old new held Ending.Done tells = absurd tells

@@ -6,7 +6,7 @@ ghost use Rattle.keeper_core.specs.Keeping.{Keeps};
 ghost use Rattle.applicant_rows.specs.Applicants.{is_fit_row};
 ghost use Rattle.batch_command.specs.Below.clerk_desk.Serving.{ToldBefore, TellsOn, IsFurther};
 ghost use Rattle.batch_command.specs.Output.{told_by};
-ghost use Rattle.batch_command.specs.Line.{Tells, AnswersLine, LineBlames, TellBlames, IsMadeBy, TellCrash, LineCrash};
+ghost use Rattle.batch_command.specs.Line.{TellsLine, AnswersLine, LineBlames, TellBlames, IsMadeBy, TellCrash, LineCrash};
 ghost use Rattle.import_command.specs.Rows.{line_of_row, told_of_row};
 
 use applicant_rows::ImportRow;
@@ -59,7 +59,7 @@ fn told<K: Keeper>(
 ) -> Result<Text, Ending>
     requires told { (book : Book) → K.holds keeper.old book → book ≡ office.old.book }
     requires fit { is_fit_row row ≡ true }
-    ensures told { Tells (told_by office.old.capacity office.old.book today (line_of_row row)) office.old.book office.new.book result }
+    ensures told { TellsLine (told_by office.old.capacity office.old.book today (line_of_row row)) office.old.book office.new.book result }
     ensures capacity { office.new.capacity ≡ office.old.capacity }
     ensures kept { (book : Book) → K.holds keeper.new book → book ≡ office.new.book }
     ensures told_before { ToldBefore (K.holds keeper.old) (K.holds keeper.new) }

@@ -4,5 +4,5 @@
 use std::process::ExitCode;
 
 fn main(rt: HostRuntime) -> ExitCode {
-    ExitCode::from(office_shell::run(&rt, &rt))
+    ExitCode::from(office_shell::run(&rt, &rt).number())
 }

@@ -5,6 +5,7 @@ mod clock;
 mod memory;
 mod sink;
 mod source;
+mod status;
 mod stream;
 mod transfer;
 
@@ -12,5 +13,6 @@ pub use clock::{Clock, FixedClock, SystemClock};
 pub use memory::{MemorySink, MemorySource};
 pub use sink::{Put, Sink};
 pub use source::{Got, Source};
+pub use status::ExitStatus;
 pub use stream::{StreamSink, StreamSource};
 pub use transfer::{Input, read_up_to, write_whole};

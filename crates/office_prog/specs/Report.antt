@@ -1,5 +1,6 @@
 -- Reports: what a report of a book is, and what asking for one does.
 use Rattle.std.specs.Prelude.{◌≡◌, ℕ, List}
+use Rattle.office_io.specs.declared.status.ExitStatus.{ExitStatus}
 use Rattle.book_rows.specs.Book.{Book}
 use Rattle.forms_text.specs.Form.{voucher_text}
 use Rattle.line_records.specs.Export.{lines_text}
@@ -16,9 +17,9 @@ report_text (Report.Targets day) book = targets_text book day
 
 -- The report was written of the book that was opened, which stays. Nothing was read, and neither source nor keeper counted a
 -- fault.
-pub record Reported (report : Report) (start after : Book) (old new : Door) (status : ℕ) : Type 0 where
+pub record Reported (report : Report) (start after : Book) (old new : Door) (status : ExitStatus) : Type 0 where
   pub same : after ≡ start
-  pub told : Says (record { status = 0; text = report_text report start }) old new status
+  pub told : Says (record { status = ExitStatus.Done; text = report_text report start }) old new status
   pub unread : new.left ≡ old.left
   pub source : new.counts.source ≡ old.counts.source
   pub keeper : new.counts.keeper ≡ old.counts.keeper

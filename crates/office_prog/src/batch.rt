@@ -7,13 +7,13 @@ ghost use Rattle.batch_command.specs.Below.clerk_desk.Serving.{ToldBefore, Tells
 ghost use Rattle.batch_command.specs.Batch.{LeavesByLine};
 ghost use Rattle.program_answers.specs.Keeping.{StillTells};
 ghost use Rattle.office_prog.specs.Batch.{Batched, status_of};
-ghost use Rattle.program_answers.specs.Opening.{Comes, door, largest};
+ghost use Rattle.program_answers.specs.Opening.{ComesOfBook, door, largest};
 
 use batch_command::clerk_desk::open_office;
 use batch_command::office_core::Office;
 use batch_command::{Ending, answer_lines};
 use keeper_core::Keeper;
-use office_io::{Clock, Sink, Source};
+use office_io::{Clock, ExitStatus, Sink, Source};
 use program_answers::{LARGEST, tell_unopened};
 use std::alloc::Global;
 
@@ -24,8 +24,8 @@ pub fn run_batch<K: Keeper, S: Source, W: Sink, C: Clock>(
     sink: &mut W,
     clock: &C,
     keeper: &mut K,
-) -> u8
-    ensures comes { Comes (Batched (C.may_show clock.now)) (K.holds keeper.old) (K.holds keeper.new) (K.bad keeper.new)
+) -> ExitStatus
+    ensures comes { ComesOfBook (Batched (C.may_show clock.now)) (K.holds keeper.old) (K.holds keeper.new) (K.bad keeper.new)
         (door (S.left source.old) (W.held sink.old) (S.faults source.old) (W.faults sink.old) (K.faults keeper.old))
         (door (S.left source.new) (W.held sink.new) (S.faults source.new) (W.faults sink.new) (K.faults keeper.new)) result }
     ensures tells_on { StillTells (K.holds keeper.old) (K.is_well keeper.new) (K.holds keeper.new) }
@@ -50,7 +50,7 @@ fn answer_batch<K: Keeper, S: Source, W: Sink, C: Clock>(
     sink: &mut W,
     clock: &C,
     keeper: &mut K,
-) -> u8
+) -> ExitStatus
     requires told { (book : Book) → K.holds keeper.old book → book ≡ office.old.book }
     requires capacity { office.old.capacity ≡ largest }
     ensures batched { Batched (C.may_show clock.now) office.old.book office.new.book
@@ -68,15 +68,15 @@ fn answer_batch<K: Keeper, S: Source, W: Sink, C: Clock>(
 }
 
 /// The status of an ending.
-pub fn status_of(ending: Ending) -> u8
+pub fn status_of(ending: Ending) -> ExitStatus
     ensures { result ≡ status_of ending }
 {
     match ending {
-        Ending::Done => 0,
-        Ending::ReadFault => 3,
-        Ending::WriteFault => 4,
-        Ending::StoreFault => 5,
-        Ending::NoMemory => 7,
-        Ending::TooLong => 9,
+        Ending::Done => ExitStatus::Done,
+        Ending::ReadFault => ExitStatus::ReadFault,
+        Ending::WriteFault => ExitStatus::WriteFault,
+        Ending::StoreFault => ExitStatus::StoreFault,
+        Ending::NoMemory => ExitStatus::NoMemory,
+        Ending::TooLong => ExitStatus::TooLong,
     }
 }

@@ -6,7 +6,7 @@ ghost use Rattle.keeper_core.specs.Keeping.{Keeps};
 ghost use Rattle.batch_command.specs.Below.clerk_desk.Serving.{ToldBefore, TellsOn, Outlives};
 ghost use Rattle.program_answers.specs.Keeping.{StillTells};
 ghost use Rattle.office_prog.specs.Import.{AnswersInput, Imported, LeavesByInput};
-ghost use Rattle.program_answers.specs.Opening.{Comes, door, largest};
+ghost use Rattle.program_answers.specs.Opening.{ComesOfBook, door, largest};
 
 use crate::batch::status_of;
 use applicant_rows::{ImportFault, applicants_of_csv};
@@ -14,7 +14,7 @@ use batch_command::clerk_desk::open_office;
 use batch_command::office_core::Office;
 use import_command::answer_rows;
 use keeper_core::Keeper;
-use office_io::{Clock, Input, Sink, Source, read_up_to};
+use office_io::{Clock, ExitStatus, Input, Sink, Source, read_up_to};
 use program_answers::{LARGEST, finish, tell_unopened};
 use std::alloc::Global;
 
@@ -32,10 +32,10 @@ pub fn run_import<K: Keeper, S: Source, W: Sink, C: Clock>(
     sink: &mut W,
     clock: &C,
     keeper: &mut K,
-) -> u8
+) -> ExitStatus
     requires least { 1 ≤ clerk }
     requires most { clerk ≤ 9999 }
-    ensures comes { Comes (Imported clerk (C.may_show clock.now)) (K.holds keeper.old) (K.holds keeper.new) (K.bad keeper.new)
+    ensures comes { ComesOfBook (Imported clerk (C.may_show clock.now)) (K.holds keeper.old) (K.holds keeper.new) (K.bad keeper.new)
         (door (S.left source.old) (W.held sink.old) (S.faults source.old) (W.faults sink.old) (K.faults keeper.old))
         (door (S.left source.new) (W.held sink.new) (S.faults source.new) (W.faults sink.new) (K.faults keeper.new)) result }
     ensures tells_on { StillTells (K.holds keeper.old) (K.is_well keeper.new) (K.holds keeper.new) }
@@ -61,7 +61,7 @@ fn import<K: Keeper, S: Source, W: Sink, C: Clock>(
     sink: &mut W,
     clock: &C,
     keeper: &mut K,
-) -> u8
+) -> ExitStatus
     requires least { 1 ≤ clerk }
     requires most { clerk ≤ 9999 }
     requires told { (book : Book) → K.holds keeper.old book → book ≡ office.old.book }
@@ -79,9 +79,9 @@ fn import<K: Keeper, S: Source, W: Sink, C: Clock>(
 {
     match read_up_to(alloc, source, IMPORT_LIMIT) {
         Input::Whole(input) => answer_input(alloc, clerk, &input, office, sink, clock, keeper),
-        Input::TooLong => 9,
-        Input::Failed => 3,
-        Input::NoMemory => 7,
+        Input::TooLong => ExitStatus::TooLong,
+        Input::Failed => ExitStatus::ReadFault,
+        Input::NoMemory => ExitStatus::NoMemory,
     }
 }
 
@@ -94,7 +94,7 @@ fn answer_input<K: Keeper, W: Sink, C: Clock>(
     sink: &mut W,
     clock: &C,
     keeper: &mut K,
-) -> u8
+) -> ExitStatus
     requires least { 1 ≤ clerk }
     requires most { clerk ≤ 9999 }
     requires told { (book : Book) → K.holds keeper.old book → book ≡ office.old.book }
@@ -113,7 +113,7 @@ fn answer_input<K: Keeper, W: Sink, C: Clock>(
 {
     match applicants_of_csv(alloc, input, clerk) {
         Ok(rows) => status_of(answer_rows(alloc, office, rows, sink, clock, keeper)),
-        Err(ImportFault::BadHeader) => finish(sink, 8, OTHER_HEADER),
-        Err(ImportFault::NoMemory) => 7,
+        Err(ImportFault::BadHeader) => finish(sink, ExitStatus::Refused, OTHER_HEADER),
+        Err(ImportFault::NoMemory) => ExitStatus::NoMemory,
     }
 }

@@ -1,9 +1,10 @@
 //! The commands that print a report of the book.
 
 ghost use Rattle.std.specs.Prelude.{◌≡◌, ℕ, Option, List, IfOk};
-ghost use Rattle.program_answers.specs.Opening.{Comes, Says, door};
+ghost use Rattle.program_answers.specs.Opening.{ComesOfBook, Says, door};
 ghost use Rattle.program_answers.specs.Keeping.{StillTells, OutlivesStops};
 ghost use Rattle.office_prog.specs.Report.{Reported, report_text};
+ghost use Rattle.office_io.specs.declared.status.ExitStatus.TheVariants as exit;
 
 use batch_command::clerk_desk::open_office;
 use batch_command::office_core::Office;
@@ -11,7 +12,7 @@ use days_core::{Day, Month};
 use forms_text::voucher_text;
 use keeper_core::Keeper;
 use line_records::lines_csv;
-use office_io::Sink;
+use office_io::{ExitStatus, Sink};
 use office_reports::{due_text, targets_text};
 use plain_data::{NoMemory, Text};
 use program_answers::{LARGEST, finish, tell_unopened};
@@ -36,9 +37,9 @@ pub fn run_report<K: Keeper, W: Sink>(
     report: Report,
     sink: &mut W,
     keeper: &mut K,
-) -> u8
+) -> ExitStatus
     ensures comes { (left : Option (List ℕ)) (source : ℕ) →
-        Comes (Reported report) (K.holds keeper.old) (K.holds keeper.new) (K.bad keeper.new)
+        ComesOfBook (Reported report) (K.holds keeper.old) (K.holds keeper.new) (K.bad keeper.new)
         (door left (W.held sink.old) source (W.faults sink.old) (K.faults keeper.old))
         (door left (W.held sink.new) source (W.faults sink.new) (K.faults keeper.new)) result }
     ensures tells_on { StillTells (K.holds keeper.old) (K.is_well keeper.new) (K.holds keeper.new) }
@@ -55,13 +56,13 @@ pub fn run_report<K: Keeper, W: Sink>(
 }
 
 /// Writes the report of an office.
-fn write_report<W: Sink>(alloc: Global, report: Report, sink: &mut W, office: &Office) -> u8
-    ensures { (left : Option (List ℕ)) (source keeper : ℕ) → Says (record { status = 0; text = report_text report office.now.book })
+fn write_report<W: Sink>(alloc: Global, report: Report, sink: &mut W, office: &Office) -> ExitStatus
+    ensures { (left : Option (List ℕ)) (source keeper : ℕ) → Says (record { status = exit.Done; text = report_text report office.now.book })
         (door left (W.held sink.old) source (W.faults sink.old) keeper) (door left (W.held sink.new) source (W.faults sink.new) keeper) result }
 {
     match text_of_report(alloc, report, office) {
-        Ok(text) => finish(sink, 0, text.as_bytes()),
-        Err(_) => 7,
+        Ok(text) => finish(sink, ExitStatus::Done, text.as_bytes()),
+        Err(_) => ExitStatus::NoMemory,
     }
 }
 

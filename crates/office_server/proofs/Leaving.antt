@@ -14,11 +14,12 @@ use Rattle.http_front.specs.Below.clerk_desk.Serving.{IsLeft}
 use Rattle.program_answers.specs.{Keeping.OutlivesStops, Opening.Door, Opening.door, Opening.largest}
 use Rattle.shared_desk.specs.{Calls.Further, Deciding.IsLeftBy, Desk.HasItsOwn, Desk.IsFinishedWith, History.IsLegalHistory, History.capacity_of, History.tables_at, Passes.AreFresh, Passes.IsFresh}
 use mathlib.Core.List.{IsPrefix}
+use Rattle.office_io.specs.declared.status.ExitStatus.{ExitStatus}
 use Rattle.book_rows.specs.declared.rows.ActRow.{ActRow}
 use Rattle.keeper_core.specs.Keeping.{LeavesTold}
 use Rattle.office_server.proofs.Logs.{knows_on, prefix_joins}
 use Rattle.office_server.proofs.SeatLemmas.{fresh_at, further_number}
-use Rattle.office_server.specs.{Links.HasLearned, Links.IsLeftByOne, Links.IsServed, Links.LeavesDesk, Links.LeavesTried, Links.MayLeave, Links.MayLeaveNow, Links.ServesAlone, Links.ServesInTurn, Links.ServesTogether, Links.WorksBy, Server.EndsBy, Server.IsUnserved, Server.Writes, Server.book_line, declared.desk.How.How}
+use Rattle.office_server.specs.{Links.HasLearned, Links.IsLeftByOne, Links.IsServed, Links.LeavesDesk, Links.LeavesTried, Links.MayLeave, Links.MayLeaveNow, Links.ServesAlone, Links.ServesInTurn, Links.ServesTogether, Links.WorksBy, Server.EndsBy, Server.IsUnserved, Server.Writes, Server.book_line, declared.desk.ServeEnd.ServeEnd}
 
 -- what is tried of the first session alone is all of its number
 tried_alone : (number : ℕ) (tried : List Batch) → number ≡ 1 → AreOfPasses 2 tried → tries_of number tried ≡ tried
@@ -68,11 +69,11 @@ module _ (start : Start) (pass : PassView) (made : ℕ) (tables : Book) (told ho
   }
 
   -- the pass that ended the desk, before it learned what others know
-  own_of : (ended : PassView) → HasLearned ended pass → HasItsOwn ends.end.history ends.end.tried ended
-  own_of ended learned = record {
+  own_of : (end : PassView) → HasLearned end pass → HasItsOwn ends.end.history ends.end.tried end
+  own_of end learned = record {
     front = prefix_joins _ _ _ learned.front ends.end.front;
-    own = subst (λ number. entries_of number ends.end.history ≡ entries_of ended.number ended.list) learned.number (ends.end.own ∙ learned.own);
-    own_tries = subst (λ number. tries_of number ends.end.tried ≡ ended.tried) learned.number (ends.end.own_tries ∙ learned.tried);
+    own = subst (λ number. entries_of number ends.end.history ≡ entries_of end.number end.list) learned.number (ends.end.own ∙ learned.own);
+    own_tries = subst (λ number. tries_of number ends.end.tried ≡ end.tried) learned.number (ends.end.own_tries ∙ learned.tried);
   }
 
   -- and together, where the pass knows what each of those that served knows
@@ -80,10 +81,10 @@ module _ (start : Start) (pass : PassView) (made : ℕ) (tables : Book) (told ho
       (shows : ℕ → Type 0) (workers : ℕ) (passes : List PassView) (links links_now : Option Links) (many : length passes ≡ workers) (few : made ≤ workers)
       (capacity : capacity_of start ≡ largest) (fresh : AreFresh start 1 passes) (works : WorksBy shows passes others pass links links_now) (laws : EntriesAreOfTheNumber) where
     abbrev passes_now : List PassView
-    passes_now = others ++ works.ended ∷ []
+    passes_now = others ++ works.end ∷ []
 
     owns : All (HasItsOwn ends.end.history ends.end.tried) passes_now
-    owns = All-push (HasItsOwn ends.end.history ends.end.tried) others works.ended ends.own (own_of works.ended works.learned)
+    owns = All-push (HasItsOwn ends.end.history ends.end.tried) others works.end ends.own (own_of works.end works.learned)
 
     -- a try of a number is one of the pass that has it
     is_of_one : (rows : Batch) → Contains ends.end.tried rows → (pass_now : PassView) × Contains passes_now pass_now × Contains pass_now.tried rows
@@ -94,14 +95,14 @@ module _ (start : Start) (pass : PassView) (made : ℕ) (tables : Book) (told ho
         let place : ℕ = rows.act.session - 1 in
         let within : place < length passes = omega (arith, low, high, few, many) in
         let within_now : place < length passes_now = let same = works.follows.many in omega (arith, within, same) in
-        let pass_now = get_or passes_now place works.ended in
-        let goes = further_number (get_or passes place works.ended) pass_now (works.follows.each place works.ended within) in
-        let at = fresh_at start 1 passes fresh place works.ended within in
+        let pass_now = get_or passes_now place works.end in
+        let goes = further_number (get_or passes place works.end) pass_now (works.follows.each place works.end within) in
+        let at = fresh_at start 1 passes fresh place works.end within in
         let number : rows.act.session ≡ pass_now.number = omega (arith, goes, at, low) in
         let of_number = (laws.tries rows.act.session ends.end.tried rows).stands among refl in (
           pass_now,
-          Contains-get_or passes_now place works.ended within_now,
-          subst (λ tried. Contains tried rows) (ap (λ n. tries_of n ends.end.tried) number ∙ (owns place works.ended within_now).own_tries) of_number,
+          Contains-get_or passes_now place works.end within_now,
+          subst (λ tried. Contains tried rows) (ap (λ n. tries_of n ends.end.tried) number ∙ (owns place works.end within_now).own_tries) of_number,
         )
 
     left_by_one : (after : Option Book) → IsLeftBy largest tables ends.end.tried after → IsLeftByOne tables passes_now after
@@ -201,40 +202,40 @@ outlives workers tables holds leaves tells holds_now leaves_now tells_now kept b
 
 -- ---- how it ended
 
-pub turned : (Served InTurn : Type 0) (how how_now : How) → how_now ≡ how → (Served → InTurn) → (how ≡ How.Unserved) ⊎ Served → (how_now ≡ How.Unserved) ⊎ InTurn
-turned Served InTurn how how_now same turns (inl is) = inl (same ∙ is)
-turned Served InTurn how how_now same turns (inr served) = inr (turns served)
+pub turned : (Served InTurn : Type 0) (end end_now : ServeEnd) → end_now ≡ end → (Served → InTurn) → (end ≡ ServeEnd.Unserved) ⊎ Served → (end_now ≡ ServeEnd.Unserved) ⊎ InTurn
+turned Served InTurn end end_now same turns (inl is) = inl (same ∙ is)
+turned Served InTurn end end_now same turns (inr served) = inr (turns served)
 
 module _
-    {L : Type 0} (at at_now : L) (left_now : ℕ) (tables : Book) (held held_now : Option (List ℕ)) (listener listener_now sink sink_now keeper keeper_now status : ℕ) where
+    {L : Type 0} (at at_now : L) (left_now : ℕ) (tables : Book) (held held_now : Option (List ℕ)) (listener listener_now sink sink_now keeper keeper_now : ℕ) (status : ExitStatus) where
   abbrev old : Door
   old = door None held listener sink keeper
 
   abbrev new : Door
   new = door None held_now listener_now sink_now keeper_now
 
-  unserved : (how : How) → (how ≡ How.Unserved → at_now ≡ at) → (how ≡ How.Unserved → listener_now ≡ listener) → (how ≡ How.Unserved → (status ≡ 7) × KeepsBytes held held_now × (sink_now ≡ sink))
-      → how ≡ How.Unserved → IsUnserved at at_now old new status
-  unserved how same stays told is = let t = told is in record { same = same is; source = stays is; held = t.1; sink = t.2; status_is = t.0 }
+  unserved : (end : ServeEnd) → (end ≡ ServeEnd.Unserved → at_now ≡ at) → (end ≡ ServeEnd.Unserved → listener_now ≡ listener) → (end ≡ ServeEnd.Unserved → (status ≡ ExitStatus.NoMemory) × KeepsBytes held held_now × (sink_now ≡ sink))
+      → end ≡ ServeEnd.Unserved → IsUnserved at at_now old new status
+  unserved end same stays told is = let t = told is in record { same = same is; source = stays is; held = t.1; sink = t.2; status_is = t.0 }
 
-  pub ends_by : (how : How)
-      → (how ≡ How.Whole → (left_now ≡ 0) × (listener_now ≡ listener))
-      → (how ≡ How.AcceptFailed → (0 < left_now) × Faulted listener listener_now)
-      → (how ≡ How.Unserved → at_now ≡ at)
-      → (how ≡ How.Unserved → listener_now ≡ listener)
-      → (how ≡ How.Whole → Writes (book_line tables) held held_now sink sink_now status)
-      → (how ≡ How.AcceptFailed → (status ≡ 3) × KeepsBytes held held_now × (sink_now ≡ sink))
-      → (how ≡ How.Unserved → (status ≡ 7) × KeepsBytes held held_now × (sink_now ≡ sink))
+  pub ends_by : (end : ServeEnd)
+      → (end ≡ ServeEnd.Whole → (left_now ≡ 0) × (listener_now ≡ listener))
+      → (end ≡ ServeEnd.AcceptFailed → (0 < left_now) × Faulted listener listener_now)
+      → (end ≡ ServeEnd.Unserved → at_now ≡ at)
+      → (end ≡ ServeEnd.Unserved → listener_now ≡ listener)
+      → (end ≡ ServeEnd.Whole → Writes (book_line tables) held held_now sink sink_now status)
+      → (end ≡ ServeEnd.AcceptFailed → (status ≡ ExitStatus.ReadFault) × KeepsBytes held held_now × (sink_now ≡ sink))
+      → (end ≡ ServeEnd.Unserved → (status ≡ ExitStatus.NoMemory) × KeepsBytes held held_now × (sink_now ≡ sink))
       → EndsBy at at_now left_now tables old new status
-  ends_by How.Whole whole failed same stays told_whole told_failed told_unserved =
+  ends_by ServeEnd.Whole whole failed same stays told_whole told_failed told_unserved =
       let w = whole refl in inl (record { none_left = w.0; source = w.1; written = told_whole refl })
-  ends_by How.AcceptFailed whole failed same stays told_whole told_failed told_unserved =
+  ends_by ServeEnd.AcceptFailed whole failed same stays told_whole told_failed told_unserved =
       let f = failed refl in let t = told_failed refl in
       inr (inl (record { some_left = f.0; source = f.1; held = t.1; sink = t.2; status_is = t.0 }))
-  ends_by How.Unserved whole failed same stays told_whole told_failed told_unserved =
-      inr (inr (unserved How.Unserved same stays told_unserved refl))
+  ends_by ServeEnd.Unserved whole failed same stays told_whole told_failed told_unserved =
+      inr (inr (unserved ServeEnd.Unserved same stays told_unserved refl))
 
-  pub turn_by : (how : How) (InTurn : Type 0) → (how ≡ How.Unserved → at_now ≡ at) → (how ≡ How.Unserved → listener_now ≡ listener)
-      → (how ≡ How.Unserved → (status ≡ 7) × KeepsBytes held held_now × (sink_now ≡ sink)) → (how ≡ How.Unserved) ⊎ InTurn → IsUnserved at at_now old new status ⊎ InTurn
-  turn_by how InTurn same stays told (inl is) = inl (unserved how same stays told is)
-  turn_by how InTurn same stays told (inr turn) = inr turn
+  pub turn_by : (end : ServeEnd) (InTurn : Type 0) → (end ≡ ServeEnd.Unserved → at_now ≡ at) → (end ≡ ServeEnd.Unserved → listener_now ≡ listener)
+      → (end ≡ ServeEnd.Unserved → (status ≡ ExitStatus.NoMemory) × KeepsBytes held held_now × (sink_now ≡ sink)) → (end ≡ ServeEnd.Unserved) ⊎ InTurn → IsUnserved at at_now old new status ⊎ InTurn
+  turn_by end InTurn same stays told (inl is) = inl (unserved end same stays told is)
+  turn_by end InTurn same stays told (inr turn) = inr turn

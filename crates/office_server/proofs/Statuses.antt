@@ -2,53 +2,54 @@
 use Rattle.std.proofs.Common.{◌≡◌, ◌∙◌, ◌⊎◌, inl, inr, ℕ, ◌+◌, ◌<◌, List, [], ◌++◌, length, map, sym, ap, arith}
 use Rattle.std.specs.{Prelude.Option, Prelude.Some, Prelude.None, Prelude.IfSome, Io.KnownBytes.Appends}
 use Rattle.std.proofs.lemmas.List.{length-append, length-map, nil_from_length}
-use Rattle.office_io.specs.Outside.{Faulted}
+use Rattle.office_io.specs.declared.status.ExitStatus.{ExitStatus}
+use Rattle.office_io.specs.{Outside.Faulted, Status.number_of}
 use Rattle.office_links.specs.Links.{Links, Fits, unused}
 use Rattle.http_front.specs.Below.clerk_desk.{declared.opening.DeskFault.DeskFault, Opening.IsUnopened}
 use Rattle.book_rows.specs.Book.{Book}
 use Rattle.keeper_core.specs.Keeping.{BadRow}
-use Rattle.program_answers.specs.{Answer.Answer, Answer.Ends, Opening.Door, Opening.Tells, Opening.bad_book, Opening.largest}
+use Rattle.program_answers.specs.{Answer.Answer, Answer.Ends, Opening.Door, Opening.TellsFault, Opening.bad_book, Opening.largest}
 use Rattle.link_workers.specs.Links.{Served, TellsServed}
-use Rattle.office_server.specs.{Links.ServesInTurn, Server.Comes, Server.DeskServed, Server.EndsBy, Server.GivesAllBack, Server.IsUnserved, Server.IsWritten, Server.NamesFault, Server.ServesAll, Server.Writes, Server.book_line}
+use Rattle.office_server.specs.{Links.ServesInTurn, Server.ComesOfLinks, Server.DeskServed, Server.EndsBy, Server.GivesAllBack, Server.IsUnserved, Server.IsWritten, Server.NamesFault, Server.ServesAll, Server.Writes, Server.book_line}
 
 -- ---- one answer
 
 -- an answer that was written ends by its own status, or the sink counted a fault
-ends_four : (answer : Answer) (held held_now : Option (List ℕ)) (faults faults_now status : ℕ) → (answer.status ≡ 4 → ⊥) → status ≡ 4
+ends_four : (answer : Answer) (held held_now : Option (List ℕ)) (faults faults_now : ℕ) (status : ExitStatus) → (answer.status ≡ ExitStatus.WriteFault → ⊥) → status ≡ ExitStatus.WriteFault
     → Ends answer held held_now faults faults_now status → Faulted faults faults_now
 ends_four answer held held_now faults faults_now status other is (inl ends) = absurd (other (sym ends.0 ∙ is))
 ends_four answer held held_now faults faults_now status other is (inr ends) = ends.2
 
 -- ---- a book that isn't opened
 
-tells_none : (old new : Door) (why : DeskFault) (status : ℕ) → Tells old new why status → status < 4 → ⊥
-tells_none old new (DeskFault.BadBook found) status (inl (inl ends, _)) few = let is = ends.0 in omega (arith, is, few)
-tells_none old new (DeskFault.BadBook found) status (inl (inr ends, _)) few = let is = ends.0 in omega (arith, is, few)
-tells_none old new (DeskFault.BadBook found) status (inr (is, _)) few = omega (arith, is, few)
-tells_none old new DeskFault.StoreFault status told few = let is = told.0 in omega (arith, is, few)
-tells_none old new DeskFault.NoMemory status told few = let is = told.0 in omega (arith, is, few)
+tells_none : (old new : Door) (why : DeskFault) (status : ExitStatus) → TellsFault old new why status → number_of status < 4 → ⊥
+tells_none old new (DeskFault.BadBook found) status (inl (inl ends, _)) few = let is = ap number_of ends.0 in omega (arith, is, few)
+tells_none old new (DeskFault.BadBook found) status (inl (inr ends, _)) few = let is = ap number_of ends.0 in omega (arith, is, few)
+tells_none old new (DeskFault.BadBook found) status (inr (told, _)) few = let is = ap number_of told in omega (arith, is, few)
+tells_none old new DeskFault.StoreFault status told few = let is = ap number_of told.0 in omega (arith, is, few)
+tells_none old new DeskFault.NoMemory status told few = let is = ap number_of told.0 in omega (arith, is, few)
 
-tells_four : (old new : Door) (why : DeskFault) (status : ℕ) → Tells old new why status → status ≡ 4 → Faulted old.counts.sink new.counts.sink
+tells_four : (old new : Door) (why : DeskFault) (status : ExitStatus) → TellsFault old new why status → status ≡ ExitStatus.WriteFault → Faulted old.counts.sink new.counts.sink
 tells_four old new (DeskFault.BadBook found) status (inl (ends, _)) four =
-    ends_four (bad_book found) _ _ _ _ status (λ is. omega (arith, is)) four ends
-tells_four old new (DeskFault.BadBook found) status (inr (is, _)) four = absurd (omega (arith, is, four))
-tells_four old new DeskFault.StoreFault status told four = let is = told.0 in absurd (omega (arith, is, four))
-tells_four old new DeskFault.NoMemory status told four = let is = told.0 in absurd (omega (arith, is, four))
+    ends_four (bad_book found) _ _ _ _ status (λ clash. cc clash) four ends
+tells_four old new (DeskFault.BadBook found) status (inr (is, _)) four = let clash = sym is ∙ four in absurd (cc clash)
+tells_four old new DeskFault.StoreFault status told four = let clash = sym told.0 ∙ four in absurd (cc clash)
+tells_four old new DeskFault.NoMemory status told four = let clash = sym told.0 ∙ four in absurd (cc clash)
 
-tells_five : (old new : Door) (why : DeskFault) (status : ℕ) → Tells old new why status → status ≡ 5 → Faulted old.counts.keeper new.counts.keeper
-tells_five old new (DeskFault.BadBook found) status (inl (inl ends, _)) five = let is = ends.0 in absurd (omega (arith, is, five))
-tells_five old new (DeskFault.BadBook found) status (inl (inr ends, _)) five = let is = ends.0 in absurd (omega (arith, is, five))
-tells_five old new (DeskFault.BadBook found) status (inr (is, _)) five = absurd (omega (arith, is, five))
+tells_five : (old new : Door) (why : DeskFault) (status : ExitStatus) → TellsFault old new why status → status ≡ ExitStatus.StoreFault → Faulted old.counts.keeper new.counts.keeper
+tells_five old new (DeskFault.BadBook found) status (inl (inl ends, _)) five = let clash = sym ends.0 ∙ five in absurd (cc clash)
+tells_five old new (DeskFault.BadBook found) status (inl (inr ends, _)) five = let clash = sym ends.0 ∙ five in absurd (cc clash)
+tells_five old new (DeskFault.BadBook found) status (inr (is, _)) five = let clash = sym is ∙ five in absurd (cc clash)
 tells_five old new DeskFault.StoreFault status told five = told.2
-tells_five old new DeskFault.NoMemory status told five = let is = told.0 in absurd (omega (arith, is, five))
+tells_five old new DeskFault.NoMemory status told five = let clash = sym told.0 ∙ five in absurd (cc clash)
 
-tells_six : (holds : Book → Type 0) (bad : BadRow → Type 0) (old new : Door) (why : DeskFault) (status : ℕ) → IsUnopened largest holds bad why
-    → Tells old new why status → status ≡ 6 → NamesFault holds bad old.held new.held
+tells_six : (holds : Book → Type 0) (bad : BadRow → Type 0) (old new : Door) (why : DeskFault) (status : ExitStatus) → IsUnopened largest holds bad why
+    → TellsFault old new why status → status ≡ ExitStatus.BadBook → NamesFault holds bad old.held new.held
 tells_six holds bad old new (DeskFault.BadBook found) status first (inl (inl ends, _)) six = (found, first, ends.1)
-tells_six holds bad old new (DeskFault.BadBook found) status first (inl (inr ends, _)) six = let is = ends.0 in absurd (omega (arith, is, six))
-tells_six holds bad old new (DeskFault.BadBook found) status first (inr (is, _)) six = absurd (omega (arith, is, six))
-tells_six holds bad old new DeskFault.StoreFault status first told six = let is = told.0 in absurd (omega (arith, is, six))
-tells_six holds bad old new DeskFault.NoMemory status first told six = let is = told.0 in absurd (omega (arith, is, six))
+tells_six holds bad old new (DeskFault.BadBook found) status first (inl (inr ends, _)) six = let clash = sym ends.0 ∙ six in absurd (cc clash)
+tells_six holds bad old new (DeskFault.BadBook found) status first (inr (is, _)) six = let clash = sym is ∙ six in absurd (cc clash)
+tells_six holds bad old new DeskFault.StoreFault status first told six = let clash = sym told.0 ∙ six in absurd (cc clash)
+tells_six holds bad old new DeskFault.NoMemory status first told six = let clash = sym told.0 ∙ six in absurd (cc clash)
 
 -- ---- links that are all given back
 
@@ -77,9 +78,9 @@ given_all served (Some links) links_now left_now none (told_now, is, fits, tells
 
 module _
     {L : Type 0} (shows : ℕ → Type 0) (workers : ℕ) (listener listener_now : L) (left : L → ℕ) (links : L → Option Links)
-    (holds holds_now : Book → Type 0) (bad_now : BadRow → Type 0) (may_leave : Option Book → Type 0) (old new : Door) (status : ℕ) where
+    (holds holds_now : Book → Type 0) (bad_now : BadRow → Type 0) (may_leave : Option Book → Type 0) (old new : Door) (status : ExitStatus) where
   abbrev Came : Type 0
-  Came = Comes shows workers listener listener_now left links holds holds_now bad_now may_leave old new status
+  Came = ComesOfLinks shows workers listener listener_now left links holds holds_now bad_now may_leave old new status
 
   abbrev Desk : Type 0
   Desk = DeskServed shows workers listener listener_now left links holds holds_now may_leave old new status
@@ -91,90 +92,90 @@ module _
     pub written : Appends old.held new.held (book_line d.tables).text
     pub sink : new.counts.sink ≡ old.counts.sink
 
-  whole_of : (d : Desk) → status ≡ 0 → Whole d
-  whole_of d zero = by_end d.ended where
+  whole_of : (d : Desk) → status ≡ ExitStatus.Done → Whole d
+  whole_of d zero = by_end d.end where
     by_text : ServesAll (left listener_now) d.tables old new status
         → Writes (book_line d.tables) old.held new.held old.counts.sink new.counts.sink status → Whole d
     by_text all (inl (inl ends)) = record { none_left = all.none_left; source = all.source; written = ends.1; sink = ends.2 }
-    by_text all (inl (inr ends)) = let is = ends.0 in absurd (omega (arith, is, zero))
-    by_text all (inr ends) = let is = ends.0 in absurd (omega (arith, is, zero))
+    by_text all (inl (inr ends)) = let clash = sym ends.0 ∙ zero in absurd (cc clash)
+    by_text all (inr ends) = let clash = sym ends.0 ∙ zero in absurd (cc clash)
 
     by_end : EndsBy listener listener_now (left listener_now) d.tables old new status → Whole d
     by_end (inl all) = by_text all all.written
-    by_end (inr (inl broken)) = let is = broken.status_is in absurd (omega (arith, is, zero))
-    by_end (inr (inr unserved)) = let is = unserved.status_is in absurd (omega (arith, is, zero))
+    by_end (inr (inl broken)) = let clash = sym broken.status_is ∙ zero in absurd (cc clash)
+    by_end (inr (inr unserved)) = let clash = sym unserved.status_is ∙ zero in absurd (cc clash)
 
-  whole : Came → status ≡ 0 → (d : Desk) × Whole d
+  whole : Came → status ≡ ExitStatus.Done → (d : Desk) × Whole d
   whole (inl d) zero = (d, whole_of d zero)
-  whole (inr (same, fails)) zero = absurd (tells_none old new fails.why status fails.told (omega (arith, zero)))
+  whole (inr (same, fails)) zero = absurd (tells_none old new fails.why status fails.told (let few = ap number_of zero in omega (arith, few)))
 
-  pub none_left : Came → status ≡ 0 → left listener_now ≡ 0
+  pub none_left : Came → status ≡ ExitStatus.Done → left listener_now ≡ 0
   none_left came zero = let w = whole came zero in w.1.none_left
 
-  pub given_back : Came → workers ≡ 1 → status ≡ 0 → IfSome (links listener) (λ told. GivesAllBack told (links listener_now))
+  pub given_back : Came → workers ≡ 1 → status ≡ ExitStatus.Done → IfSome (links listener) (λ told. GivesAllBack told (links listener_now))
   given_back came one zero = let w = whole came zero in by_turn w.1.none_left (w.0.in_turn one)
     where
       by_turn : {tables : Book} → left listener_now ≡ 0
           → IsUnserved listener listener_now old new status ⊎ ServesInTurn shows (left listener) (left listener_now) (links listener) (links listener_now) may_leave tables
           → IfSome (links listener) (λ told. GivesAllBack told (links listener_now))
-      by_turn none (inl unserved) = let is = unserved.status_is in absurd (omega (arith, is, zero))
+      by_turn none (inl unserved) = let clash = sym unserved.status_is ∙ zero in absurd (cc clash)
       by_turn none (inr turn) = given_all turn.served.served (links listener) (links listener_now) (left listener_now) none turn.served.told
 
-  pub written : Came → status ≡ 0 → IsWritten holds_now old.held new.held
+  pub written : Came → status ≡ ExitStatus.Done → IsWritten holds_now old.held new.held
   written came zero = let w = whole came zero in (w.0.tables, w.1.written, w.0.leaves.kept)
 
-  pub quiet : Came → status ≡ 0 → (new.counts.source ≡ old.counts.source) × (new.counts.sink ≡ old.counts.sink)
+  pub quiet : Came → status ≡ ExitStatus.Done → (new.counts.source ≡ old.counts.source) × (new.counts.sink ≡ old.counts.sink)
   quiet came zero = let w = whole came zero in (w.1.source, w.1.sink)
 
   -- no other end but a failed accept has that status
-  pub accept_fault : Came → status ≡ 3 → (0 < left listener_now) × Faulted old.counts.source new.counts.source
-  accept_fault (inl d) three = by_end d.ended where
+  pub accept_fault : Came → status ≡ ExitStatus.ReadFault → (0 < left listener_now) × Faulted old.counts.source new.counts.source
+  accept_fault (inl d) three = by_end d.end where
     by_text : Writes (book_line d.tables) old.held new.held old.counts.sink new.counts.sink status
         → (0 < left listener_now) × Faulted old.counts.source new.counts.source
-    by_text (inl (inl ends)) = let is = ends.0 in absurd (omega (arith, is, three))
-    by_text (inl (inr ends)) = let is = ends.0 in absurd (omega (arith, is, three))
-    by_text (inr ends) = let is = ends.0 in absurd (omega (arith, is, three))
+    by_text (inl (inl ends)) = let clash = sym ends.0 ∙ three in absurd (cc clash)
+    by_text (inl (inr ends)) = let clash = sym ends.0 ∙ three in absurd (cc clash)
+    by_text (inr ends) = let clash = sym ends.0 ∙ three in absurd (cc clash)
 
     by_end : EndsBy listener listener_now (left listener_now) d.tables old new status → (0 < left listener_now) × Faulted old.counts.source new.counts.source
     by_end (inl all) = by_text all.written
     by_end (inr (inl broken)) = (broken.some_left, broken.source)
-    by_end (inr (inr unserved)) = let is = unserved.status_is in absurd (omega (arith, is, three))
-  accept_fault (inr (same, fails)) three = absurd (tells_none old new fails.why status fails.told (omega (arith, three)))
+    by_end (inr (inr unserved)) = let clash = sym unserved.status_is ∙ three in absurd (cc clash)
+  accept_fault (inr (same, fails)) three = absurd (tells_none old new fails.why status fails.told (let few = ap number_of three in omega (arith, few)))
 
-  pub write_fault : Came → status ≡ 4 → Faulted old.counts.sink new.counts.sink
-  write_fault (inl d) four = by_end d.ended where
+  pub write_fault : Came → status ≡ ExitStatus.WriteFault → Faulted old.counts.sink new.counts.sink
+  write_fault (inl d) four = by_end d.end where
     by_text : Writes (book_line d.tables) old.held new.held old.counts.sink new.counts.sink status → Faulted old.counts.sink new.counts.sink
-    by_text (inl ends) = ends_four (book_line d.tables) _ _ _ _ status (λ is. omega (arith, is)) four ends
-    by_text (inr ends) = let is = ends.0 in absurd (omega (arith, is, four))
+    by_text (inl ends) = ends_four (book_line d.tables) _ _ _ _ status (λ clash. cc clash) four ends
+    by_text (inr ends) = let clash = sym ends.0 ∙ four in absurd (cc clash)
 
     by_end : EndsBy listener listener_now (left listener_now) d.tables old new status → Faulted old.counts.sink new.counts.sink
     by_end (inl all) = by_text all.written
-    by_end (inr (inl broken)) = let is = broken.status_is in absurd (omega (arith, is, four))
-    by_end (inr (inr unserved)) = let is = unserved.status_is in absurd (omega (arith, is, four))
+    by_end (inr (inl broken)) = let clash = sym broken.status_is ∙ four in absurd (cc clash)
+    by_end (inr (inr unserved)) = let clash = sym unserved.status_is ∙ four in absurd (cc clash)
   write_fault (inr (same, fails)) four = tells_four old new fails.why status fails.told four
 
   -- a desk that was opened has only these ends
-  served_status : Desk → (status ≡ 5) ⊎ (status ≡ 6) → ⊥
-  served_status d is = by_end d.ended is where
-    by_text : Writes (book_line d.tables) old.held new.held old.counts.sink new.counts.sink status → (status ≡ 5) ⊎ (status ≡ 6) → ⊥
-    by_text (inl (inl ends)) (inl five) = let own = ends.0 in omega (arith, own, five)
-    by_text (inl (inl ends)) (inr six) = let own = ends.0 in omega (arith, own, six)
-    by_text (inl (inr ends)) (inl five) = let own = ends.0 in omega (arith, own, five)
-    by_text (inl (inr ends)) (inr six) = let own = ends.0 in omega (arith, own, six)
-    by_text (inr ends) (inl five) = let own = ends.0 in omega (arith, own, five)
-    by_text (inr ends) (inr six) = let own = ends.0 in omega (arith, own, six)
+  served_status : Desk → (status ≡ ExitStatus.StoreFault) ⊎ (status ≡ ExitStatus.BadBook) → ⊥
+  served_status d is = by_end d.end is where
+    by_text : Writes (book_line d.tables) old.held new.held old.counts.sink new.counts.sink status → (status ≡ ExitStatus.StoreFault) ⊎ (status ≡ ExitStatus.BadBook) → ⊥
+    by_text (inl (inl ends)) (inl five) = let clash = sym ends.0 ∙ five in cc clash
+    by_text (inl (inl ends)) (inr six) = let clash = sym ends.0 ∙ six in cc clash
+    by_text (inl (inr ends)) (inl five) = let clash = sym ends.0 ∙ five in cc clash
+    by_text (inl (inr ends)) (inr six) = let clash = sym ends.0 ∙ six in cc clash
+    by_text (inr ends) (inl five) = let clash = sym ends.0 ∙ five in cc clash
+    by_text (inr ends) (inr six) = let clash = sym ends.0 ∙ six in cc clash
 
-    by_end : EndsBy listener listener_now (left listener_now) d.tables old new status → (status ≡ 5) ⊎ (status ≡ 6) → ⊥
+    by_end : EndsBy listener listener_now (left listener_now) d.tables old new status → (status ≡ ExitStatus.StoreFault) ⊎ (status ≡ ExitStatus.BadBook) → ⊥
     by_end (inl all) five_or_six = by_text all.written five_or_six
-    by_end (inr (inl broken)) (inl five) = let own = broken.status_is in omega (arith, own, five)
-    by_end (inr (inl broken)) (inr six) = let own = broken.status_is in omega (arith, own, six)
-    by_end (inr (inr unserved)) (inl five) = let own = unserved.status_is in omega (arith, own, five)
-    by_end (inr (inr unserved)) (inr six) = let own = unserved.status_is in omega (arith, own, six)
+    by_end (inr (inl broken)) (inl five) = let clash = sym broken.status_is ∙ five in cc clash
+    by_end (inr (inl broken)) (inr six) = let clash = sym broken.status_is ∙ six in cc clash
+    by_end (inr (inr unserved)) (inl five) = let clash = sym unserved.status_is ∙ five in cc clash
+    by_end (inr (inr unserved)) (inr six) = let clash = sym unserved.status_is ∙ six in cc clash
 
-  pub store_fault : Came → status ≡ 5 → (listener_now ≡ listener) × Faulted old.counts.keeper new.counts.keeper
+  pub store_fault : Came → status ≡ ExitStatus.StoreFault → (listener_now ≡ listener) × Faulted old.counts.keeper new.counts.keeper
   store_fault (inl d) five = absurd (served_status d (inl five))
   store_fault (inr (same, fails)) five = (same, tells_five old new fails.why status fails.told five)
 
-  pub bad_book_told : Came → status ≡ 6 → (listener_now ≡ listener) × NamesFault holds_now bad_now old.held new.held
+  pub bad_book_told : Came → status ≡ ExitStatus.BadBook → (listener_now ≡ listener) × NamesFault holds_now bad_now old.held new.held
   bad_book_told (inl d) six = absurd (served_status d (inr six))
   bad_book_told (inr (same, fails)) six = (same, tells_six holds_now bad_now old new fails.why status fails.is_why fails.told six)

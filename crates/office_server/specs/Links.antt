@@ -73,9 +73,9 @@ pub record ServesInTurn (shows : ℕ → Type 0) (left left_now : ℕ) (links li
 -- that pass then knew begins what the last pass knows. Each of them has gone on, to one of the others or to the last, which then
 -- learned what that pass knows.
 pub record WorksBy (shows : ℕ → Type 0) (passes others : List PassView) (last : PassView) (links links_now : Option Links) : Type 0 where
-  pub ended : PassView
-  pub follows : FollowsEach Further passes (others ++ ended ∷ [])
-  pub learned : HasLearned ended last
+  pub end : PassView
+  pub follows : FollowsEach Further passes (others ++ end ∷ [])
+  pub learned : HasLearned end last
   pub given_back : TellsBack (IsLogged (IsServedByOne (λ pass link pass_now. IsServed shows pass pass_now link) Further passes) (KnowsBeginning last.start last.list))
       links links_now
 

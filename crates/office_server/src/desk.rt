@@ -7,7 +7,7 @@ ghost use Rattle.program_answers.specs.Opening.{largest};
 ghost use Rattle.desk_history.specs.declared.views.{PassView.PassView, Start.Start};
 ghost use Rattle.shared_desk.specs.{Desk.IsFinishedWith, History.capacity_of};
 ghost use Rattle.office_server.specs.Links.{LeavesDesk, LeavesTried, MayLeave, ServesAlone, ServesInTurn, ServesTogether, WorksBy};
-ghost use Rattle.office_server.specs.declared.desk.How.TheVariants as how;
+ghost use Rattle.office_server.specs.declared.desk.ServeEnd.TheVariants as ends;
 
 use crate::seats::{SeatPasses, Seated, gathered, passes_of, seats_by};
 use desk_history::entries_are_those_of_the_number;
@@ -22,15 +22,15 @@ use std::thread::Threads;
 
 /// What a desk and a listener leave when links were served.
 #[derive(Drop)]
-pub(crate) struct Left<K, L> {
+pub(crate) struct ServedDesk<K, L> {
     pub(crate) finished: Finished<K>,
     pub(crate) listener: L,
-    pub(crate) how: How,
+    pub(crate) end: ServeEnd,
 }
 
 /// How the serving ended.
 #[derive(Clone, Copy, PartialEq, Eq)]
-pub(crate) enum How {
+pub(crate) enum ServeEnd {
     /// No link is left.
     Whole,
     /// An accept failed.
@@ -46,7 +46,14 @@ pub(crate) fn serve_desk<
     B: Naming + Send,
     L: Listener + Send,
     C: Clock + Sync,
->(rt: &R, alloc: Global, mut desk: Desk<K, B>, workers: u32, listener: L, clock: &C) -> Left<K, L>
+>(
+    rt: &R,
+    alloc: Global,
+    mut desk: Desk<K, B>,
+    workers: u32,
+    listener: L,
+    clock: &C,
+) -> ServedDesk<K, L>
 where
     L::In: Send,
     L::Out: Send,
@@ -57,12 +64,12 @@ where
     ensures tells_on { K.is_well result.finished.keeper → (was : Book) → B.told was → K.holds result.finished.keeper (rows_of result.finished.tables) }
     ensures stopped { LeavesTried workers (MayLeave B.sound (K.tells_crash result.finished.keeper) (K.holds result.finished.keeper) (K.leaves result.finished.keeper))
         (rows_of result.finished.tables) }
-    ensures whole { result.how ≡ how.Whole → (L.left result.listener ≡ 0) × (L.faults result.listener ≡ L.faults listener) }
-    ensures failed { result.how ≡ how.AcceptFailed → (0 < L.left result.listener) × Faulted (L.faults listener) (L.faults result.listener) }
-    ensures unserved { result.how ≡ how.Unserved → result.listener ≡ listener }
-    ensures together { (result.how ≡ how.Unserved) ⊎ ServesTogether (C.may_show clock.now) workers (L.links listener) (L.links result.listener)
+    ensures whole { result.end ≡ ends.Whole → (L.left result.listener ≡ 0) × (L.faults result.listener ≡ L.faults listener) }
+    ensures failed { result.end ≡ ends.AcceptFailed → (0 < L.left result.listener) × Faulted (L.faults listener) (L.faults result.listener) }
+    ensures unserved { result.end ≡ ends.Unserved → result.listener ≡ listener }
+    ensures together { (result.end ≡ ends.Unserved) ⊎ ServesTogether (C.may_show clock.now) workers (L.links listener) (L.links result.listener)
         (MayLeave B.sound (K.tells_crash result.finished.keeper) (K.holds result.finished.keeper) (K.leaves result.finished.keeper)) (rows_of result.finished.tables) }
-    ensures in_turn { workers ≡ 1 → (result.how ≡ how.Unserved) ⊎ ServesInTurn (C.may_show clock.now)
+    ensures in_turn { workers ≡ 1 → (result.end ≡ ends.Unserved) ⊎ ServesInTurn (C.may_show clock.now)
         (L.left listener) (L.left result.listener) (L.links listener) (L.links result.listener)
         (MayLeave B.sound (K.tells_crash result.finished.keeper) (K.holds result.finished.keeper) (K.leaves result.finished.keeper)) (rows_of result.finished.tables) }
 {
@@ -74,11 +81,11 @@ where
         }
         Err(pass) => left_by(
             desk,
-            Worked {
+            WorkersEnd {
                 pass,
                 others: Vec::new(alloc),
                 listener,
-                how: How::Unserved,
+                end: ServeEnd::Unserved,
             },
         ),
     }
@@ -86,30 +93,33 @@ where
 
 /// What the workers leave: the pass that has seen what all have, and the others.
 #[derive(Drop)]
-struct Worked<L, B: Naming> {
+struct WorkersEnd<L, B: Naming> {
     pass: Pass<B>,
     others: Vec<Pass<B>>,
     listener: L,
-    how: How,
+    end: ServeEnd,
 }
 
 /// Ends a desk with the passes.
-fn left_by<K: Keeper + Drop, B: Naming, L>(desk: Desk<K, B>, worked: Worked<L, B>) -> Left<K, L>
+fn left_by<K: Keeper + Drop, B: Naming, L>(
+    desk: Desk<K, B>,
+    worked: WorkersEnd<L, B>,
+) -> ServedDesk<K, L>
     ensures finished { IsFinishedWith worked.others.items worked.pass desk.made (rows_of result.finished.tables) B.told (K.holds result.finished.keeper) (K.is_well result.finished.keeper)
         B.sound (K.tells_crash result.finished.keeper) (K.leaves result.finished.keeper) }
     ensures listener { result.listener ≡ worked.listener }
-    ensures how { result.how ≡ worked.how }
+    ensures end { result.end ≡ worked.end }
 {
-    let Worked {
+    let WorkersEnd {
         pass,
         others,
         listener,
-        how,
+        end,
     } = worked;
-    Left {
+    ServedDesk {
         finished: desk.finish_with(pass, others),
         listener,
-        how,
+        end,
     }
 }
 
@@ -127,17 +137,17 @@ fn serve_by<
     passes: Vec<Pass<B>>,
     listener: L,
     clock: &C,
-) -> Worked<L, B>
+) -> WorkersEnd<L, B>
 where
     L::In: Send,
     L::Out: Send,
     requires some { 0 < length passes.items }
     ensures start { (start : Start) → All (λ pass. pass.start ≡ start) passes.items → result.pass.start ≡ start }
-    ensures whole { result.how ≡ how.Whole → (L.left result.listener ≡ 0) × (L.faults result.listener ≡ L.faults listener) }
-    ensures failed { result.how ≡ how.AcceptFailed → (0 < L.left result.listener) × Faulted (L.faults listener) (L.faults result.listener) }
-    ensures unserved { result.how ≡ how.Unserved → result.listener ≡ listener }
-    ensures works { (result.how ≡ how.Unserved) ⊎ WorksBy (C.may_show clock.now) passes.items result.others.items result.pass (L.links listener) (L.links result.listener) }
-    ensures alone { (pass : PassView) → passes.items ≡ pass ∷ [] → (result.how ≡ how.Unserved) ⊎ ServesAlone (C.may_show clock.now) pass result.pass
+    ensures whole { result.end ≡ ends.Whole → (L.left result.listener ≡ 0) × (L.faults result.listener ≡ L.faults listener) }
+    ensures failed { result.end ≡ ends.AcceptFailed → (0 < L.left result.listener) × Faulted (L.faults listener) (L.faults result.listener) }
+    ensures unserved { result.end ≡ ends.Unserved → result.listener ≡ listener }
+    ensures works { (result.end ≡ ends.Unserved) ⊎ WorksBy (C.may_show clock.now) passes.items result.others.items result.pass (L.links listener) (L.links result.listener) }
+    ensures alone { (pass : PassView) → passes.items ≡ pass ∷ [] → (result.end ≡ ends.Unserved) ⊎ ServesAlone (C.may_show clock.now) pass result.pass
         (L.left listener) (L.left result.listener) (L.links listener) (L.links result.listener) }
 {
     match seats_by(rt, alloc, desk, passes, clock) {
@@ -149,22 +159,22 @@ where
                 failed,
             } = serve_all(rt, alloc, listener, &mut seats, None);
             let SeatPasses { last, others } = gathered(seats, room, log);
-            Worked {
+            WorkersEnd {
                 pass: last,
                 others,
                 listener,
-                how: if failed {
-                    How::AcceptFailed
+                end: if failed {
+                    ServeEnd::AcceptFailed
                 } else {
-                    How::Whole
+                    ServeEnd::Whole
                 },
             }
         }
-        Err(pass) => Worked {
+        Err(pass) => WorkersEnd {
             pass,
             others: Vec::new(alloc),
             listener,
-            how: How::Unserved,
+            end: ServeEnd::Unserved,
         },
     }
 }

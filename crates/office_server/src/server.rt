@@ -8,16 +8,17 @@ ghost use Rattle.keeper_core.specs.Keeping.{LeavesTold};
 ghost use Rattle.office_io.specs.Outside.{Faulted};
 ghost use Rattle.program_answers.specs.{Keeping.OutlivesStops, Keeping.StillTells, Opening.door, Opening.largest};
 ghost use Rattle.shared_desk.specs.History.{capacity_of};
-ghost use Rattle.office_server.specs.declared.desk.How.TheVariants as ended;
+ghost use Rattle.office_server.specs.declared.desk.ServeEnd.TheVariants as ends;
 ghost use Rattle.office_server.specs.Links.{MayLeaveNow};
-ghost use Rattle.office_server.specs.Server.{Comes, DeskServed, GivesAllBack, IsWritten, NamesFault, Writes, book_line};
+ghost use Rattle.office_server.specs.Server.{ComesOfLinks, DeskServed, GivesAllBack, IsWritten, NamesFault, Writes, book_line};
+ghost use Rattle.office_io.specs.declared.status.ExitStatus.TheVariants as exit;
 
-use crate::desk::{How, Left, serve_desk};
+use crate::desk::{ServeEnd, ServedDesk, serve_desk};
 use book_rows::Tables;
 use desk_history::{NewHistory, new_history};
 use http_front::shared_desk::{Desk, Naming, Unopened};
 use keeper_core::Keeper;
-use office_io::{Clock, Sink};
+use office_io::{Clock, ExitStatus, Sink};
 use office_links::Listener;
 use program_answers::{LARGEST, finish, tell_unopened};
 use std::alloc::{AllocError, Global};
@@ -28,7 +29,7 @@ use std::thread::Threads;
 /// What a server hands back with every status.
 #[derive(Drop)]
 pub struct Served<K, L> {
-    pub status: u8,
+    pub status: ExitStatus,
     pub keeper: K,
     pub listener: L,
 }
@@ -37,8 +38,8 @@ pub struct Served<K, L> {
 /// them, writes how many acts the book then has, and gives the status. However a session ends, its worker serves the next
 /// link. After an accept that failed none is accepted. A worker that can't be started leaves its links to the others.
 ///
-/// 0: no link is left, and the line is written. 3: an accept failed. 4: the sink failed. 5: the keeper failed when the book
-/// was opened. 6: the book isn't an office's. 7: memory ran out.
+/// `Done`: no link is left, and the line is written. `ReadFault`: an accept failed. `StoreFault`: the keeper failed when the
+/// book was opened.
 pub fn run_serve<
     R: Threads + Wait + Sync,
     K: Keeper + Drop + Send,
@@ -62,7 +63,7 @@ where
     // The links are served at a desk on the book that the keeper told, and each that is given back is a session's, by a
     // worker's pass; or the book isn't opened, and the listener is as it was. A further act that a stop may leave is one that a
     // session of one of the workers tried; of one worker, one of its own session's.
-    ensures comes { Comes (C.may_show clock.now) workers listener result.listener L.left L.links
+    ensures comes { ComesOfLinks (C.may_show clock.now) workers listener result.listener L.left L.links
         (K.holds keeper) (K.holds result.keeper) (K.bad result.keeper)
         (MayLeaveNow (K.holds keeper) (K.leaves keeper) (K.tells_crash keeper) (K.holds result.keeper) (K.leaves result.keeper) (K.tells_crash result.keeper))
         (door None (W.held sink.old) (L.faults listener) (W.faults sink.old) (K.faults keeper))
@@ -75,18 +76,18 @@ where
     ensures stopped { OutlivesStops (K.holds keeper) (K.leaves keeper) (K.tells_crash keeper)
         (K.holds result.keeper) (K.leaves result.keeper) (K.tells_crash result.keeper) }
 
-    // Status 0 in plain facts: no link is left, each that there was is given back if one worker served, and nothing failed
+    // `Done` in plain facts: no link is left, each that there was is given back if one worker served, and nothing failed
     // but sessions.
-    ensures none_left { result.status ≡ 0 → L.left result.listener ≡ 0 }
-    ensures given_back { workers ≡ 1 → result.status ≡ 0 → IfSome (L.links listener) (λ told. GivesAllBack told (L.links result.listener)) }
-    ensures written { result.status ≡ 0 → IsWritten (K.holds result.keeper) (W.held sink.old) (W.held sink.new) }
-    ensures quiet { result.status ≡ 0 → (L.faults result.listener ≡ L.faults listener) × (W.faults sink.new ≡ W.faults sink.old) }
+    ensures none_left { result.status ≡ exit.Done → L.left result.listener ≡ 0 }
+    ensures given_back { workers ≡ 1 → result.status ≡ exit.Done → IfSome (L.links listener) (λ told. GivesAllBack told (L.links result.listener)) }
+    ensures written { result.status ≡ exit.Done → IsWritten (K.holds result.keeper) (W.held sink.old) (W.held sink.new) }
+    ensures quiet { result.status ≡ exit.Done → (L.faults result.listener ≡ L.faults listener) × (W.faults sink.new ≡ W.faults sink.old) }
 
-    // Every other status has its cause; 7 is want of memory, when the book is opened, for the seats or for the line.
-    ensures accept_fault { result.status ≡ 3 → (0 < L.left result.listener) × Faulted (L.faults listener) (L.faults result.listener) }
-    ensures write_fault { result.status ≡ 4 → Faulted (W.faults sink.old) (W.faults sink.new) }
-    ensures store_fault { result.status ≡ 5 → (result.listener ≡ listener) × Faulted (K.faults keeper) (K.faults result.keeper) }
-    ensures bad_book { result.status ≡ 6 → (result.listener ≡ listener)
+    // Every other status has its cause; `NoMemory` comes when the book is opened, for the seats or for the line.
+    ensures accept_fault { result.status ≡ exit.ReadFault → (0 < L.left result.listener) × Faulted (L.faults listener) (L.faults result.listener) }
+    ensures write_fault { result.status ≡ exit.WriteFault → Faulted (W.faults sink.old) (W.faults sink.new) }
+    ensures store_fault { result.status ≡ exit.StoreFault → (result.listener ≡ listener) × Faulted (K.faults keeper) (K.faults result.keeper) }
+    ensures bad_book { result.status ≡ exit.BadBook → (result.listener ≡ listener)
         × NamesFault (K.holds result.keeper) (K.bad result.keeper) (W.held sink.old) (W.held sink.new) }
 {
     match new_history(alloc) {
@@ -96,7 +97,7 @@ where
             )
         }
         Err(_) => Served {
-            status: 7,
+            status: ExitStatus::NoMemory,
             keeper,
             listener,
         },
@@ -131,7 +132,7 @@ where
     requires told_by { (book : Book) → B.told book → K.holds keeper book }
     requires sound { B.sound → K.tells_crash keeper → LeavesTold (K.holds keeper) (K.leaves keeper) }
     requires sound_by { (K.tells_crash keeper → LeavesTold (K.holds keeper) (K.leaves keeper)) → B.sound }
-    ensures comes { Comes (C.may_show clock.now) workers listener result.listener L.left L.links
+    ensures comes { ComesOfLinks (C.may_show clock.now) workers listener result.listener L.left L.links
         (K.holds keeper) (K.holds result.keeper) (K.bad result.keeper)
         (MayLeaveNow (K.holds keeper) (K.leaves keeper) (K.tells_crash keeper) (K.holds result.keeper) (K.leaves result.keeper) (K.tells_crash result.keeper))
         (door None (W.held sink.old) (L.faults listener) (W.faults sink.old) (K.faults keeper))
@@ -142,12 +143,12 @@ where
 {
     match Desk::<K, B>::open(alloc, history, keeper, LARGEST) {
         Ok(desk) => {
-            let Left {
+            let ServedDesk {
                 finished,
                 listener,
-                how,
+                end,
             } = serve_desk(rt, alloc, desk, workers, listener, clock);
-            let status = status_of(alloc, &finished.tables, how, sink);
+            let status = status_of(alloc, &finished.tables, end, sink);
             Served {
                 status,
                 keeper: finished.keeper,
@@ -163,25 +164,25 @@ where
 }
 
 /// Tells how the serving ended that left these tables.
-fn status_of<W: Sink>(alloc: Global, tables: &Tables, how: How, sink: &mut W) -> u8
-    ensures whole { how ≡ ended.Whole → Writes (book_line (rows_of tables.now)) (W.held sink.old) (W.held sink.new) (W.faults sink.old) (W.faults sink.new) result }
-    ensures failed { how ≡ ended.AcceptFailed → (result ≡ 3) × KeepsBytes (W.held sink.old) (W.held sink.new) × (W.faults sink.new ≡ W.faults sink.old) }
-    ensures unserved { how ≡ ended.Unserved → (result ≡ 7) × KeepsBytes (W.held sink.old) (W.held sink.new) × (W.faults sink.new ≡ W.faults sink.old) }
+fn status_of<W: Sink>(alloc: Global, tables: &Tables, end: ServeEnd, sink: &mut W) -> ExitStatus
+    ensures whole { end ≡ ends.Whole → Writes (book_line (rows_of tables.now)) (W.held sink.old) (W.held sink.new) (W.faults sink.old) (W.faults sink.new) result }
+    ensures failed { end ≡ ends.AcceptFailed → (result ≡ exit.ReadFault) × KeepsBytes (W.held sink.old) (W.held sink.new) × (W.faults sink.new ≡ W.faults sink.old) }
+    ensures unserved { end ≡ ends.Unserved → (result ≡ exit.NoMemory) × KeepsBytes (W.held sink.old) (W.held sink.new) × (W.faults sink.new ≡ W.faults sink.old) }
 {
-    match how {
-        How::Whole => write_book(alloc, tables, sink),
-        How::AcceptFailed => 3,
-        How::Unserved => 7,
+    match end {
+        ServeEnd::Whole => write_book(alloc, tables, sink),
+        ServeEnd::AcceptFailed => ExitStatus::ReadFault,
+        ServeEnd::Unserved => ExitStatus::NoMemory,
     }
 }
 
 /// Writes how many acts there are.
-fn write_book<W: Sink>(alloc: Global, tables: &Tables, sink: &mut W) -> u8
+fn write_book<W: Sink>(alloc: Global, tables: &Tables, sink: &mut W) -> ExitStatus
     ensures { Writes (book_line (rows_of tables.now)) (W.held sink.old) (W.held sink.new) (W.faults sink.old) (W.faults sink.new) result }
 {
     match book_line(alloc, tables) {
-        Ok(line) => finish(sink, 0, line.as_bytes()),
-        Err(_) => 7,
+        Ok(line) => finish(sink, ExitStatus::Done, line.as_bytes()),
+        Err(_) => ExitStatus::NoMemory,
     }
 }
 

@@ -11,12 +11,13 @@
 ghost use Rattle.std.specs.Prelude.{◌≡◌, ◌≢◌, ◌⊎◌, None, Some, map, string_bytes};
 ghost use Rattle.command_words.specs.Words.{book_in, words_after_book};
 ghost use Rattle.program_answers.specs.Keeping.{OutlivesStops, StillTells};
+ghost use Rattle.office_io.specs.declared.status.ExitStatus.TheVariants as exit;
 
 use book_file::{open_book, status_of};
 use command_words::book_and_words;
 use keeper_core::{Keeper, MemoryKeeper};
 use keeper_sqlite::SqliteKeeper;
-use office_io::{StreamSink, StreamSource, SystemClock};
+use office_io::{ExitStatus, StreamSink, StreamSource, SystemClock};
 use program_choice::{TcpPorts, run_words};
 use sqlite::{Alter, Connection, FileStore, Options};
 use sqlite_disk::{Disk, Files};
@@ -26,19 +27,14 @@ use std::sync::Wait;
 use std::thread::Threads;
 use std::{env, io};
 
-/// The status where the book's file doesn't open, or the log isn't copied into it.
-const STORE_FAILED: u8 = 5;
-/// The status where memory runs out.
-const NO_MEMORY: u8 = 7;
-
 fn words_of<R: Env + AllocGlobal>(rt: &R) -> io::Result<Vec<String>> {
     Ok(env::args(rt)?.skip(1).collect(rt.alloc())?)
 }
 
 /// What came of a run: the status, and what kept the book.
 #[derive(Drop)]
-struct Ran<K> {
-    status: u8,
+struct RunEnd<K> {
+    status: ExitStatus,
     kept: K,
 }
 
@@ -46,7 +42,7 @@ struct Ran<K> {
 fn run_over<
     H: Threads + Wait + Sync + Net<Listener = TcpListener, Stream = TcpStream>,
     K: Keeper + Drop + Send,
->(rt: &HostRuntime, handles: &H, words: &[String], keeper: K) -> Ran<K>
+>(rt: &HostRuntime, handles: &H, words: &[String], keeper: K) -> RunEnd<K>
     ensures tells_on { StillTells (K.holds keeper) (K.is_well result.kept) (K.holds result.kept) }
     ensures stopped { OutlivesStops (K.holds keeper) (K.leaves keeper) (K.tells_crash keeper)
         (K.holds result.kept) (K.leaves result.kept) (K.tells_crash result.kept) }
@@ -65,7 +61,7 @@ fn run_over<
         &clock,
         keeper,
     );
-    Ran {
+    RunEnd {
         status: ran.status,
         kept: ran.keeper,
     }
@@ -77,7 +73,7 @@ fn run_in_memory<H: Threads + Wait + Sync + Net<Listener = TcpListener, Stream =
     handles: &H,
     _all: &[String],
     words: &[String],
-) -> u8
+) -> ExitStatus
     requires book { book_in (map string_bytes _all.now) ≡ None }
     requires words { map string_bytes words.now ≡ words_after_book (map string_bytes _all.now) }
 {
@@ -91,7 +87,7 @@ fn run_on_file<H: Threads + Wait + Sync + Net<Listener = TcpListener, Stream = T
     _all: &[String],
     path: &str,
     words: &[String],
-) -> u8
+) -> ExitStatus
     requires book { book_in (map string_bytes _all.now) ≡ Some path.now }
     requires words { map string_bytes words.now ≡ words_after_book (map string_bytes _all.now) }
 {
@@ -106,10 +102,16 @@ fn run_on_file<H: Threads + Wait + Sync + Net<Listener = TcpListener, Stream = T
 fn run_on_files<
     H: Threads + Wait + Sync + Net<Listener = TcpListener, Stream = TcpStream>,
     D: Disk + Drop + Send,
->(rt: &HostRuntime, handles: &H, words: &[String], files: Files<D>, options: Options) -> u8 {
+>(
+    rt: &HostRuntime,
+    handles: &H,
+    words: &[String],
+    files: Files<D>,
+    options: Options,
+) -> ExitStatus {
     // (files that were just opened may be used)
     if !files.may_be_used() {
-        return STORE_FAILED;
+        return ExitStatus::StoreFault;
     }
     match Connection::open_files(rt.alloc(), files, options) {
         Ok(connection) => closed(run_on(rt, handles, words, connection)),
@@ -126,9 +128,9 @@ fn run_on<
     handles: &H,
     words: &[String],
     connection: Connection<S>,
-) -> Ran<Connection<S>> {
+) -> RunEnd<Connection<S>> {
     let ran = run_over(rt, handles, words, SqliteKeeper::adopt(connection));
-    Ran {
+    RunEnd {
         status: ran.status,
         kept: ran.kept.release(),
     }
@@ -136,28 +138,28 @@ fn run_on<
 
 /// Closes the file after a run, and gives the status. All that was acknowledged is kept by now: this copies the log into the
 /// file. If that fails, a run that went well tells it by its status, and the next open copies the log.
-fn closed<D: Disk + Drop>(ran: Ran<Connection<FileStore<D>>>) -> u8
-    ensures failed { ran.status ≢ 0 → result ≡ ran.status }
-    ensures well { ran.status ≡ 0 → (result ≡ 0) ⊎ (result ≡ 5) }
+fn closed<D: Disk + Drop>(ran: RunEnd<Connection<FileStore<D>>>) -> ExitStatus
+    ensures failed { ran.status ≢ exit.Done → result ≡ ran.status }
+    ensures well { ran.status ≡ exit.Done → (result ≡ exit.Done) ⊎ (result ≡ exit.StoreFault) }
 {
-    let Ran { status, kept } = ran;
+    let RunEnd { status, kept } = ran;
     match kept.close() {
-        Err(_) if status == 0 => STORE_FAILED,
+        Err(_) if status == ExitStatus::Done => ExitStatus::StoreFault,
         _ => status,
     }
 }
 
-/// Runs the program that the words of the process name, by the handles of its runtime, and gives its status.
+/// Runs the program that the words of the process name, by the handles of its runtime, and tells how it ended.
 ///
-/// 3: no port is bound. 5: the book's file doesn't open, or the log isn't copied into it at the end of a run that went well.
-/// 7: memory runs out for the words, or to open the file. What else comes is told by `program_choice`'s `run_words`.
+/// `StoreFault`: the book's file doesn't open, or the log isn't copied into it at the end of a run that went well. `NoMemory`:
+/// memory runs out for the words, or to open the file. What else comes is told by `program_choice`'s `run_words`.
 pub fn run<H: Threads + Wait + Sync + Net<Listener = TcpListener, Stream = TcpStream>>(
     rt: &HostRuntime,
     handles: &H,
-) -> u8 {
+) -> ExitStatus {
     let words = match words_of(rt) {
         Ok(words) => words,
-        Err(error) if error.kind() == io::ErrorKind::OutOfMemory => return NO_MEMORY,
+        Err(error) if error.kind() == io::ErrorKind::OutOfMemory => return ExitStatus::NoMemory,
         // Arguments that can't be read are no words, and so are answered with the usage.
         Err(_) => Vec::new(rt.alloc()),
     };

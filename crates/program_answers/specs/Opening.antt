@@ -2,6 +2,7 @@
 -- opened.
 use Rattle.std.specs.Prelude.{◌≡◌, ◌⊎◌, ℕ, None, Option, List, ◌∷◌, ◌++◌, [], codes, decimal}
 use Rattle.std.specs.Io.KnownBytes.{Keeps as KeepsBytes}
+use Rattle.office_io.specs.declared.status.ExitStatus.{ExitStatus}
 use Rattle.office_io.specs.Outside.{Faulted}
 use Rattle.book_rows.specs.{declared.rows.Table.Table, Book.Book}
 use Rattle.keeper_core.specs.Keeping.{BadRow, Keeps}
@@ -30,17 +31,17 @@ pub record IsQuiet (old new : Door) : Type 0 where
   pub counts : new.counts ≡ old.counts
 
 -- The answer is written; or nothing is, where memory ran out. The keeper counted no fault.
-abbrev pub Says : Answer → Door → Door → ℕ → Type 0
+abbrev pub Says : Answer → Door → Door → ExitStatus → Type 0
 Says answer old new status =
     (Ends answer old.held new.held old.counts.sink new.counts.sink status × (new.counts.keeper ≡ old.counts.keeper))
-    ⊎ ((status ≡ 7) × IsQuiet old new)
+    ⊎ ((status ≡ ExitStatus.NoMemory) × IsQuiet old new)
 
 -- ---- the book is opened
 
 -- An office's book was opened, and the command worked on it. The book after it is an office's too, and upholds what every
 -- such book does. Where the keeper tells a book now, that is the one after it, and it told the one before it. It tells no bad
 -- row.
-pub record Serves (Works : Book → Book → Door → Door → ℕ → Type 0) (holds holds_now : Book → Type 0) (bad_now : BadRow → Type 0) (old new : Door) (status : ℕ) : Type 0 where
+pub record Serves (Works : Book → Book → Door → Door → ExitStatus → Type 0) (holds holds_now : Book → Type 0) (bad_now : BadRow → Type 0) (old new : Door) (status : ExitStatus) : Type 0 where
   pub start : Book
   pub after : Book
   pub valid : first_fault largest start ≡ None
@@ -59,27 +60,27 @@ table_name Table.Lines = codes "lines"
 
 -- the table and the act where a book first goes wrong
 abbrev pub bad_book : Fault → Answer
-bad_book found = record { status = 6; text = codes "bad book: " ++ table_name found.table ++ 32 ∷ decimal found.act ++ 10 ∷ [] }
+bad_book found = record { status = ExitStatus.BadBook; text = codes "bad book: " ++ table_name found.table ++ 32 ∷ decimal found.act ++ 10 ∷ [] }
 
 -- The fault is written; or nothing is, where the keeper failed or memory ran out. Just the one that is blamed counted a
 -- fault, of the sink and the keeper.
-abbrev pub Tells : Door → Door → DeskFault → ℕ → Type 0
-Tells old new (DeskFault.BadBook found) status = Says (bad_book found) old new status
-Tells old new DeskFault.StoreFault status =
-    (status ≡ 5) × KeepsBytes old.held new.held × Faulted old.counts.keeper new.counts.keeper × (new.counts.sink ≡ old.counts.sink)
-Tells old new DeskFault.NoMemory status = (status ≡ 7) × IsQuiet old new
+abbrev pub TellsFault : Door → Door → DeskFault → ExitStatus → Type 0
+TellsFault old new (DeskFault.BadBook found) status = Says (bad_book found) old new status
+TellsFault old new DeskFault.StoreFault status =
+    (status ≡ ExitStatus.StoreFault) × KeepsBytes old.held new.held × Faulted old.counts.keeper new.counts.keeper × (new.counts.sink ≡ old.counts.sink)
+TellsFault old new DeskFault.NoMemory status = (status ≡ ExitStatus.NoMemory) × IsQuiet old new
 
 -- the book wasn't opened, for that reason, and nothing was read
-pub record Fails (holds holds_now : Book → Type 0) (bad_now : BadRow → Type 0) (old new : Door) (status : ℕ) : Type 0 where
+pub record Fails (holds holds_now : Book → Type 0) (bad_now : BadRow → Type 0) (old new : Door) (status : ExitStatus) : Type 0 where
   pub why : DeskFault
   pub is_why : IsUnopened largest holds_now bad_now why
   pub kept : Keeps holds holds_now
   pub unread : new.left ≡ old.left
   pub unfaulted : new.counts.source ≡ old.counts.source
-  pub told : Tells old new why status
+  pub told : TellsFault old new why status
 
 -- ---- what comes of it
 
-abbrev pub Comes : (Book → Book → Door → Door → ℕ → Type 0) → (Book → Type 0) → (Book → Type 0) → (BadRow → Type 0) → Door → Door → ℕ → Type 0
-Comes Works holds holds_now bad_now old new status =
+abbrev pub ComesOfBook : (Book → Book → Door → Door → ExitStatus → Type 0) → (Book → Type 0) → (Book → Type 0) → (BadRow → Type 0) → Door → Door → ExitStatus → Type 0
+ComesOfBook Works holds holds_now bad_now old new status =
     Serves Works holds holds_now bad_now old new status ⊎ Fails holds holds_now bad_now old new status

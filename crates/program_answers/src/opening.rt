@@ -2,13 +2,13 @@
 
 ghost use Rattle.std.specs.Prelude.{◌≡◌, ℕ, Option, List, IfOk, string_bytes};
 ghost use Rattle.batch_command.specs.Below.clerk_desk.Opening.{BlamesKeeper};
-ghost use Rattle.program_answers.specs.Opening.{Says, Tells, bad_book, door, table_name};
+ghost use Rattle.program_answers.specs.Opening.{Says, TellsFault, bad_book, door, table_name};
 
 use crate::ending::finish;
 use batch_command::clerk_desk::DeskFault;
 use batch_command::office_core::{Capacity, Fault};
 use book_rows::Table;
-use office_io::Sink;
+use office_io::{ExitStatus, Sink};
 use std::alloc::{AllocError, Global};
 
 /// How much the program's book may hold.
@@ -18,26 +18,26 @@ pub const LARGEST: Capacity = Capacity {
 };
 
 /// Says why the keeper's book can't be opened, and gives the status.
-pub fn tell_unopened<W: Sink>(alloc: Global, sink: &mut W, fault: DeskFault) -> u8
+pub fn tell_unopened<W: Sink>(alloc: Global, sink: &mut W, fault: DeskFault) -> ExitStatus
     ensures { (left : Option (List ℕ)) (source keeper keeper_now : ℕ) → BlamesKeeper keeper keeper_now fault →
-        Tells (door left (W.held sink.old) source (W.faults sink.old) keeper)
+        TellsFault (door left (W.held sink.old) source (W.faults sink.old) keeper)
         (door left (W.held sink.new) source (W.faults sink.new) keeper_now) fault result }
 {
     match fault {
         DeskFault::BadBook(found) => tell_bad_book(alloc, sink, found),
-        DeskFault::StoreFault => 5,
-        DeskFault::NoMemory => 7,
+        DeskFault::StoreFault => ExitStatus::StoreFault,
+        DeskFault::NoMemory => ExitStatus::NoMemory,
     }
 }
 
 /// Writes where a book first goes wrong.
-fn tell_bad_book<W: Sink>(alloc: Global, sink: &mut W, fault: Fault) -> u8
+fn tell_bad_book<W: Sink>(alloc: Global, sink: &mut W, fault: Fault) -> ExitStatus
     ensures { (left : Option (List ℕ)) (source keeper : ℕ) → Says (bad_book fault)
         (door left (W.held sink.old) source (W.faults sink.old) keeper) (door left (W.held sink.new) source (W.faults sink.new) keeper) result }
 {
     match bad_book_line(alloc, fault) {
-        Ok(line) => finish(sink, 6, line.as_bytes()),
-        Err(_) => 7,
+        Ok(line) => finish(sink, ExitStatus::BadBook, line.as_bytes()),
+        Err(_) => ExitStatus::NoMemory,
     }
 }
 

@@ -5,4 +5,4 @@ mod ports;
 mod running;
 
 pub use ports::{Ports, TcpPorts};
-pub use running::{Ran, run_words};
+pub use running::{RunEnd, run_words};

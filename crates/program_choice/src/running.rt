@@ -7,31 +7,29 @@ ghost use Rattle.office_prog.specs.Task.{task_in};
 ghost use Rattle.office_server.specs.Links.{MayLeaveNow};
 ghost use Rattle.program_answers.specs.{Keeping.OutlivesStops, Keeping.StillTells, Opening.door};
 ghost use Rattle.program_choice.specs.{Running.RunsProgram, Serving.RunsServer};
+ghost use Rattle.office_io.specs.declared.status.ExitStatus.TheVariants as exit;
 
 use crate::ports::Ports;
 use command_words::{Serve, serve_words};
 use keeper_core::Keeper;
-use office_io::{Clock, Sink, Source};
+use office_io::{Clock, ExitStatus, Sink, Source};
 use office_links::Listener;
 use office_server::run_serve;
 use std::alloc::Global;
 use std::sync::Wait;
 use std::thread::Threads;
 
-/// The status where no port is bound.
-const NOT_BOUND: u8 = 3;
-
 /// What came of a run: the status, what kept the book, and the listener of a port that was served.
 #[derive(Drop)]
-pub struct Ran<K, L> {
-    pub status: u8,
+pub struct RunEnd<K, L> {
+    pub status: ExitStatus,
     pub keeper: K,
     pub listener: Option<L>,
 }
 
 /// Runs what the words name: a server of a port, by the words `serve PORT WORKERS CONNECTIONS`, or the program.
 ///
-/// Where no port is bound the status is 3. What else comes is told by `office_prog`'s `run` and by `office_server`'s `run_serve`.
+/// If no port is bound, the status is that of a read fault. What else comes is told by `office_prog`'s `run` and by `office_server`'s `run_serve`.
 pub fn run_words<
     R: Threads + Wait + Sync,
     K: Keeper + Drop + Send,
@@ -49,7 +47,7 @@ pub fn run_words<
     sink: &mut W,
     clock: &C,
     keeper: K,
-) -> Ran<K, L>
+) -> RunEnd<K, L>
 where
     L::In: Send,
     L::Out: Send,
@@ -71,7 +69,7 @@ where
 
     // Or no port is bound, and nothing else is done.
     ensures unbound { (serve : Serve) → serve_in (map string_bytes words.now) ≡ Some serve → result.listener ≡ None →
-        P.binds ports.now serve.port serve.connections None × (result.status ≡ 3) × (sink.new ≡ sink.old) × (result.keeper ≡ keeper) }
+        P.binds ports.now serve.port serve.connections None × (result.status ≡ exit.ReadFault) × (sink.new ≡ sink.old) × (result.keeper ≡ keeper) }
     ensures unread { (serve : Serve) → serve_in (map string_bytes words.now) ≡ Some serve → source.new ≡ source.old }
 
     // A keeper that is well tells a book at the end, if it told one.
@@ -95,7 +93,7 @@ fn run_program<K: Keeper, L, S: Source, W: Sink, C: Clock>(
     sink: &mut W,
     clock: &C,
     mut keeper: K,
-) -> Ran<K, L>
+) -> RunEnd<K, L>
     ensures run { RunsProgram (C.may_show clock.now) (task_in words.now) source.old source.new sink.old sink.new keeper result.keeper
         K.holds K.bad K.leaves K.tells_crash
         (door (S.left source.old) (W.held sink.old) (S.faults source.old) (W.faults sink.old) (K.faults keeper))
@@ -106,7 +104,7 @@ fn run_program<K: Keeper, L, S: Source, W: Sink, C: Clock>(
         (K.holds result.keeper) (K.leaves result.keeper) (K.tells_crash result.keeper) }
 {
     let status = office_prog::run(alloc, words, source, sink, clock, &mut keeper);
-    Ran {
+    RunEnd {
         status,
         keeper,
         listener: None,
@@ -121,7 +119,15 @@ fn serve_port<
     P: Ports<L>,
     W: Sink,
     C: Clock + Sync,
->(rt: &R, alloc: Global, serve: &Serve, ports: &P, sink: &mut W, clock: &C, keeper: K) -> Ran<K, L>
+>(
+    rt: &R,
+    alloc: Global,
+    serve: &Serve,
+    ports: &P,
+    sink: &mut W,
+    clock: &C,
+    keeper: K,
+) -> RunEnd<K, L>
 where
     L::In: Send,
     L::Out: Send,
@@ -133,7 +139,7 @@ where
         (door None (W.held sink.old) (L.faults bound) (W.faults sink.old) (K.faults keeper))
         (door None (W.held sink.new) (L.faults now) (W.faults sink.new) (K.faults result.keeper)) result.status }
     ensures unbound { result.listener ≡ None →
-        P.binds ports.now serve.now.port serve.now.connections None × (result.status ≡ 3) × (sink.new ≡ sink.old) × (result.keeper ≡ keeper) }
+        P.binds ports.now serve.now.port serve.now.connections None × (result.status ≡ exit.ReadFault) × (sink.new ≡ sink.old) × (result.keeper ≡ keeper) }
     ensures tells_on { StillTells (K.holds keeper) (K.is_well result.keeper) (K.holds result.keeper) }
     ensures stopped { OutlivesStops (K.holds keeper) (K.leaves keeper) (K.tells_crash keeper)
         (K.holds result.keeper) (K.leaves result.keeper) (K.tells_crash result.keeper) }
@@ -141,14 +147,14 @@ where
     match ports.bind(serve.port, serve.connections) {
         Some(links) => {
             let served = run_serve(rt, alloc, serve.workers, links, sink, clock, keeper);
-            Ran {
+            RunEnd {
                 status: served.status,
                 keeper: served.keeper,
                 listener: Some(served.listener),
             }
         }
-        None => Ran {
-            status: NOT_BOUND,
+        None => RunEnd {
+            status: ExitStatus::ReadFault,
             keeper,
             listener: None,
         },

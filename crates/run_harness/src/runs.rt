@@ -67,7 +67,7 @@ pub fn ran_by<K: Keeper, C: Clock>(
     let words = words(alloc, trial.words)?;
     let mut source = source(alloc, trial, input)?;
     let mut sink = sink(alloc, trial)?;
-    let status = run(alloc, &words, &mut source, &mut sink, clock, keeper);
+    let status = run(alloc, &words, &mut source, &mut sink, clock, keeper).number();
     let text = written(alloc, sink)?;
     Some(Told { status, text })
 }

@@ -56,7 +56,7 @@ fn served_by_two<'a, R: Abort + Clock + Threads + Wait + Sync>(
     let clock = FixedClock::new(day("2024-02-01"));
     let keeper = small_office(rt, alloc);
     let served = run_serve(rt, alloc, 2, listener, &mut sink, &clock, keeper);
-    assert!(rt; served.status == 0 && sink.as_bytes() == b"book 5\n".as_slice());
+    assert!(rt; served.status.number() == 0 && sink.as_bytes() == b"book 5\n".as_slice());
     served.listener
 }
 

@@ -77,7 +77,7 @@ pub fn serve_by<R: Abort + Threads + Wait + Sync, K: Keeper + Drop + Send>(
     let clock = FixedClock::new(day("2024-01-02"));
     let served = run_serve(rt, alloc, workers, links, &mut sink, &clock, keeper);
     Told {
-        status: served.status,
+        status: served.status.number(),
         line: String::from_utf8(sink.into_bytes()).expect(rt, "no text"),
         links: served.listener,
         keeper: served.keeper,

@@ -7,7 +7,7 @@ use Rattle.office_core.specs.Below.office_step.{declared.call.Capacity.Capacity,
 use Rattle.desk_history.specs.declared.views.{Start.Start, BookView.BookView, View.View, View.TheVariants.Free}
 use Rattle.desk_history.specs.{Seen.book_of, Seen.start_on, Moves.opened}
 use Rattle.shared_desk.specs.History.{book_in, capacity_of, tables_at, IsLegalHistory}
-use Rattle.shared_desk.specs.Deciding.{IsSettled, Survives}
+use Rattle.shared_desk.specs.Deciding.{IsBetweenCalls, Survives}
 
 -- the view of a book that is just opened
 pub record IsOpened (view : View) (first : Start) (counted : ℕ) : Type 0 where
@@ -30,7 +30,7 @@ legal_first capacity held start is reached =
 pub settled_first : (capacity : Capacity) (held : Book) (told holds : Book → Type 0) (well : Type 0) (faults : ℕ) (book : BookView) →
     book.start ≡ start_on held capacity.acts capacity.lines → book.list ≡ [] → faults ≡ book.faults → IsReached capacity held →
     ((now : Book) → holds now → now ≡ held) → ((now : Book) → holds now → told now) → (well → (was : Book) → told was → holds held) →
-    IsSettled capacity held told holds well faults book
+    IsBetweenCalls capacity held told holds well faults book
 settled_first capacity held told holds well faults book start list counted reached kept first on =
     let same : book_in book.start.opening ≡ held = ap (λ (s : Start). book_in s.opening) start in
     record {

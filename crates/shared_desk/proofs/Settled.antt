@@ -8,7 +8,7 @@ use Rattle.office_core.specs.Below.office_step.{declared.call.Capacity.Capacity,
 use Rattle.office_core.specs.Below.office_laws.Kept.{BatchesFollow}
 use Rattle.desk_history.specs.declared.views.BookView.{BookView}
 use Rattle.shared_desk.specs.History.{GoesOnBy, HistoriesGoOn}
-use Rattle.shared_desk.specs.Deciding.{IsSettled, IsLeftBy, Survives}
+use Rattle.shared_desk.specs.Deciding.{IsBetweenCalls, IsLeftBy, Survives}
 
 -- ---- the keeper is asked to keep what follows the book that it tells
 
@@ -30,16 +30,16 @@ with_row book row = record { start = book.start; list = book.list ++ row ∷ [];
 
 module _
     (capacity capacity_now : Capacity) (held held_now : Book) (told holds holds_now : Book → Type 0) (well well_now : Type 0) (faults faults_now : ℕ)
-    (book book_now : BookView) (settled : IsSettled capacity held told holds well faults book) (room : capacity_now ≡ capacity) (was_well : well_now → well) where
+    (book book_now : BookView) (settled : IsBetweenCalls capacity held told holds well faults book) (room : capacity_now ≡ capacity) (was_well : well_now → well) where
   -- the rows were kept and appended
   pub settled_more : HistoriesGoOn → (rows batch : Batch) (row : ActRow) → IsAppended capacity held rows → batch ≡ rows → row ≡ rows.act →
       held_now ≡ appended held rows → book_now ≡ with_row book row → faults_now ≡ faults →
       ((now : Book) → holds_now now → (was : Book) × (holds was × (now ≡ appended was batch))) → (well_now → (was : Book) → holds was → holds_now (appended was batch)) →
-      IsSettled capacity_now held_now told holds_now well_now faults_now book_now
+      IsBetweenCalls capacity_now held_now told holds_now well_now faults_now book_now
   settled_more law rows batch row appends is of same grown counted commits goes_on =
       let more : GoesOnBy book.start book.list rows =
       law book.start book.list rows settled.legal (subst₂ (λ (most : Capacity) (tables : Book). IsAppended most tables rows) settled.capacity_is settled.tables appends) in
-      subst (λ (b : BookView). IsSettled capacity_now held_now told holds_now well_now faults_now b)
+      subst (λ (b : BookView). IsBetweenCalls capacity_now held_now told holds_now well_now faults_now b)
       (sym (grown ∙ ap (with_row book) of))
       (record {
         tables = same ∙ ap (λ (tables : Book). appended tables rows) settled.tables ∙ sym more.tables;
@@ -54,9 +54,9 @@ module _
   -- nothing was kept
   pub settled_still : (tried : List Batch) → held_now ≡ held →
       book_now ≡ record { start = book.start; list = book.list; tried = tried; next = book.next; faults = faults_now } →
-      Keeps holds holds_now → (well_now → Keeps holds_now holds) → IsSettled capacity_now held_now told holds_now well_now faults_now book_now
+      Keeps holds holds_now → (well_now → Keeps holds_now holds) → IsBetweenCalls capacity_now held_now told holds_now well_now faults_now book_now
   settled_still tried same seen keeps goes_on =
-      subst (λ (b : BookView). IsSettled capacity_now held_now told holds_now well_now faults_now b) (sym seen)
+      subst (λ (b : BookView). IsBetweenCalls capacity_now held_now told holds_now well_now faults_now b) (sym seen)
       (record {
         tables = same ∙ settled.tables;
         capacity_is = room ∙ settled.capacity_is;

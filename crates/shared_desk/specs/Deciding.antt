@@ -12,7 +12,7 @@ use Rattle.shared_desk.specs.History.{book_in, capacity_of, tables_at, IsLegalHi
 -- The office's tables are those after the book's history, which is legal; the keeper tells these tables and no others, and
 -- told the opening ones when the desk was opened; and its faults are those of the book's view. A keeper that is well tells
 -- the tables, if it told a book when the desk was opened.
-pub record IsSettled (capacity : Capacity) (held : Book) (told holds : Book → Type 0) (well : Type 0) (faults : ℕ) (book : BookView) : Type 0 where
+pub record IsBetweenCalls (capacity : Capacity) (held : Book) (told holds : Book → Type 0) (well : Type 0) (faults : ℕ) (book : BookView) : Type 0 where
   pub tables : held ≡ tables_at book.start book.list
   pub capacity_is : capacity ≡ capacity_of book.start
   pub legal : IsLegalHistory book.start book.list

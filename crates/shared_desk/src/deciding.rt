@@ -9,7 +9,7 @@ ghost use Rattle.desk_history.specs.declared.views.View.TheVariants.{Holding};
 ghost use Rattle.desk_history.specs.Seen.{holding_of};
 ghost use Rattle.desk_history.specs.Moves.{unkept};
 ghost use Rattle.desk_history.specs.Rule.{IsHeld};
-ghost use Rattle.shared_desk.specs.Deciding.{IsSettled, Survives, HoldsOn, Decides};
+ghost use Rattle.shared_desk.specs.Deciding.{IsBetweenCalls, Survives, HoldsOn, Decides};
 
 use crate::naming::Naming;
 use crate::{histories_are_reached, histories_go_on};
@@ -37,11 +37,11 @@ pub(crate) fn decide<K: Keeper, B: Naming>(
     requires table { (book.old.table_id ≡ history.now.table_id) × (history.now.table_id.words ≡ 1) }
     requires holding { book.old.me ≡ (Holding (holding_of book.old.me.0), []) }
     requires number { session ≡ (holding_of book.old.me.0).pass.number }
-    requires settled { IsSettled office.old.capacity office.old.book B.told (K.holds keeper.old) (K.is_well keeper.old) (K.faults keeper.old) (holding_of book.old.me.0).book }
+    requires settled { IsBetweenCalls office.old.capacity office.old.book B.told (K.holds keeper.old) (K.is_well keeper.old) (K.faults keeper.old) (holding_of book.old.me.0).book }
     requires survives { Survives B.sound office.old.capacity office.old.book (holding_of book.old.me.0).book.tried (K.holds keeper.old) (K.tells_crash keeper.old) (K.leaves keeper.old) }
     ensures table { book.new.table_id ≡ book.old.table_id }
     ensures holding { book.new.me ≡ (Holding (holding_of book.new.me.0), []) }
-    ensures settled { IsSettled office.new.capacity office.new.book B.told (K.holds keeper.new) (K.is_well keeper.new) (K.faults keeper.new) (holding_of book.new.me.0).book }
+    ensures settled { IsBetweenCalls office.new.capacity office.new.book B.told (K.holds keeper.new) (K.is_well keeper.new) (K.faults keeper.new) (holding_of book.new.me.0).book }
     ensures survives { Survives B.sound office.new.capacity office.new.book (holding_of book.new.me.0).book.tried (K.holds keeper.new) (K.tells_crash keeper.new) (K.leaves keeper.new) }
     ensures held { IsHeld (holding_of book.new.me.0) }
     ensures holds_on { HoldsOn (holding_of book.old.me.0) (holding_of book.new.me.0) }
@@ -91,11 +91,11 @@ fn book_step<K: Keeper, B: Naming>(
     requires table { (book.old.table_id ≡ history.now.table_id) × (history.now.table_id.words ≡ 1) }
     requires holding { book.old.me ≡ (Holding (holding_of book.old.me.0), []) }
     requires number { step.rows.act.session ≡ (holding_of book.old.me.0).pass.number }
-    requires settled { IsSettled office.old.capacity office.old.book B.told (K.holds keeper.old) (K.is_well keeper.old) (K.faults keeper.old) (holding_of book.old.me.0).book }
+    requires settled { IsBetweenCalls office.old.capacity office.old.book B.told (K.holds keeper.old) (K.is_well keeper.old) (K.faults keeper.old) (holding_of book.old.me.0).book }
     requires survives { Survives B.sound office.old.capacity office.old.book (holding_of book.old.me.0).book.tried (K.holds keeper.old) (K.tells_crash keeper.old) (K.leaves keeper.old) }
     ensures table { book.new.table_id ≡ book.old.table_id }
     ensures holding { book.new.me ≡ (Holding (holding_of book.new.me.0), []) }
-    ensures settled { IsSettled office.new.capacity office.new.book B.told (K.holds keeper.new) (K.is_well keeper.new) (K.faults keeper.new) (holding_of book.new.me.0).book }
+    ensures settled { IsBetweenCalls office.new.capacity office.new.book B.told (K.holds keeper.new) (K.is_well keeper.new) (K.faults keeper.new) (holding_of book.new.me.0).book }
     ensures survives { Survives B.sound office.new.capacity office.new.book (holding_of book.new.me.0).book.tried (K.holds keeper.new) (K.tells_crash keeper.new) (K.leaves keeper.new) }
     ensures held { IsHeld (holding_of book.new.me.0) }
     ensures holds_on { HoldsOn (holding_of book.old.me.0) (holding_of book.new.me.0) }

@@ -1,5 +1,6 @@
 use Rattle.std.proofs.Common.{◌≡◌, ◌≤◌, ◌∙◌, ℕ, Some, List, length, inl, refl, subst}
 use Rattle.std.proofs.lemmas.Option.{IfSome_then}
+use Rattle.office_io.specs.declared.status.ExitStatus.{ExitStatus}
 use Rattle.office_io.specs.Transfer.{Takes}
 use Rattle.book_rows.specs.Book.{Book}
 use Rattle.office_prog.specs.Import.{AnswersInput, Imported, LeavesByInput, import_limit}
@@ -9,7 +10,7 @@ use Rattle.program_answers.specs.Opening.{Door, door}
 use Rattle.office_prog.proofs.import.import.Goals as goal
 
 -- an input that was taken whole was answered
-whole_answered : (clerk : ℕ) (shows : ℕ → Type 0) (start after : Book) (old new : Door) (status : ℕ) (bytes input : List ℕ) → input ≡ bytes
+whole_answered : (clerk : ℕ) (shows : ℕ → Type 0) (start after : Book) (old new : Door) (status : ExitStatus) (bytes input : List ℕ) → input ≡ bytes
     → length bytes ≤ import_limit → Takes import_limit old.left new.left bytes → AnswersInput clerk shows input start after old new status
     → Imported clerk shows start after old new status
 whole_answered clerk shows start after old new status bytes input is short takes answers =

@@ -48,13 +48,13 @@ returns-after-failed-clause-alone g c = λ pass is.
     one.0 served.0 (g.L.Listener.left c.args.listener) (g.L.Listener.left c.serve_all-listener.result.listener)
     (g.L.Listener.links c.args.listener) (g.L.Listener.links c.serve_all-listener.result.listener) clock served.2 in
     let (last, are, learned) = c.gathered-last.ensures.passes in
-    let ended = one_last c.gathered-last.result.others.items last served.0.pass (sym (ap (map (λ seat. seat.pass)) (sym (back ∙ served.1)) ∙ are)) in
+    let end = one_last c.gathered-last.result.others.items last served.0.pass (sym (ap (map (λ seat. seat.pass)) (sym (back ∙ served.1)) ∙ are)) in
     let goes = subst (λ them. Further one.0.pass (slice_index_or them 0 one.0).pass) served.1
     (subst (λ them. Further (slice_index_or them 0 one.0).pass (slice_index_or seats_now 0 one.0).pass) one.1 (follows.each 0 one.0 (let long = ap length one.1 in omega (arith, long))).0) in
     inr (record {
       pass_now = served.0.pass;
       number = further_number one.0.pass served.0.pass goes ∙ ap (λ (p : PassView). p.number) one.2;
-      learned = subst (λ (p : PassView). HasLearned p c.gathered-last.result.last) ended learned;
+      learned = subst (λ (p : PassView). HasLearned p c.gathered-last.result.last) end learned;
       served = subst (λ (p : PassView). ServesLinks (λ old link new. IsServed (g.C.Clock.may_show c.args.clock.now) old new link) p served.0.pass
           (g.L.Listener.left c.args.listener) (g.L.Listener.left c.serve_all-listener.result.listener)
           (g.L.Listener.links c.args.listener) (g.L.Listener.links c.serve_all-listener.result.listener)) one.2 seen;
@@ -74,7 +74,7 @@ returns-after-failed-clause-works g c =
     (g.L.Listener.links c.args.listener) (g.L.Listener.links c.serve_all-listener.result.listener))
     c.deref_mut.ensures.value c.serve_all-listener.ensures.given_back in
     inr (record {
-      ended = last;
+      end = last;
       follows = subst (λ them. FollowsEach Further them (c.gathered-last.result.others.items ++ last ∷ [])) c.in-Ok.ensures.passes
           (subst (FollowsEach Further (map (λ seat. seat.pass) seats)) now_are
           (passes_follow (λ seat. seat.pass) seats seats_now (record { many = follows.many; each = λ k d within. (follows.each k d within).0 })));

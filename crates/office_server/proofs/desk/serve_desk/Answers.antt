@@ -20,7 +20,7 @@ returns-in-Ok-clause-in_turn g c = λ one.
     let same = c.serve_by-worked.ensures.start c.args.desk.start (fresh_starts c.args.desk.start 1 c.in-Ok.passes.items c.in-Ok.ensures.fresh) in
     let first = one_long c.in-Ok.passes.items (c.in-Ok.ensures.many ∙ one) in
     let fresh = (subst (AreFresh c.args.desk.start 1) first.1 c.in-Ok.ensures.fresh).0 in
-    turned _ _ _ _ c.left_by.ensures.how (λ served. subst (λ listener.
+    turned _ _ _ _ c.left_by.ensures.end (λ served. subst (λ listener.
     ServesInTurn (g.C.Clock.may_show c.args.clock.now) (g.L.Listener.left c.args.listener) (g.L.Listener.left listener) (g.L.Listener.links c.args.listener) (g.L.Listener.links listener)
     (MayLeave g.B.Naming.sound (g.K.Keeper.tells_crash c.left_by.result.finished.keeper) (g.K.Keeper.holds c.left_by.result.finished.keeper) (g.K.Keeper.leaves c.left_by.result.finished.keeper))
     (book_of c.left_by.result.finished.tables))
@@ -31,7 +31,7 @@ returns-in-Ok-clause-in_turn g c = λ one.
 pub returns-in-Ok-clause-together : goal.returns-in-Ok-clause-together
 returns-in-Ok-clause-together g c =
     let same = c.serve_by-worked.ensures.start c.args.desk.start (fresh_starts c.args.desk.start 1 c.in-Ok.passes.items c.in-Ok.ensures.fresh) in
-    turned _ _ _ _ c.left_by.ensures.how (λ works. subst (λ listener.
+    turned _ _ _ _ c.left_by.ensures.end (λ works. subst (λ listener.
     ServesTogether (g.C.Clock.may_show c.args.clock.now) c.args.workers (g.L.Listener.links c.args.listener) (g.L.Listener.links listener)
     (MayLeave g.B.Naming.sound (g.K.Keeper.tells_crash c.left_by.result.finished.keeper) (g.K.Keeper.holds c.left_by.result.finished.keeper) (g.K.Keeper.leaves c.left_by.result.finished.keeper))
     (book_of c.left_by.result.finished.tables))

@@ -12,11 +12,11 @@ returns-in-Ok-clause-comes g c =
       tables = book_of c.serve_desk-finished.result.finished.tables;
       leaves = told_otherwise g.B.Naming.told (g.K.Keeper.holds c.args.keeper) _ _ c.requires.told_by served.leaves;
       stopped = leaves_otherwise _ _ _ _ (λ after may. (c.requires.sound_by may.0, may.1, may.2, may.3)) served.stopped;
-      ended = ends_by _ _ _ _ _ _ _ _ _ _ _ _ _ c.serve_desk-finished.result.how served.whole served.failed served.unserved (λ is. ap g.L.Listener.faults (served.unserved is))
+      end = ends_by _ _ _ _ _ _ _ _ _ _ _ _ _ c.serve_desk-finished.result.end served.whole served.failed served.unserved (λ is. ap g.L.Listener.faults (served.unserved is))
           told.whole told.failed told.unserved;
-      together = turn_by c.args.listener c.serve_desk-finished.result.listener (g.L.Listener.left c.serve_desk-finished.result.listener) (book_of c.serve_desk-finished.result.finished.tables) _ _ _ _ _ _ _ _ _ c.serve_desk-finished.result.how _ served.unserved (λ is. ap g.L.Listener.faults (served.unserved is)) told.unserved
+      together = turn_by c.args.listener c.serve_desk-finished.result.listener (g.L.Listener.left c.serve_desk-finished.result.listener) (book_of c.serve_desk-finished.result.finished.tables) _ _ _ _ _ _ _ _ _ c.serve_desk-finished.result.end _ served.unserved (λ is. ap g.L.Listener.faults (served.unserved is)) told.unserved
           (turned _ _ _ _ refl (together_otherwise _ _ _ _ _ _ _ (λ after may. (c.requires.sound_by may.0, may.1, may.2, may.3))) served.together);
-      in_turn = λ one. turn_by c.args.listener c.serve_desk-finished.result.listener (g.L.Listener.left c.serve_desk-finished.result.listener) (book_of c.serve_desk-finished.result.finished.tables) _ _ _ _ _ _ _ _ _ c.serve_desk-finished.result.how _ served.unserved (λ is. ap g.L.Listener.faults (served.unserved is)) told.unserved
+      in_turn = λ one. turn_by c.args.listener c.serve_desk-finished.result.listener (g.L.Listener.left c.serve_desk-finished.result.listener) (book_of c.serve_desk-finished.result.finished.tables) _ _ _ _ _ _ _ _ _ c.serve_desk-finished.result.end _ served.unserved (λ is. ap g.L.Listener.faults (served.unserved is)) told.unserved
           (turned _ _ _ _ refl (in_turn_otherwise _ _ _ _ _ _ _ _ (λ after may. (c.requires.sound_by may.0, may.1, may.2, may.3))) (served.in_turn one));
     })
 

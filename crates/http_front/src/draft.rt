@@ -9,25 +9,25 @@ use plain_data::{NoMemory, Text};
 
 /// What is said of a message: all of its reply but the point.
 #[derive(Debug, Drop)]
-pub(crate) struct Said {
+pub(crate) struct ReplyDraft {
     pub(crate) status: Status,
     pub(crate) body: Body,
 }
 
 /// Why the office says nothing.
 #[derive(Clone, Copy, Debug)]
-pub(crate) enum Silence {
+pub(crate) enum NoReply {
     /// The keeper failed.
     Store,
     NoMemory,
 }
 
-impl From<NoMemory> for Silence {
-    ghost use Rattle.http_front.specs.declared.said.Silence.TheVariants as silence;
+impl From<NoMemory> for NoReply {
+    ghost use Rattle.http_front.specs.declared.draft.NoReply.TheVariants as silence;
 
     ghost from_gives = { λ _ why. why ≡ silence.NoMemory };
 
-    fn from(_error: NoMemory) -> Silence {
-        Silence::NoMemory
+    fn from(_error: NoMemory) -> NoReply {
+        NoReply::NoMemory
     }
 }
