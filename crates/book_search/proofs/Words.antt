@@ -7,4 +7,4 @@ pub use Rattle.book_rows.specs.{declared.rows.ActRow.ActRow, Book.is_request_of}
 pub use Rattle.list_laws.proofs.Finds.{find_both, find_none, find_passes, find_none-narrower, find_first-narrower}
 pub use Rattle.row_index.proofs.Points.{if_passes, number_there, number_not_there, number_past}
 pub use Rattle.row_index.specs.Index.{place_of, request_key}
-pub use Rattle.book_search.specs.Requests.{HaveOwnRequests, RequestsStayOwn, act_key}
+pub use Rattle.book_search.specs.Requests.{act_key}

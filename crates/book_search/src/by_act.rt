@@ -1,24 +1,12 @@
-//! Rows by their act.
+//! Records and lines by their act.
 
 ghost use Rattle.std.specs.Prelude.{◌≡◌, ◌==◌, ◌≤◌, true, false, nat_le, nat_lt, length, find, filter, drop, slice_get};
 ghost use Rattle.std.specs.Option.{option_copied};
 ghost use Rattle.std.specs.List.Sorted.{IsPartitionPoint};
-ghost use Rattle.book_search.specs.Order.{ActsRise, RecordsRise, LinesNeverFall};
+ghost use Rattle.book_search.specs.Order.{RecordsRise, LinesNeverFall};
 
-use book_rows::ActRow;
 use record_history::Record;
 use voucher_core::Line;
-
-/// The act of that number.
-pub fn act_of_number(acts: &[ActRow], n: u32) -> Option<&ActRow>
-    requires { ActsRise acts.now }
-    ensures { option_copied result ≡ find (λ act. act.n == n) acts.now }
-{
-    let Some(act) = item_at(acts, first_act(acts, n)) else {
-        return None;
-    };
-    if act.n == n { Some(act) } else { None }
-}
 
 /// The record that the act made.
 pub fn record_of_act(records: &[Record], n: u32) -> Option<&Record>
@@ -44,15 +32,6 @@ fn item_at<T>(items: &[T], at: usize) -> Option<&T>
     ensures { option_copied result ≡ slice_get items.now at }
 {
     items.get(at)
-}
-
-// Where the acts of that number and later ones begin.
-fn first_act(acts: &[ActRow], n: u32) -> usize
-    requires { ActsRise acts.now }
-    ensures bound { result ≤ length acts.now }
-    ensures point { IsPartitionPoint (λ act. nat_lt act.n n ≡ true) (λ act. nat_lt act.n n ≡ false) acts.now result }
-{
-    acts.partition_point(|act| act.n < n)
 }
 
 // Where the records of that act and of later ones begin.

@@ -1,10 +1,10 @@
 //! Acts by their request.
 
-ghost use Rattle.std.specs.Prelude.{◌≡◌, ◌==◌, ◌&&◌, not, bytes_eq, find, slice_get};
+ghost use Rattle.std.specs.Prelude.{◌≡◌, ◌==◌, find, slice_get};
 ghost use Rattle.std.specs.Option.{option_copied};
 ghost use Rattle.row_index.specs.Index.{index_of, request_key};
 ghost use Rattle.book_rows.specs.Book.{is_request_of};
-ghost use Rattle.book_search.specs.Requests.{act_key, HaveOwnRequests};
+ghost use Rattle.book_search.specs.Requests.{act_key};
 
 use book_rows::ActRow;
 use row_index::{RowIndex, index_finds};
@@ -30,50 +30,6 @@ pub fn act_of_request<'a>(
         return None;
     };
     if is_of_request(act, clerk, request) {
-        Some(act)
-    } else {
-        None
-    }
-}
-
-/// The act of the clerk and request, where its command has that text.
-pub fn act_of_same_body<'a>(
-    acts: &'a [ActRow],
-    index: &RowIndex,
-    clerk: u32,
-    request: u32,
-    body: &[u8],
-) -> Option<&'a ActRow>
-    requires own { HaveOwnRequests acts.now }
-    requires index { index.now.entries ≡ index_of act_key acts.now }
-    ensures { option_copied result ≡ find (λ act. is_request_of clerk request act && bytes_eq act.body body.now) acts.now }
-{
-    let Some(act) = act_of_request(acts, index, clerk, request) else {
-        return None;
-    };
-    if act.body.as_bytes() == body {
-        Some(act)
-    } else {
-        None
-    }
-}
-
-/// The act of the clerk and request, where its command has another text.
-pub fn act_of_other_body<'a>(
-    acts: &'a [ActRow],
-    index: &RowIndex,
-    clerk: u32,
-    request: u32,
-    body: &[u8],
-) -> Option<&'a ActRow>
-    requires own { HaveOwnRequests acts.now }
-    requires index { index.now.entries ≡ index_of act_key acts.now }
-    ensures { option_copied result ≡ find (λ act. is_request_of clerk request act && not (bytes_eq act.body body.now)) acts.now }
-{
-    let Some(act) = act_of_request(acts, index, clerk, request) else {
-        return None;
-    };
-    if act.body.as_bytes() != body {
         Some(act)
     } else {
         None

@@ -1,10 +1,7 @@
 //! Rows and acts that are found.
 
 use book_rows::ActRow;
-use book_search::{
-    act_key, act_of_number, act_of_other_body, act_of_request, act_of_same_body, lines_of_act,
-    record_of_act,
-};
+use book_search::{act_key, act_of_request, lines_of_act, record_of_act};
 use plain_data::SharedText;
 use record_history::Kind;
 use row_index::RowIndex;
@@ -53,32 +50,16 @@ fn body_of(rt: &impl Abort, alloc: Global, words: &str) -> SharedText {
     body(alloc, words).expect(rt, "memory")
 }
 
-const ACT_OF_NUMBER: [(u32, Option<u32>); 4] = [(0, None), (1, Some(50)), (3, Some(7)), (4, None)];
+/// The clerk, the request, and the act's number.
+type RequestCase = (u32, u32, Option<u32>);
 
-#[test]
-fn finds_the_act_of_a_number(rt: HostRuntime) {
-    let alloc = rt.alloc();
-    let acts = [
-        act_row(1, 1, 50, body_of(&rt, alloc, "{}")),
-        act_row(2, 2, 50, body_of(&rt, alloc, "[]")),
-        act_row(3, 1, 7, body_of(&rt, alloc, "{}")),
-    ];
-    for (n, request) in &ACT_OF_NUMBER {
-        let found = act_of_number(&acts, *n);
-        assert!(rt; found.map(|act| act.request) == *request, "act {n}");
-    }
-}
-
-/// The clerk, the request, the act's number, and whether its text is the same.
-type RequestCase = (u32, u32, Option<u32>, bool);
-
-// Two clerks have the number 50, and the second clerk's request has another text.
+// Two clerks have the number 50.
 const REQUESTS: [RequestCase; 5] = [
-    (1, 50, Some(1), true),
-    (2, 50, Some(2), false),
-    (1, 7, Some(3), true),
-    (2, 7, None, false),
-    (3, 50, None, false),
+    (1, 50, Some(1)),
+    (2, 50, Some(2)),
+    (1, 7, Some(3)),
+    (2, 7, None),
+    (3, 50, None),
 ];
 
 #[test]
@@ -96,17 +77,10 @@ fn finds_the_act_of_a_request(rt: HostRuntime) {
     index.insert(act_key(2, 50), 1);
     index.reserve().expect(&rt, "memory");
     index.insert(act_key(1, 7), 2);
-    for (clerk, request, n, same) in &REQUESTS {
+    for (clerk, request, n) in &REQUESTS {
         let (clerk, request) = (*clerk, *request);
         let found = act_of_request(&acts, &index, clerk, request);
         assert!(rt; number_of(found) == *n, "{clerk} {request}");
-        let other = act_of_other_body(&acts, &index, clerk, request, b"{}");
-        assert!(rt;
-            other.is_some() == (n.is_some() && !*same),
-            "{clerk} {request}"
-        );
-        let found = act_of_same_body(&acts, &index, clerk, request, b"{}");
-        assert!(rt; found.is_some() == *same, "{clerk} {request}");
     }
 }
 

@@ -1,8 +1,0 @@
-use Rattle.book_search.proofs.Words.{rules, nat_lt, IsPartitionPoint-from_clause, IsPartitionedBy-ltb}
-use Rattle.book_search.proofs.Stretch.{never_falls}
-use Rattle.book_search.proofs.by_act.first_act.Goals as goal
-
-pub returns-clause-point : goal.returns-clause-point
-returns-clause-point c =
-    IsPartitionPoint-from_clause (λ x. nat_lt x.n c.args.n) _ _ c.partition_point.ensures.partitioned
-    (IsPartitionedBy-ltb (λ x. x.n) _ _ (never_falls (λ x. x.n) _ c.requires)) (λ a r f called. search rules)
