@@ -3,15 +3,15 @@
 
 mod calls;
 mod compare;
-mod given;
 mod laws;
 mod near;
+mod stored_rows;
 mod strays;
 mod stretch;
 
 pub use book_search;
 pub use calls::call_of;
 pub use command_text;
-pub use given::Given;
 pub use laws::{reached_is_valid, replay_is_kept, valid_is_reached};
 pub use office_laws;
+pub use stored_rows::StoredRows;

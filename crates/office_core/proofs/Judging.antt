@@ -11,7 +11,7 @@ use Rattle.office_answers.proofs.Below.office_step.Passed.{first_of-around}
 use Rattle.office_answers.specs.Below.office_step.Valid.{rows_in}
 use Rattle.book_replay.specs.Below.office_laws.AtHand.{NewRequests, RepeatedRequests, ReusedRequests, NextDayStays}
 use Rattle.office_acts.specs.Judged.{judged_by}
-use Rattle.office_core.specs.{declared.drafting.Held.Held, declared.judged.Judgment.Judgment, Judged.Judges, Held.IsNewTo, Office.Holding, Planned.IsPlannedFor}
+use Rattle.office_core.specs.{declared.drafting.BookLimits.BookLimits, declared.judged.Judgment.Judgment, Judged.Judges, Held.IsNewTo, Office.Holding, Planned.IsPlannedFor}
 
 -- ---- what was judged
 
@@ -39,7 +39,7 @@ pub record IsTried (capacity : Capacity) (book : Book) (known : Known) (clock da
   pub known_is : known ≡ known_of book
   pub today : day ≡ act_day book.acts clock
 
-pub new_call : {known : Known} {held : Held} {book : Book} {clock day : ℕ} {call : Call} → IsNewTo known held call book → NewRequests →
+pub new_call : {known : Known} {held : BookLimits} {book : Book} {clock day : ℕ} {call : Call} → IsNewTo known held call book → NewRequests →
     day ≡ day_after held.last clock → IsTried held.capacity book known clock day call
 new_call {held = held} {book} {call = call} fresh law today = record {
   reached = fresh.reached;
@@ -49,7 +49,7 @@ new_call {held = held} {book} {call = call} fresh law today = record {
 }
 
 -- The office is seen twice, the same: as it is inside, and as its callers see it.
-pub new_to : {inside now : Holding} {known : Known} {held : Held} {call : Call} → inside ≡ now → IsReached inside.capacity inside.book →
+pub new_to : {inside now : Holding} {known : Known} {held : BookLimits} {call : Call} → inside ≡ now → IsReached inside.capacity inside.book →
     known ≡ known_of inside.book → held.capacity ≡ now.capacity → held.last ≡ last_act_day now.book.acts → held.lines ≡ length now.book.lines →
     find (is_request_of call.clerk call.request) now.book.acts ≡ None → IsNewTo known held call now.book
 new_to same reached known capacity last lines none = record {

@@ -6,7 +6,7 @@ use Rattle.book_rows.specs.{declared.rows.ActRow.ActRow, declared.rows.Batch.Bat
 use Rattle.office_answers.specs.Below.office_step.{declared.call.Call.Call, declared.call.Capacity.Capacity, Refusals.is_request_of, Step.last_act_day}
 use Rattle.office_answers.specs.Below.office_step.Valid.{replayed, difference, with_rows, first_fault}
 use Rattle.book_replay.specs.Replay.{IsReplayed, ReplayGoesOn, ReplayStops}
-use Rattle.office_core.specs.{declared.drafting.Held.Held, declared.opening.OpenFault.OpenFault, declared.replaying.Replay.Replay, Held.IsNewTo, Opening.IsNamed, Replaying.IsReplay, Replaying.rows_of_first}
+use Rattle.office_core.specs.{declared.drafting.BookLimits.BookLimits, declared.opening.OpenFault.OpenFault, declared.replaying.Replay.Replay, Held.IsNewTo, Opening.IsNamed, Replaying.IsReplay, Replaying.rows_of_first}
 
 -- the book is the rows that the tables have of the acts that are done
 first_rows : {capacity : Capacity} {tables : Book} {count : ℕ} {book : Book} → IsReplayed capacity tables count book → book ≡ rows_of_first count tables
@@ -54,7 +54,7 @@ pub there : {X : Type 0} (xs : List X) (place : ℕ) (x : X) → place < length 
 there xs place x within is = slice_get-get_or xs place x within ∙ ap Some (sym is)
 
 -- a call is new to the acts that are done
-pub new_to_done : {replay : Replay} {book : Book} {held : Held} {done : List ActRow} {call : Call} → IsReplay replay book → done ≡ book.acts →
+pub new_to_done : {replay : Replay} {book : Book} {held : BookLimits} {done : List ActRow} {call : Call} → IsReplay replay book → done ≡ book.acts →
     held ≡ record { capacity = replay.capacity; last = last_act_day done; lines = replay.lines } →
     find (is_request_of call.clerk call.request) book.acts ≡ None → IsNewTo replay.register.known held call book
 new_to_done known done is none = rw is (record {

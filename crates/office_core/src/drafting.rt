@@ -27,7 +27,7 @@ use voucher_core::Line;
 
 /// How much a book may hold, and what else a call is judged by beside what is known.
 #[derive(Clone, Copy)]
-pub struct Held {
+pub struct BookLimits {
     pub capacity: Capacity,
     /// The day of the last act, and 1880-01-01 where there is none.
     pub last: Day,
@@ -47,7 +47,7 @@ pub struct Draft {
 pub fn new_step(
     alloc: Global,
     register: &Register,
-    held: &Held,
+    held: &BookLimits,
     session: u32,
     clock: Day,
     call: Call,
@@ -81,7 +81,7 @@ pub fn new_step(
 fn drafted(
     alloc: Global,
     register: &Register,
-    held: &Held,
+    held: &BookLimits,
     session: u32,
     clock: Day,
     call: &Call,
@@ -134,7 +134,7 @@ fn drafted(
 }
 
 /// Refused where the book can't hold these lines too.
-fn full_of(held: &Held, lines: &[Line]) -> Option<Refusal>
+fn full_of(held: &BookLimits, lines: &[Line]) -> Option<Refusal>
     requires { length lines.now < 2 ^ 32 }
     ensures { result ≡ lines_full held.now.lines (length lines.now) held.now.capacity.lines }
 {

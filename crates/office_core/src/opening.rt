@@ -9,7 +9,7 @@ ghost use Rattle.office_core.specs.Replaying.{IsReplay};
 use crate::Office;
 use crate::replaying::Replay;
 use book_replay::office_laws::books_are_upheld;
-use book_replay::{Given, replay_is_kept};
+use book_replay::{StoredRows, replay_is_kept};
 use book_rows::Tables;
 use office_answers::are_in_turn;
 use office_answers::office_step::{Capacity, Fault};
@@ -65,7 +65,7 @@ fn done_again(alloc: Global, tables: &Tables, capacity: Capacity) -> Result<Repl
     ensures valid { IfOk result (λ replay. first_fault capacity (book_of tables.now) ≡ None) }
     ensures bad { IfErr result (IsNamed (first_fault capacity (book_of tables.now))) }
 {
-    let given = Given::new(tables);
+    let given = StoredRows::new(tables);
     let Ok(mut replay) = Replay::new(alloc, capacity) else {
         return Err(OpenFault::NoMemory);
     };
@@ -83,7 +83,7 @@ fn fault_of_tables(
     alloc: Global,
     replay: &mut Replay,
     tables: &Tables,
-    given: &Given,
+    given: &StoredRows,
 ) -> Option<OpenFault>
     requires known { IsReplay replay.old empty_book }
     requires given { given.now ≡ book_of tables.now }

@@ -1,6 +1,6 @@
 //! A call is judged without a change, for an office as it is.
 
-use crate::drafting::{Held, last_day, new_step};
+use crate::drafting::{BookLimits, last_day, new_step};
 use crate::{Judged, Judgment, Office, Step};
 use book_replay::book_search::act_of_request;
 use book_replay::command_text::body_of_command;
@@ -85,7 +85,7 @@ impl Office {
     }
 
     /// How much the book holds, and the day of its last act.
-    fn held(&self) -> Held
+    fn held(&self) -> BookLimits
         ensures capacity { result.capacity ≡ self.now.capacity }
         ensures last { result.last ≡ last_act_day self.now.book.acts }
         ensures lines { result.lines ≡ length self.now.book.lines }
@@ -94,7 +94,7 @@ impl Office {
     {
         within_room();
         days_are_lived();
-        Held {
+        BookLimits {
             capacity: self.capacity,
             last: last_day(&self.tables.acts),
             lines: self.tables.lines.len() as u32,

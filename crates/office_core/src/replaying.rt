@@ -1,6 +1,6 @@
 //! The acts of given tables are done again, one after another.
 
-use crate::drafting::{Held, last_day, new_step};
+use crate::drafting::{BookLimits, last_day, new_step};
 use crate::reserve::household_of;
 use crate::{Judgment, OpenFault, Step};
 use book_replay::book_search::{act_key, act_of_request};
@@ -8,7 +8,7 @@ use book_replay::office_laws::{
     appended_is_accepted, books_are_kept, days_are_lived, known_after_each_act, next_records,
     requests_are_once, within_room,
 };
-use book_replay::{Given, call_of};
+use book_replay::{StoredRows, call_of};
 use book_rows::{ActRow, Batch, Table};
 use office_answers::office_register::Register;
 use office_answers::office_step::{Call, Capacity, Fault};
@@ -63,7 +63,7 @@ impl Replay {
     pub fn redo(
         &mut self,
         alloc: Global,
-        given: &Given,
+        given: &StoredRows,
         done: &[ActRow],
         row: &ActRow,
     ) -> Result<(), OpenFault>
@@ -164,17 +164,17 @@ impl Replay {
     }
 
     /// How much the acts that are done hold, and the day of the last.
-    fn held(&self, done: &[ActRow]) -> Held
+    fn held(&self, done: &[ActRow]) -> BookLimits
         ensures { result ≡ record { capacity = self.now.capacity; last = last_act_day done.now; lines = self.now.lines } }
     {
-        Held {
+        BookLimits {
             capacity: self.capacity,
             last: last_day(done),
             lines: self.lines,
         }
     }
 
-    fn redo_step(&mut self, given: &Given, row: &ActRow, step: Step) -> Result<(), OpenFault>
+    fn redo_step(&mut self, given: &StoredRows, row: &ActRow, step: Step) -> Result<(), OpenFault>
         ghost book: { Book }
         requires known { IsReplay self.old book }
         requires planned { IsPlannedFor self.old.capacity book step }
@@ -196,7 +196,7 @@ impl Replay {
     }
 
     /// Where the rows of the step differ from those of the tables, or that there is no room for what is known by it.
-    fn fault_of_step(&mut self, given: &Given, row: &ActRow, step: &Step) -> Option<OpenFault>
+    fn fault_of_step(&mut self, given: &StoredRows, row: &ActRow, step: &Step) -> Option<OpenFault>
         ghost book: { Book }
         requires known { IsReplay self.old book }
         requires planned { IsPlannedFor self.old.capacity book step.now }

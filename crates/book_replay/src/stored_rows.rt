@@ -20,7 +20,7 @@ use voucher_core::Line;
 ///
 /// Where no row is out of place, the rows of each act are one stretch, which is found without a scan.
 #[derive(Drop)]
-pub struct Given<'a> {
+pub struct StoredRows<'a> {
     tables: &'a Tables,
     /// The act of the first record that is out of place.
     stray_record: Option<u32>,
@@ -28,7 +28,7 @@ pub struct Given<'a> {
     stray_line: Option<u32>,
 }
 
-impl<'a> Model for Given<'a> {
+impl<'a> Model for StoredRows<'a> {
     ghost Value = { Book };
 
     ghost view = { λ g. book_of g.tables.now };
@@ -38,15 +38,15 @@ impl<'a> Model for Given<'a> {
         × (g.stray_line ≡ stray (length g.tables.now.acts.items) 0 (map (λ line. line.act) g.tables.now.lines.items)) };
 }
 
-impl<'a> Given<'a> {
+impl<'a> StoredRows<'a> {
     /// These tables, after one walk over their records and lines.
-    pub fn new(tables: &'a Tables) -> Given<'a>
+    pub fn new(tables: &'a Tables) -> StoredRows<'a>
         ensures { result ≡ book_of tables.now }
     {
         let count = tables.acts.len();
         let stray_record = stray_record(count, &tables.records);
         let stray_line = stray_line(count, &tables.lines);
-        Given {
+        StoredRows {
             tables,
             stray_record,
             stray_line,

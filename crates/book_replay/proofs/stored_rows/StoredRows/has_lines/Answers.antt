@@ -1,6 +1,6 @@
 use Rattle.std.proofs.Common.{◌∙◌, sym, length}
 use Rattle.book_replay.proofs.InPlace.{never_fall, none_there}
-use Rattle.book_replay.proofs.given.Given.has_lines.Goals as goal
+use Rattle.book_replay.proofs.stored_rows.StoredRows.has_lines.Goals as goal
 
 pub lines_near-near-requires : goal.lines_near-near-requires
 lines_near-near-requires c in_order =

@@ -1,6 +1,6 @@
 use Rattle.std.proofs.Common.{◌∙◌, sym, length}
 use Rattle.book_replay.proofs.InPlace.{never_fall, none_there}
-use Rattle.book_replay.proofs.given.Given.has_made.Goals as goal
+use Rattle.book_replay.proofs.stored_rows.StoredRows.has_made.Goals as goal
 
 pub records_near-near-requires : goal.records_near-near-requires
 records_near-near-requires c in_order =
