@@ -1,10 +1,13 @@
 -- The first mover so far, and one household more.
-use Rattle.std.proofs.Common.{◌≡◌, ◌∙◌, ap, refl, ℕ, ◌+◌, [], ◌∷◌, ◌++◌, Option, Some, None, Bool, arith, add-one}
+use Rattle.std.proofs.Common.{◌≡◌, ◌∙◌, sym, ap, refl, ℕ, ◌+◌, [], ◌∷◌, ◌++◌, List, Option, Some, None, Bool, false, arith, add-one}
 use Rattle.std.specs.{Prelude.filter, Prelude.fold, Prelude.option_to_list, List.range_with_len, List.filter_map}
 use Rattle.std.proofs.lemmas.List.{Elements.filter-append, Elements.filter_map-append, Sums.fold-append}
 use Rattle.row_choice.specs.Latest.{later}
 use Rattle.voucher_core.proofs.Totals.{range-more}
 use Rattle.office_step.specs.declared.known.Mover.{Mover}
+use Rattle.rent_table.specs.declared.rows.Unit.{Unit as UnitRow}
+use Rattle.office_step.specs.Candidates.{in_need, first_mover}
+use Rattle.list_laws.proofs.Filters.{filter_none}
 use Rattle.admission_order.specs.Turns.{came_first, first_of_movers}
 
 one_of : (found : Option Mover) (f : ℕ → Option Mover) (place : ℕ) → f place ≡ found → filter_map f (place ∷ []) ≡ option_to_list found
@@ -19,3 +22,7 @@ movers-more turn f place =
   where
     range-next : range_with_len 1 (place + 1) ≡ range_with_len 1 place ++ (place + 1) ∷ []
     range-next = rw add-one (range-more 1 place ∙ ap (λ (n : ℕ). range_with_len 1 place ++ n ∷ []) (omega arith))
+
+-- nobody needs features that the unit hasn't
+pub none_in_need : (unit : UnitRow) (movers : List Mover) → unit.accessible ≡ false → None ≡ first_mover (filter (in_need unit) movers)
+none_in_need unit movers is = sym (ap first_mover (filter_none (in_need unit) movers (λ k d within. rw is refl)))

@@ -3,10 +3,9 @@
 ghost use Rattle.std.specs.Prelude.{◌≡◌, ◌≤◌, nat_lt, true, false, if◌then◌else◌, filter, fold, option_copied, option_to_list};
 ghost use Rattle.std.specs.Option.{option_map_or};
 ghost use Rattle.row_choice.specs.Latest.{later};
-ghost use Rattle.record_history.specs.Records.{in_force};
 ghost use Rattle.record_history.specs.Held.{records_of};
 ghost use Rattle.due_dates.specs.Stale.{ends_assistance};
-ghost use Rattle.office_step.specs.Candidates.{newest_transfer, counts, would_move, request_in, mover_of, movers_of, first_mover};
+ghost use Rattle.office_step.specs.Candidates.{newest_transfer, counts, would_move, would_move_on, request_in, mover_of, movers_of, first_mover};
 ghost use Rattle.admission_order.specs.Turns.{came_first, newer, is_turn, first_of_movers};
 
 use days_core::Day;
@@ -28,34 +27,29 @@ pub struct Vacancy<'a> {
 /// The household whose turn it is: of those who need the accessible features of the unit, or of the others.
 pub fn first_mover(vacancy: &Vacancy, needing: bool) -> Option<u32>
     requires { vacancy.now.unit.now.bedrooms ≤ 5 }
-    ensures { result ≡ first_mover (filter (is_turn vacancy.now.unit.now.accessible needing) (movers_of vacancy.now.plan.now vacancy.now.unit.now vacancy.now.day vacancy.now.requests.now vacancy.now.history.now.households)) }
+    ensures { result ≡ first_mover (filter (is_turn vacancy.now.unit.now needing) (movers_of vacancy.now.plan.now vacancy.now.unit.now vacancy.now.day vacancy.now.requests.now vacancy.now.history.now.households)) }
 {
     first_of_movers(vacancy, needing).map(|mover| mover.household)
 }
 
 fn first_of_movers(vacancy: &Vacancy, needing: bool) -> Option<Mover>
     requires { vacancy.now.unit.now.bedrooms ≤ 5 }
-    ensures { result ≡ first_of_movers (filter (is_turn vacancy.now.unit.now.accessible needing) (movers_of vacancy.now.plan.now vacancy.now.unit.now vacancy.now.day vacancy.now.requests.now vacancy.now.history.now.households)) }
+    ensures { result ≡ first_of_movers (filter (is_turn vacancy.now.unit.now needing) (movers_of vacancy.now.plan.now vacancy.now.unit.now vacancy.now.day vacancy.now.requests.now vacancy.now.history.now.households)) }
 {
     let mut first = None;
     for place in 0..vacancy.history.households() {
         let mover = mover_of(vacancy, place + 1);
-        first = sooner(first, mover, vacancy.unit.accessible, needing);
+        first = sooner(first, mover, vacancy.unit, needing);
     }
     first
 }
 
 /// The first of the mover so far and another, where it is the other's turn.
-fn sooner(
-    first: Option<Mover>,
-    mover: Option<Mover>,
-    accessible: bool,
-    needing: bool,
-) -> Option<Mover>
-    ensures { result ≡ fold (later came_first) first (filter (is_turn accessible needing) (option_to_list mover)) }
+fn sooner(first: Option<Mover>, mover: Option<Mover>, unit: &Unit, needing: bool) -> Option<Mover>
+    ensures { result ≡ fold (later came_first) first (filter (is_turn unit.now needing) (option_to_list mover)) }
 {
     match mover {
-        Some(mover) if is_turn(accessible, needing, mover) => Some(first_of_two(first, mover)),
+        Some(mover) if is_turn(unit, needing, mover) => Some(first_of_two(first, mover)),
         _ => first,
     }
 }
@@ -69,13 +63,13 @@ fn first_of_two(first: Option<Mover>, mover: Mover) -> Mover
     }
 }
 
-fn is_turn(accessible: bool, needing: bool, mover: Mover) -> bool
-    ensures { result ≡ is_turn accessible needing mover }
+fn is_turn(unit: &Unit, needing: bool, mover: Mover) -> bool
+    ensures { result ≡ is_turn unit.now needing mover }
 {
     if needing {
-        mover.accessible
+        unit.accessible && mover.accessible
     } else {
-        !(accessible && mover.accessible)
+        !(unit.accessible && mover.accessible)
     }
 }
 
@@ -148,7 +142,7 @@ fn newer<'a>(newest: Option<&'a Record>, held: &'a Record) -> Option<&'a Record>
 
 fn would_move_on(vacancy: &Vacancy, household: u32) -> bool
     requires { vacancy.now.unit.now.bedrooms ≤ 5 }
-    ensures { result ≡ option_map_or (would_move vacancy.now.plan.now vacancy.now.unit.now) (in_force (records_of vacancy.now.history.now.households household) vacancy.now.day) false }
+    ensures { result ≡ would_move_on vacancy.now.plan.now vacancy.now.unit.now vacancy.now.day (records_of vacancy.now.history.now.households household) }
 {
     match vacancy.history.in_force(household, vacancy.day) {
         Some(held) => would_move(vacancy.plan, vacancy.unit, held),

@@ -1,10 +1,10 @@
 //! Who is next for a unit, by the waiting list, the requests and the year's admissions.
 
-ghost use Rattle.std.specs.Prelude.{◌≡◌, ◌≤◌, true, false, if◌then◌else◌, None, filter};
+ghost use Rattle.std.specs.Prelude.{◌≡◌, ◌≤◌, false, if◌then◌else◌, None, filter};
 ghost use Rattle.rent_table.specs.Table.{limits_on};
 ghost use Rattle.wait_list.specs.Next.{next_candidate};
 ghost use Rattle.wait_list.specs.Target.{wants_extremely_low};
-ghost use Rattle.office_step.specs.Candidates.{asked_of, targets_of, first_mover, movers_of};
+ghost use Rattle.office_step.specs.Candidates.{asked_of, targets_of, in_need, first_mover, movers_of};
 
 use crate::admissions::targets;
 use crate::movers::{Vacancy, first_mover};
@@ -75,10 +75,12 @@ fn by_targets(
     }
 }
 
-/// For an accessible unit, the first mover who needs its features.
+/// The first mover who needs accessible features that the unit has.
+#[tactic(auto, using(crate::proofs::Turn::none_in_need))]
 fn needing_mover(vacancy: &Vacancy) -> Option<u32>
     requires { vacancy.now.unit.now.bedrooms ≤ 5 }
-    ensures { result ≡ (if vacancy.now.unit.now.accessible then first_mover (filter (λ m. m.accessible) (movers_of vacancy.now.plan.now vacancy.now.unit.now vacancy.now.day vacancy.now.requests.now vacancy.now.history.now.households)) else None) }
+    ensures value { result ≡ first_mover (filter (in_need vacancy.now.unit.now) (movers_of vacancy.now.plan.now vacancy.now.unit.now vacancy.now.day vacancy.now.requests.now vacancy.now.history.now.households)) }
+    ensures none { vacancy.now.unit.now.accessible ≡ false → result ≡ None }
 {
     if vacancy.unit.accessible {
         first_mover(vacancy, true)

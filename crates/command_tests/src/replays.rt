@@ -1,6 +1,6 @@
 //! Acts done again over tables in which something is wrong.
 
-use book_replay::{Given, call_of};
+use book_replay::{StoredRows, call_of};
 use book_rows::{Batch, Table, Tables};
 use days_core::Rents;
 use office_step::Fault;
@@ -31,7 +31,7 @@ fn tables(alloc: Global, records: &[Record], lines: &[Line]) -> Result<Tables, F
 /// The first row of the tables that no act made.
 fn stray_of(alloc: Global, records: &[Record], lines: &[Line]) -> Result<Option<Fault>, Fail> {
     let tables = tables(alloc, records, lines)?;
-    Ok(Given::new(&tables).stray_row())
+    Ok(StoredRows::new(&tables).stray_row())
 }
 
 fn fault(table: Table, act: u32) -> Option<Fault> {
@@ -67,7 +67,7 @@ fn a_row_after_a_later_one_is_a_stray(rt: HostRuntime) -> Result<(), Fail> {
 }
 
 /// Where an act's rows, which are of no record, differ from those of the tables, which hold the lines.
-fn difference_of(alloc: Global, given: &Given, lines: &[Line]) -> Result<Option<Fault>, Fail> {
+fn difference_of(alloc: Global, given: &StoredRows, lines: &[Line]) -> Result<Option<Fault>, Fail> {
     let row = act_row(2, 1, 50, body(alloc, "{}")?);
     let rows = Batch {
         act: act_row(2, 1, 50, body(alloc, "{}")?),
@@ -82,7 +82,7 @@ fn lines_are_found_where_they_stand_in_order(rt: HostRuntime) -> Result<(), Fail
     let alloc = rt.alloc();
     let lines = [line(2, 1), line(2, 2), line(3, 1)];
     let tables = tables(alloc, &[], &lines)?;
-    let given = Given::new(&tables);
+    let given = StoredRows::new(&tables);
     for (count, differs) in [
         (1, fault(Table::Lines, 2)),
         (2, None),
@@ -100,7 +100,7 @@ fn lines_are_found_where_they_stand_out_of_order(rt: HostRuntime) -> Result<(), 
     let alloc = rt.alloc();
     let own = [line(2, 1), line(2, 2)];
     let tables = tables(alloc, &[], &[line(2, 1), line(3, 1), line(2, 2)])?;
-    let given = Given::new(&tables);
+    let given = StoredRows::new(&tables);
     for (count, differs) in [(1, fault(Table::Lines, 2)), (2, None)] {
         let found = difference_of(alloc, &given, &own[..count])?;
         assert_eq!(rt; found, differs, "{count} lines");
@@ -112,7 +112,7 @@ fn lines_are_found_where_they_stand_out_of_order(rt: HostRuntime) -> Result<(), 
 fn an_act_differs_before_its_record(rt: HostRuntime) -> Result<(), Fail> {
     let alloc = rt.alloc();
     let tables = tables(alloc, &[certified(1)], &[])?;
-    let given = Given::new(&tables);
+    let given = StoredRows::new(&tables);
     let row = act_row(1, 1, 50, body(alloc, "{}")?);
     let rows = Batch {
         act: act_row(1, 1, 50, body(alloc, "{}")?),

@@ -66,8 +66,11 @@ pub fn unit_taken(about: &Matter, made: &Option<Record>) -> Option<Refusal>
     }
     let made = made.as_ref()?;
     let tenancies = about.register.tenancies();
-    let (household, day) = tenancies.double_use(made.household, &change_by(made))?;
-    Some(Refusal::UnitTaken { household, day })
+    let found = tenancies.double_use(made.household, &change_by(made))?;
+    Some(Refusal::UnitTaken {
+        household: found.household,
+        day: found.day,
+    })
 }
 
 fn may_collide(about: &Matter) -> bool

@@ -1,12 +1,13 @@
 -- What the office does with a call, by what was found of it.
 use Rattle.std.proofs.Common.{subst, ◌≡◌, ◌∙◌, ℕ, ◌+◌, [], ◌∷◌, length, Option, Some, None, Ok, Err, sym, refl}
+use Rattle.std.specs.Option.{option_map_or}
 use Rattle.std.specs.Prelude.{Bool, true, false, find, bytes_eq}
 use Rattle.record_history.specs.declared.records.Record.{Record}
 use Rattle.book_rows.specs.{declared.rows.ActRow.ActRow, declared.rows.Batch.Batch, Book.Book}
 use Rattle.book_replay.specs.Below.command_forms.Commands.{command_in, body_of}
 use Rattle.office_answers.specs.Below.office_step.{declared.call.Call.Call, declared.call.Capacity.Capacity, declared.refusal.Refusal.Refusal, declared.reply.Done.Done, Acts.name_given, Known.Known, Known.known_of, Made.record_of, Made.lines_of, Reply.done_of, Against.refused_by}
 use Rattle.office_answers.specs.Below.office_step.Refusals.{first_of, is_request_of, repeated, request_reused, lines_full}
-use Rattle.office_answers.specs.Below.office_step.Step.{last_act_day, day_after, again, refused, appends, unless_refused, step, act_day, is_fit_call, IsReached}
+use Rattle.office_answers.specs.Below.office_step.Step.{last_act_day, day_after, again, refused, appends, step, act_day, is_fit_call, IsReached}
 use Rattle.office_answers.proofs.Below.office_step.Passed.{first_of-around}
 use Rattle.office_answers.specs.Below.office_step.Valid.{rows_in}
 use Rattle.book_replay.specs.Below.office_laws.AtHand.{NewRequests, RepeatedRequests, ReusedRequests, NextDayStays}
@@ -70,8 +71,8 @@ rows_by known session day call = record {
 
 module _ {capacity : Capacity} {book : Book} {known : Known} {clock day : ℕ} {call : Call} (tried : IsTried capacity book known clock day call) (session : ℕ) where
   by_tests : step book capacity session clock call ≡
-      unless_refused (first_of (refused_by known capacity.acts day call.command
-      ∷ lines_full (length book.lines) (length (lines_of known call.command)) capacity.lines ∷ [])) (rows_by known session day call)
+      option_map_or refused (first_of (refused_by known capacity.acts day call.command
+      ∷ lines_full (length book.lines) (length (lines_of known call.command)) capacity.lines ∷ [])) (appends (rows_by known session day call))
   by_tests = rw (tried.known_is, tried.today, tried.is_new.0, first_of-around, tried.is_new.1) refl
 
   pub refused_for : (r : Refusal) → refused_by known capacity.acts day call.command ≡ Some r → step book capacity session clock call ≡ refused r

@@ -1,12 +1,12 @@
 -- What it comes to that rows are appended.
-use Rattle.office_laws.proofs.Words.{Accepted, subst, common_steps, ◌++◌, ◌≡◌, ◌∙◌, sym, ap, ap₂, refl, ℕ, arith, true, List, [], ◌∷◌, Option, Some, None, ActRow, Batch, Book, body_of, command_in, Call, Capacity, Refusal, known_of, first_of, repeated, tests_of, first_of-around, Passed, passed, last_act_day, day_after, act_day, refusal_of, rows_for, step, appends, unless_refused, unless_repeated, is_fit_call, IsAppended, AppendedIsAccepted}
+use Rattle.office_laws.proofs.Words.{Accepted, subst, common_steps, ◌++◌, ◌≡◌, ◌∙◌, sym, ap, ap₂, refl, ℕ, arith, true, List, [], ◌∷◌, Option, Some, None, ActRow, Batch, Book, body_of, command_in, Call, Capacity, Refusal, known_of, first_of, repeated, tests_of, first_of-around, Passed, passed, last_act_day, day_after, act_day, refusal_of, rows_for, first_step, step, again, refused, appends, done_of, option_map_or, is_fit_call, IsAppended, AppendedIsAccepted}
 
 -- what is appended is neither a repeat nor refused
-pub not_refused : (book : Book) (found : Option ActRow) (refused : Option Refusal) (own rows : Batch) →
-    unless_repeated book found (unless_refused refused own) ≡ appends rows → (found ≡ None) × (refused ≡ None) × (own ≡ rows)
+pub not_refused : (book : Book) (found : Option ActRow) (against : Option Refusal) (own rows : Batch) →
+    option_map_or (λ (row : ActRow). again (done_of book row)) found (option_map_or refused against (appends own)) ≡ appends rows → (found ≡ None) × (against ≡ None) × (own ≡ rows)
 not_refused book None None own rows same = (refl, refl, cc)
 not_refused book None (Some refusal) own rows same = absurd (cc)
-not_refused book (Some row) refused own rows same = absurd (cc)
+not_refused book (Some row) against own rows same = absurd (cc)
 
 none_stand : (first last : Option Refusal) (tests : List (Option Refusal)) → first_of (first ∷ (tests ++ last ∷ [])) ≡ None →
     (first ≡ None) × (first_of tests ≡ None) × (last ≡ None)
@@ -43,8 +43,8 @@ appended_again capacity book session clock call rows fit reads same =
       fit = fit;
       read = ap command_in (sym (ap (λ (r : Batch). r.act.body) parts.2)) ∙ reads;
       same =
-          ap₂ (λ (of_session today : ℕ). unless_repeated book (repeated book.acts call.clerk call.request (body_of call.command))
-          (unless_refused (refusal_of book capacity today call) (rows_for book of_session today call)))
+          ap₂ (λ (of_session today : ℕ). option_map_or (λ (row : ActRow). again (done_of book row)) (repeated book.acts call.clerk call.request (body_of call.command))
+          (first_step book capacity of_session today call))
           (sym (ap (λ (r : Batch). r.act.session) parts.2)) day
           ∙ same;
     }

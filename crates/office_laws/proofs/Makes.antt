@@ -1,5 +1,5 @@
 -- The record of an act names it and a household that is there, or the next; and its lines name it.
-use Rattle.office_laws.proofs.Words.{◌≡◌, ℕ, zero, suc, ◌+◌, ◌<◌, arith, List, [], ◌∷◌, Option, Some, None, length, All, slice_index_or, All-nil, All-append, Record, as_of, Plan, Closing, Line, month_lines, known_before, lines_for, adjustment_lines, closing_lines, placed, Command, Known, own_in, record_of, closing_by, lines_of, option_map_or, made_is_headed, all_earlier, refl, names_given, no_such, Matter, matter_of, are_there, household_there, IsHeaded, of_household, IsOneOf, next_under}
+use Rattle.office_laws.proofs.Words.{◌≡◌, ℕ, zero, suc, ◌+◌, ◌<◌, arith, List, [], ◌∷◌, Option, Some, None, length, All, slice_index_or, All-nil, All-append, Record, Plan, Closing, Line, month_lines, known_as_of, lines_for, adjustment_lines, closing_lines, placed, Command, Known, own_in, record_of, closing_by, lines_of, option_map_or, made_is_headed, all_earlier, refl, names_given, no_such, Matter, matter_of, are_there, household_there, IsHeaded, of_household, IsOneOf, next_under}
 use Rattle.list_laws.proofs.Pieces.{all_pieces}
 use Rattle.voucher_core.proofs.Paid.{each_line, all_placed}
 
@@ -36,17 +36,17 @@ module _ (own : ℕ → List Record) (count : ℕ) (closing : Closing) where
   abbrev Names : Line → Type 0
   Names line = (line.act ≡ closing.act) × (line.month ≡ closing.closed)
 
-  month_names : (before : Option ℕ) (month : ℕ) → All Names (lines_for own count closing before month)
-  month_names before month =
-      all_pieces Names (λ h. month_lines closing h month (known_before before (own h)) (as_of closing.act (own h))) 1 count
-      (λ h low high. each_line Names closing h month (known_before before (own h)) (as_of closing.act (own h)) (λ run. (refl, refl)))
+  month_names : (before now : ℕ → List Record) (month : ℕ) → All Names (lines_for before now count closing month)
+  month_names before now month =
+      all_pieces Names (λ h. month_lines closing h month (before h) (now h)) 1 count
+      (λ h low high. each_line Names closing h month (before h) (now h) (λ run. (refl, refl)))
 
   closing_names : All Names (placed 1 (closing_lines own count closing))
   closing_names =
       all_placed Names (λ line place is. is) 1 (closing_lines own count closing)
-      (All-append Names (adjustment_lines own count closing) (lines_for own count closing None closing.closed)
-      (all_earlier own count closing Names (λ month low high. month_names (Some closing.last_close) month))
-      (month_names None closing.closed))
+      (All-append Names (adjustment_lines own count closing) (lines_for (λ h. []) (known_as_of own closing.act) count closing closing.closed)
+      (all_earlier own count closing Names (λ month low high. month_names (known_as_of own closing.last_close) (known_as_of own closing.act) month))
+      (month_names (λ h. []) (known_as_of own closing.act) closing.closed))
 
 pub lines_name_month : (known : Known) (month : ℕ) (plan : Plan) → All (λ line. (line.act ≡ known.count + 1) × (line.month ≡ month)) (lines_from known month plan)
 lines_name_month known month plan =

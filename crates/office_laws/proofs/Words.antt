@@ -30,7 +30,7 @@ pub use Rattle.office_step.specs.Made.{record_of, record_in, last_close, closing
 pub use Rattle.office_step.specs.Matter.{Matter, matter_of, Basis, from_facts, carried, nothing, certifies}
 pub use Rattle.office_step.specs.Refusals.{next_to_close, first_of, repeated, request_reused, refused_if, refused_unless, household_rent_due, first_household, is_request_of}
 pub use Rattle.office_step.specs.Reply.{acts_up_to, made_by, done_of}
-pub use Rattle.office_step.specs.Step.{reached_empty, reached_more, IsReached, IsAppended, last_act_day, day_after, act_day, refusal_of, rows_for, step, appends, unless_refused, unless_repeated, is_fit_call, Outcome, again}
+pub use Rattle.office_step.specs.Step.{reached_empty, reached_more, IsReached, IsAppended, last_act_day, day_after, act_day, refusal_of, rows_for, first_step, step, appends, is_fit_call, Outcome, again, refused}
 pub use Rattle.office_step.specs.declared.{call.Call.Call, call.Capacity.Capacity, heading.Heading.Heading, known.Application.Application, known.Closed.Closed, moving.MoveIn.MoveIn, refusal.Refusal.Refusal, reply.Made.Made, reply.Done.Done}
 pub use Rattle.record_history.proofs.Kept.{records_cases, records_past, numbered_push}
 pub use Rattle.record_history.specs.{Held.records_of, Held.with_record, Held.AreNumbered, declared.records.Kind.Kind, declared.records.Record.Record, Records.is_withdrawal, Records.is_live, Records.live_records, Records.as_of, Records.latest, Records.newest_number, Records.comes_before, Records.in_force, Records.later}
@@ -41,6 +41,6 @@ pub use Rattle.tenancy_rules.proofs.Numbers.{rise, none_above}
 pub use Rattle.tenancy_rules.specs.{Changed.without, Changed.changed_records, Changed.NumbersRise, Occupancy.occupied_unit_on, Occupancy.unit_kept, Order.first_out_of_order, Order.may_begin, Order.is_in_order, Order.is_transfer, Order.is_move_out, Order.record_before}
 unfoldable pub use Rattle.tenancy_rules.specs.Order.{is_out_of_order}
 pub use Rattle.voucher_core.proofs.Settled.{none_settled, closing_settles, pays_no_other, settled_stays, all_earlier, known_stays}
-pub use Rattle.voucher_core.specs.{Lines.closing_lines, Lines.placed, Lines.paid, Lines.month_lines, Lines.known_before, Lines.lines_for, Lines.adjustment_lines, declared.closing.Closing.Closing, declared.line.Line.Line}
+pub use Rattle.voucher_core.specs.{Lines.closing_lines, Lines.placed, Lines.paid, Lines.month_lines, Lines.known_by as known_as_of, Lines.lines_for, Lines.adjustment_lines, declared.closing.Closing.Closing, declared.line.Line.Line}
 pub use Rattle.wait_list.specs.{declared.applicant.Applicant.Applicant, declared.ask.Candidate.Candidate, Waiting.is_listed}
 pub use Rattle.office_laws.specs.{Accepted.Accepted, Accepted.AppendedIsAccepted, Tenancy.IsInOrder, Tenancy.HouseholdsAreInOrder, AtHand.made_now, AtHand.UnitReplies, Closing.KnownAsOfStays, Closing.HasItsRents, Closing.RentsAreDoneAtClosings, History.later_same, History.later_more, History.Past, History.CameByActs, History.RowsCameByActs, History.IsLater, Kept.IsOneOf, Kept.AreActs, Kept.NamesOnlyThose, Kept.IsOfOffice, Kept.Kept, Kept.BooksAreKept, Kept.BatchesFollow}

@@ -190,7 +190,7 @@ may_collide about = is_some about.unit || (is_some about.target || about.begins)
 
 -- the other household that would have the unit, and the least day on which it would
 abbrev pub taken : List (List Record) → ℕ → Change → Option Refusal
-taken households household change = option_map (λ found. Refusal.UnitTaken found.0 found.1) (first_double_use households household change)
+taken households household change = option_map (λ found. Refusal.UnitTaken found.household found.day) (first_double_use households household change)
 
 abbrev pub unit_taken : Matter → Option Refusal
 unit_taken about =

@@ -28,17 +28,28 @@ would_move plan unit r = not (ends_assistance r.kind) && (not (r.unit == unit.nu
 abbrev pub request_in : List (Option Request) → ℕ → Option Request
 request_in requests household = if household == 0 then None else slice_index_or requests (household - 1) None
 
+-- a household with these records would move, by the one that is in force on the day
+abbrev pub would_move_on : Plan → UnitRow → ℕ → List Record → Bool
+would_move_on plan unit day own = option_map_or (would_move plan unit) (in_force own day) false
+
+-- and it is a mover if its request counts too
+abbrev pub mover_by : Plan → UnitRow → ℕ → List Record → ℕ → Request → Option Mover
+mover_by plan unit day own household request =
+    if counts own request && would_move_on plan unit day own
+    then Some (record { household = household; act = request.act; accessible = request.accessible }) else None
+
 -- the household as a mover, where it is one
 abbrev pub mover_of : Plan → UnitRow → ℕ → List (Option Request) → List (List Record) → ℕ → Option Mover
 mover_of plan unit day requests households household =
-    option_and_then (λ request.
-    if counts (records_of households household) request && option_map_or (would_move plan unit) (in_force (records_of households household) day) false
-    then Some (record { household = household; act = request.act; accessible = request.accessible }) else None)
-    (request_in requests household)
+    option_and_then (mover_by plan unit day (records_of households household) household) (request_in requests household)
 
 -- all movers
 abbrev pub movers_of : Plan → UnitRow → ℕ → List (Option Request) → List (List Record) → List Mover
 movers_of plan unit day requests households = filter_map (mover_of plan unit day requests households) (range_with_len 1 (length households))
+
+-- the mover needs accessible features, and the unit has them
+abbrev pub in_need : UnitRow → Mover → Bool
+in_need unit m = unit.accessible && m.accessible
 
 -- the household whose request came first
 abbrev pub first_mover : List Mover → Option ℕ
@@ -76,6 +87,6 @@ asked_of plan unit day limits requests households = record {
   plan = plan;
   limits = limits;
   wanted = wants_extremely_low (targets_of plan day households);
-  needing = if unit.accessible then first_mover (filter (λ m. m.accessible) (movers_of plan unit day requests households)) else None;
-  other = first_mover (filter (λ m. not (unit.accessible && m.accessible)) (movers_of plan unit day requests households));
+  needing = first_mover (filter (in_need unit) (movers_of plan unit day requests households));
+  other = first_mover (filter (λ m. not (in_need unit m)) (movers_of plan unit day requests households));
 }

@@ -1,5 +1,6 @@
 -- What the office of one clerk does with a call: a repeat, the first refusal that stands, or the rows that it appends.
 use Rattle.std.specs.Prelude.{ℕ, ◌+◌, ◌++◌, ◌≡◌, ◌&&◌, nat_le, max, min, Bool, true, Option, Some, None, List, [], ◌∷◌, length}
+use Rattle.std.specs.Option.{option_map_or}
 use Rattle.book_rows.specs.{declared.rows.ActRow.ActRow, declared.rows.Batch.Batch, Fit.is_within, Fit.is_fit, Book.Book, Book.empty_book, Book.appended}
 use Rattle.command_forms.specs.Commands.{command_in, body_of}
 use Rattle.days_core.specs.OfficeDays.{last_office_day}
@@ -51,19 +52,15 @@ pub data Outcome : Type 0 where
   refused : Refusal → Outcome
   appends : Batch → Outcome
 
-abbrev pub unless_refused : Option Refusal → Batch → Outcome
-unless_refused (Some r) rows = refused r
-unless_refused None rows = appends rows
-
-abbrev pub unless_repeated : Book → Option ActRow → Outcome → Outcome
-unless_repeated book (Some row) outcome = again (done_of book row)
-unless_repeated book None outcome = outcome
+-- what it does on that day with a call that is no repeat: it refuses where a refusal stands
+abbrev pub first_step : Book → Capacity → ℕ → ℕ → Call → Outcome
+first_step book capacity session today call = option_map_or refused (refusal_of book capacity today call) (appends (rows_for book session today call))
 
 -- what the office does with the call in the session, while the clock shows the day
 abbrev pub step : Book → Capacity → ℕ → ℕ → Call → Outcome
 step book capacity session clock call =
-    unless_repeated book (repeated book.acts call.clerk call.request (body_of call.command))
-    (unless_refused (refusal_of book capacity (act_day book.acts clock) call) (rows_for book session (act_day book.acts clock) call))
+    option_map_or (λ row. again (done_of book row)) (repeated book.acts call.clerk call.request (body_of call.command))
+    (first_step book capacity session (act_day book.acts clock) call)
 
 -- ---- what an office can hold
 

@@ -1,5 +1,5 @@
 -- Which tables are those of an office: act by act, the rows that it appends. And where other tables first go wrong.
-use Rattle.std.specs.Prelude.{ℕ, ◌≡◌, ◌==◌, ◌&&◌, not, nat_le, if◌then◌else◌, Option, Some, None, option_and_then, option_to_list, List, [], ◌∷◌, length, map, filter}
+use Rattle.std.specs.Prelude.{ℕ, ◌≡◌, ◌==◌, ◌&&◌, not, nat_le, if◌then◌else◌, Bool, Option, Some, None, option_and_then, option_to_list, List, [], ◌∷◌, length, map, filter}
 use Rattle.std.specs.{Option.option_map, Option.option_map_or, Option.option_or, Cmp.Lexicographic.pointwise}
 use Rattle.record_history.specs.declared.records.Record.{Record}
 use Rattle.voucher_core.specs.declared.line.Line.{Line}
@@ -51,10 +51,14 @@ difference tables row (Some rows) =
 
 -- ---- rows that no act made
 
--- the first of these acts of rows that isn't one of so many, or that stands after a later one
+-- the act of a row is one of so many, and no earlier one than that of the row before it
+abbrev pub is_in_place : ℕ → ℕ → ℕ → Bool
+is_in_place count last act = nat_le 1 act && (nat_le last act && nat_le act count)
+
+-- the first of these acts of rows that isn't in its place
 abbrev pub stray : ℕ → ℕ → List ℕ → Option ℕ
 stray count last [] = None
-stray count last (act ∷ acts) = if nat_le 1 act && (nat_le last act && nat_le act count) then stray count act acts else Some act
+stray count last (act ∷ acts) = if is_in_place count last act then stray count act acts else Some act
 
 -- the first stray record, else the first stray line
 abbrev pub stray_row : Book → Option Fault
@@ -72,7 +76,8 @@ with_rows book rows = option_map_or (appended book) rows book
 abbrev pub fault_from : Capacity → Book → Book → List ActRow → Option Fault
 fault_from capacity tables book [] = stray_row tables
 fault_from capacity tables book (row ∷ rows) =
-    option_or (difference tables row (replayed capacity book row)) (fault_from capacity tables (with_rows book (replayed capacity book row)) rows)
+    let own = replayed capacity book row in
+    option_or (difference tables row own) (fault_from capacity tables (with_rows book own) rows)
 
 -- the first fault of tables
 abbrev pub first_fault : Capacity → Book → Option Fault

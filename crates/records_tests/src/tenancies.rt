@@ -223,7 +223,7 @@ fn use_of(
         household,
         &change(rt, history, household, drop, add),
     ) {
-        Some((other, day)) => (other, day.number()),
+        Some(found) => (found.household, found.day.number()),
         None => (0, 0),
     }
 }

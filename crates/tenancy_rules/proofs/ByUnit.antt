@@ -1,5 +1,5 @@
 -- The first double use is found among the households that ever had a record in a unit.
-use Rattle.tenancy_rules.proofs.Words.{◌≡◌, ◌∙◌, sym, ap, refl, subst, ℕ, ◌<◌, ◌≤◌, ◌+◌, Bool, true, false, List, [], ◌∷◌, ◌++◌, length, Option, Some, None, arith, ◌==◌, not, nat_lt, nat_le, filter, fold, option_and_then, All, Contains, IfSome, IsSomeAnd, and_parts, nat_tests, common_steps, All-contains, All-contains_itself, All-filter, latest-among, IsFirst, Record, is_live, live_records, records_of, comes_before, latest, Change, changed_records, without, listed, unit_kept, occupied_unit_on, have_one_unit_on, is_rival_on}
+use Rattle.tenancy_rules.proofs.Words.{◌≡◌, ◌∙◌, sym, ap, refl, subst, ℕ, ◌<◌, ◌≤◌, ◌+◌, Bool, true, false, List, [], ◌∷◌, ◌++◌, length, Option, Some, None, arith, ◌==◌, not, nat_lt, nat_le, filter, fold, option_and_then, All, Contains, IfSome, IsSomeAnd, and_parts, nat_tests, common_steps, All-contains, All-contains_itself, All-filter, latest-among, IsFirst, Record, is_live, live_records, records_of, comes_before, latest, Change, changed_records, without, listed, unit_kept, occupied_unit_on, have_one_unit_on, is_rival_on, DoubleUse, use_on}
 use Rattle.std.proofs.Common.{◌⊎◌, inl, inr, eq-eqb, ◌-◌, take, drop, append-nil}
 use Rattle.std.specs.List.Sorted.{IsPartitionPoint}
 use Rattle.std.proofs.lemmas.Bool.{cases_lt}
@@ -21,52 +21,52 @@ use Rattle.tenancy_rules.proofs.{Rivals.first_before-is, UseLaws.both_have, Firs
 
 module _ (is_rival : ℕ → ℕ → Bool) (end : ℕ) where
   -- a double use is found, and one before the end
-  abbrev pub IsFound : Option (ℕ × ℕ) → Type 0
-  IsFound found = IfSome found (λ rivalry. (rivalry.1 < end) × (is_rival rivalry.0 rivalry.1 ≡ true))
+  abbrev pub IsFound : Option DoubleUse → Type 0
+  IsFound found = IfSome found (λ double. (double.day < end) × (is_rival double.household double.day ≡ true))
 
   -- no double use with the household comes before the one that is found
-  abbrev pub IsPassed : Option (ℕ × ℕ) → ℕ → Type 0
+  abbrev pub IsPassed : Option DoubleUse → ℕ → Type 0
   IsPassed found other =
-      (day : ℕ) → day < end → is_rival other day ≡ true → IsSomeAnd found (λ rivalry. (rivalry.1 < day) ⊎ ((rivalry.1 ≡ day) × (rivalry.0 ≤ other)))
+      (day : ℕ) → day < end → is_rival other day ≡ true → IsSomeAnd found (λ double. (double.day < day) ⊎ ((double.day ≡ day) × (double.household ≤ other)))
 
   -- by the first day on which the household is a rival
-  step_found : (found : Option (ℕ × ℕ)) (used : Use) (sooner : Option ℕ) → IsFirst (is_rival used.household) 0 (end_beside found used.household end) sooner →
-      IsFound found → IsFound (option_map_or (λ day. Some (used.household, day)) sooner found)
+  step_found : (found : Option DoubleUse) (used : Use) (sooner : Option ℕ) → IsFirst (is_rival used.household) 0 (end_beside found used.household end) sooner →
+      IsFound found → IsFound (option_map_or (λ day. Some (use_on day used.household)) sooner found)
   step_found found used sooner first is = grind (arith, nat_tests, common_steps)
 
-  step_passed : (found : Option (ℕ × ℕ)) (used : Use) (sooner : Option ℕ) → IsFirst (is_rival used.household) 0 (end_beside found used.household end) sooner →
-      IsFound found → IsPassed (option_map_or (λ day. Some (used.household, day)) sooner found) used.household
+  step_passed : (found : Option DoubleUse) (used : Use) (sooner : Option ℕ) → IsFirst (is_rival used.household) 0 (end_beside found used.household end) sooner →
+      IsFound found → IsPassed (option_map_or (λ day. Some (use_on day used.household)) sooner found) used.household
   step_passed found used sooner first is day before rival = grind (arith, nat_tests, common_steps)
 
-  step_still : (found : Option (ℕ × ℕ)) (used : Use) (sooner : Option ℕ) (other : ℕ) → IsFirst (is_rival used.household) 0 (end_beside found used.household end) sooner →
-      IsPassed found other → IsPassed (option_map_or (λ day. Some (used.household, day)) sooner found) other
+  step_still : (found : Option DoubleUse) (used : Use) (sooner : Option ℕ) (other : ℕ) → IsFirst (is_rival used.household) 0 (end_beside found used.household end) sooner →
+      IsPassed found other → IsPassed (option_map_or (λ day. Some (use_on day used.household)) sooner found) other
   step_still found used sooner other first passed day before rival = (let was = passed day before rival in grind (arith, nat_tests, common_steps))
 
   -- a household that is passed is no use to look at again
-  step_idle : (found : Option (ℕ × ℕ)) (used : Use) (sooner : Option ℕ) → IsFirst (is_rival used.household) 0 (end_beside found used.household end) sooner →
-      IsFound found → IsPassed found used.household → option_map_or (λ day. Some (used.household, day)) sooner found ≡ found
+  step_idle : (found : Option DoubleUse) (used : Use) (sooner : Option ℕ) → IsFirst (is_rival used.household) 0 (end_beside found used.household end) sooner →
+      IsFound found → IsPassed found used.household → option_map_or (λ day. Some (use_on day used.household)) sooner found ≡ found
   step_idle found used None first is passed = refl
   step_idle None used (Some day) first is passed = (let was = passed day in grind (arith, nat_tests, common_steps))
-  step_idle (Some (other, any)) used (Some day) first is passed = (let was = passed day in grind (arith, nat_tests, common_steps))
+  step_idle (Some double) used (Some day) first is passed = (let was = passed day in grind (arith, nat_tests, common_steps))
 
-  pub uses_idle : (found : Option (ℕ × ℕ)) (uses : List Use) → IsFound found → All (λ used. IsPassed found used.household) uses →
+  pub uses_idle : (found : Option DoubleUse) (uses : List Use) → IsFound found → All (λ used. IsPassed found used.household) uses →
       fold (sooner_use is_rival end) found uses ≡ found
   uses_idle found [] is passed = refl
   uses_idle found (used ∷ uses) is passed =
       rw (step_idle found used _ (first_before-is _ (is_rival used.household)) is (All-head (λ used. IsPassed found used.household) used uses passed))
       (uses_idle found uses is (All-tail (λ used. IsPassed found used.household) used uses passed))
 
-  uses_found : (found : Option (ℕ × ℕ)) (uses : List Use) → IsFound found → IsFound (fold (sooner_use is_rival end) found uses)
+  uses_found : (found : Option DoubleUse) (uses : List Use) → IsFound found → IsFound (fold (sooner_use is_rival end) found uses)
   uses_found found [] is = is
   uses_found found (used ∷ uses) is =
       uses_found (sooner_use is_rival end found used) uses (step_found found used _ (first_before-is _ (is_rival used.household)) is)
 
-  uses_still : (found : Option (ℕ × ℕ)) (uses : List Use) (other : ℕ) → IsPassed found other → IsPassed (fold (sooner_use is_rival end) found uses) other
+  uses_still : (found : Option DoubleUse) (uses : List Use) (other : ℕ) → IsPassed found other → IsPassed (fold (sooner_use is_rival end) found uses) other
   uses_still found [] other passed = passed
   uses_still found (used ∷ uses) other passed =
       uses_still (sooner_use is_rival end found used) uses other (step_still found used _ other (first_before-is _ (is_rival used.household)) passed)
 
-  pub uses_passed : (found : Option (ℕ × ℕ)) (uses : List Use) → IsFound found →
+  pub uses_passed : (found : Option DoubleUse) (uses : List Use) → IsFound found →
       All (λ used. IsPassed (fold (sooner_use is_rival end) found uses) used.household) uses
   uses_passed found [] is = All-nil (λ used. IsPassed found used.household)
   uses_passed found (used ∷ uses) is =
@@ -78,19 +78,19 @@ module _ (is_rival : ℕ → ℕ → Bool) (end : ℕ) where
 
   module _ (uses : List Use) where
     -- all households that had a record in the unit of that one are passed
-    abbrev pub ArePassed : Option (ℕ × ℕ) → Record → Type 0
+    abbrev pub ArePassed : Option DoubleUse → Record → Type 0
     ArePassed found r = All (λ used. IsPassed found used.household) (of_unit uses r.unit)
 
-    pub records_found : (found : Option (ℕ × ℕ)) (records : List Record) → IsFound found → IsFound (fold (sooner_uses is_rival end uses) found records)
+    pub records_found : (found : Option DoubleUse) (records : List Record) → IsFound found → IsFound (fold (sooner_uses is_rival end uses) found records)
     records_found found [] is = is
     records_found found (r ∷ records) is = records_found (sooner_uses is_rival end uses found r) records (uses_found found (of_unit uses r.unit) is)
 
-    records_still : (found : Option (ℕ × ℕ)) (records : List Record) (other : ℕ) → IsPassed found other → IsPassed (fold (sooner_uses is_rival end uses) found records) other
+    records_still : (found : Option DoubleUse) (records : List Record) (other : ℕ) → IsPassed found other → IsPassed (fold (sooner_uses is_rival end uses) found records) other
     records_still found [] other passed = passed
     records_still found (r ∷ records) other passed =
         records_still (sooner_uses is_rival end uses found r) records other (uses_still found (of_unit uses r.unit) other passed)
 
-    records_passed : (found : Option (ℕ × ℕ)) (records : List Record) → IsFound found →
+    records_passed : (found : Option DoubleUse) (records : List Record) → IsFound found →
         All (ArePassed (fold (sooner_uses is_rival end uses) found records)) records
     records_passed found [] is = All-nil (ArePassed found)
     records_passed found (r ∷ records) is =
@@ -100,7 +100,7 @@ module _ (is_rival : ℕ → ℕ → Bool) (end : ℕ) where
         (records_passed next records (uses_found found (of_unit uses r.unit) is))
 
     -- of records one after another, those of a unit whose uses were gone through last are passed over
-    module _ (records : List Record) (k : ℕ) (r : Record) (within : k < length records) (at : get_or records k r ≡ r) (first next : Option (ℕ × ℕ))
+    module _ (records : List Record) (k : ℕ) (r : Record) (within : k < length records) (at : get_or records k r ≡ r) (first next : Option DoubleUse)
         (so_far : first ≡ fold (sooner_uses is_rival end uses) None (take k records)) (done done_next : Option ℕ) where
       abbrev IsDone : Type 0
       IsDone =
@@ -144,10 +144,10 @@ module _ (households : List (List Record)) (household : ℕ) (change : Change) (
     abbrev rival : ℕ → ℕ → Bool
     rival = is_rival_on households household change
 
-    abbrev with_added : Option (ℕ × ℕ) → Option (ℕ × ℕ)
+    abbrev with_added : Option DoubleUse → Option DoubleUse
     with_added found = fold (sooner_uses rival 80354 uses) found (listed change.add)
 
-    abbrev all_found : Option (ℕ × ℕ)
+    abbrev all_found : Option DoubleUse
     all_found = with_added (fold (sooner_uses rival 80354 uses) None own)
 
     -- it is told that the other had a record in the unit
@@ -162,7 +162,7 @@ module _ (households : List (List Record)) (household : ℕ) (change : Change) (
         Contains-filter (λ (used : Use). used.unit == unit) uses (record { unit = unit; household = other }) use_there (eq-eqb unit unit refl)
 
     -- so no double use is passed over
-    none_before : (other day : ℕ) → IsDoubleUse households household change other day → IsPassed rival 80354 all_found other
+    none_before : (other day : ℕ) → IsDoubleUse households household change (use_on day other) → IsPassed rival 80354 all_found other
     none_before other day double =
         let by = occupied_by (changed_records (records_of households household) change) day double.unit double.own in
         let there = told_of other double.unit day double.others in
@@ -208,16 +208,16 @@ module _ (households : List (List Record)) (household : ℕ) (change : Change) (
     found_by_units =
         by_found all_found refl (records_found rival 80354 uses (fold (sooner_uses rival 80354 uses) None own) (listed change.add) (records_found rival 80354 uses None own tt))
       where
-        by_found : (found : Option (ℕ × ℕ)) → all_found ≡ found → IsFound rival 80354 all_found → all_found ≡ first_double_use households household change
+        by_found : (found : Option DoubleUse) → all_found ≡ found → IsFound rival 80354 all_found → all_found ≡ first_double_use households household change
         by_found None is found =
-            is ∙ sym ((no_double_use households household change).1 (λ other day double.
-            rw is at (none_before other day double day (let by = double.by in omega arith) (rival_is households household change other day double))))
-        by_found (Some (other, day)) is found =
-            let here : (day < 80354) × (rival other day ≡ true) = rw is at found in
-            let range = rival_there other day here.1 in
-            is ∙ sym ((double_use_is_first households household change other day).1 (
-              double_is households household change other day range.0 range.1 here.0 here.1,
-              λ another any double. rw is at (none_before another any double any (let by = double.by in omega arith) (rival_is households household change another any double)),
+            is ∙ sym ((no_double_use households household change).1 (λ any double.
+            rw is at (none_before any.household any.day double any.day (let by = double.by in omega arith) (rival_is households household change any.household any.day double))))
+        by_found (Some first) is found =
+            let here : (first.day < 80354) × (rival first.household first.day ≡ true) = rw is at found in
+            let range = rival_there first.household first.day here.1 in
+            is ∙ sym ((double_use_is_first households household change first).1 (
+              double_is households household change first.household first.day range.0 range.1 here.0 here.1,
+              λ any double. rw is at (none_before any.household any.day double any.day (let by = double.by in omega arith) (rival_is households household change any.household any.day double)),
             ))
 
 -- ---- the uses of a unit
@@ -280,17 +280,17 @@ between-is uses unit first end within order from above =
 module _ (households : List (List Record)) (household : ℕ) (change : Change) (uses : List Use) (told : TellUses households uses)
     (own : List Record) (all : All (Contains own) (live_records (records_of households household)))
   where
-    abbrev by : Option (ℕ × ℕ) → List Record → Option (ℕ × ℕ)
+    abbrev by : Option DoubleUse → List Record → Option DoubleUse
     by = fold (sooner_uses (is_rival_on households household change) 80354 uses)
 
-    pub with_one : (added : Record) → change.add ≡ Some added → (of : List Use) (first found : Option (ℕ × ℕ)) → of ≡ of_unit uses added.unit →
+    pub with_one : (added : Record) → change.add ≡ Some added → (of : List Use) (first found : Option DoubleUse) → of ≡ of_unit uses added.unit →
         first ≡ by None own → found ≡ fold (sooner_use (is_rival_on households household change) 80354) first of →
         found ≡ first_double_use households household change
     with_one added is of first found of_is first_is found_is =
         let one : by (by None own) (added ∷ []) ≡ by (by None own) (listed change.add) = rw is refl in
         found_is ∙ rw (of_is, first_is) one ∙ found_by_units households household change uses told own all
 
-    pub with_none : change.add ≡ None → (first : Option (ℕ × ℕ)) → first ≡ by None own → first ≡ first_double_use households household change
+    pub with_none : change.add ≡ None → (first : Option DoubleUse) → first ≡ by None own → first ≡ first_double_use households household change
     with_none is first first_is =
         let none : by None own ≡ by (by None own) (listed change.add) = rw is refl in
         first_is ∙ none ∙ found_by_units households household change uses told own all

@@ -1,5 +1,5 @@
 -- The unit of a household on a day, and the first double use, in plain facts.
-use Rattle.tenancy_rules.proofs.Words.{◌≡◌, ◌≢◌, ◌∙◌, sym, ap, refl, ℕ, ◌<◌, ◌≤◌, Bool, true, false, List, length, Option, Some, None, arith, ◌==◌, not, nat_le, filter, is_some, option_and_then, Contains, IsSomeAnd, and_parts, false≢true, false_from_ne_true, eqb-false, ne_eqb, not-true, All-contains, latest-is, pairs_order, IsFirst, first-is, Record, Kind, comes_before, latest, live_records, records_of, Change, changed_records, NumbersRise, is_move_out, unit_kept, occupied_unit_on, have_one_unit_on, is_rival_on, first_rival_on, first_rivalry, common_steps}
+use Rattle.tenancy_rules.proofs.Words.{◌≡◌, ◌≢◌, ◌∙◌, sym, ap, refl, ℕ, ◌<◌, ◌≤◌, Bool, true, false, List, length, Option, Some, None, arith, ◌==◌, not, nat_le, filter, is_some, option_and_then, Contains, IsSomeAnd, and_parts, false≢true, false_from_ne_true, eqb-false, ne_eqb, not-true, All-contains, latest-is, pairs_order, IsFirst, first-is, Record, Kind, comes_before, latest, live_records, records_of, Change, changed_records, NumbersRise, is_move_out, unit_kept, occupied_unit_on, have_one_unit_on, is_rival_on, first_rival_on, first_rivalry, DoubleUse, use_on, common_steps}
 use Rattle.std.proofs.Common.{◌⊎◌, inl, inr}
 use Rattle.std.proofs.lemmas.Bool.{and_from, leb-true}
 use Rattle.std.proofs.Common.{le-leb, eq-eqb}
@@ -85,18 +85,18 @@ occupancy_is_plain records day rise = occupied_plain records day rise
 module _ (is_rival : ℕ → ℕ → Bool) (count end : ℕ) where
   module _ (rival_on : ℕ → Option ℕ) (rivals : (day : ℕ) → IsFirst (λ other. is_rival other day) 1 count (rival_on day)) where
     -- no rival of the day is less than the one that is found, and none is on an earlier day
-    least_among : (found : Option ℕ) → IsFirst (λ day. is_some (rival_on day)) 0 end found → (other day another any : ℕ) → rivalry rival_on found ≡ Some (other, day) →
+    least_among : (found : Option ℕ) → IsFirst (λ day. is_some (rival_on day)) 0 end found → (other day another any : ℕ) → rivalry rival_on found ≡ Some (use_on day other) →
         1 ≤ another → another ≤ count → any < end → is_rival another any ≡ true → (day < any) ⊎ ((day ≡ any) × (other ≤ another))
     least_among found first other day another any some one most before is = grind (arith, common_steps, rivals any)
 
     -- it is one of the households
-    among_households : (found : Option ℕ) → (other day : ℕ) → rivalry rival_on found ≡ Some (other, day) → (1 ≤ other) × (other ≤ count)
+    among_households : (found : Option ℕ) → (other day : ℕ) → rivalry rival_on found ≡ Some (use_on day other) → (1 ≤ other) × (other ≤ count)
     among_households found other day some = grind (arith, common_steps, rivals day)
 
-  rival_in_range : (other day : ℕ) → first_rivalry is_rival count end ≡ Some (other, day) → (1 ≤ other) × (other ≤ count)
+  rival_in_range : (other day : ℕ) → first_rivalry is_rival count end ≡ Some (use_on day other) → (1 ≤ other) × (other ≤ count)
   rival_in_range = among_households (first_rival_on is_rival count) (λ day. first-is (λ other. is_rival other day) 1 count) _
 
-  rival_least : (other day another any : ℕ) → first_rivalry is_rival count end ≡ Some (other, day) →
+  rival_least : (other day another any : ℕ) → first_rivalry is_rival count end ≡ Some (use_on day other) →
       1 ≤ another → another ≤ count → any < end → is_rival another any ≡ true → (day < any) ⊎ ((day ≡ any) × (other ≤ another))
   rival_least = least_among (first_rival_on is_rival count) (λ day. first-is (λ other. is_rival other day) 1 count) _ (first_before-is end _)
 
@@ -104,7 +104,7 @@ module _ (households : List (List Record)) (household : ℕ) (change : Change) w
   abbrev own : List Record
   own = changed_records (records_of households household) change
 
-  pub rival_is : (other day : ℕ) → IsDoubleUse households household change other day → is_rival_on households household change other day ≡ true
+  pub rival_is : (other day : ℕ) → IsDoubleUse households household change (use_on day other) → is_rival_on households household change other day ≡ true
   unfolding is_rival_on
   rival_is other day double =
       and_from (not (other == household)) (have_one_unit_on own (live_records (records_of households other)) day)
@@ -112,7 +112,7 @@ module _ (households : List (List Record)) (household : ℕ) (change : Change) w
       (rw (double.own, double.others) (eq-eqb double.unit double.unit refl))
 
   pub double_is : (other day : ℕ) → 1 ≤ other → other ≤ length households → day < 80354 → is_rival_on households household change other day ≡ true →
-      IsDoubleUse households household change other day
+      IsDoubleUse households household change (use_on day other)
   unfolding is_rival_on
   double_is other day least most by is =
       let parts = and_parts (not (other == household)) (have_one_unit_on own (live_records (records_of households other)) day) is in
@@ -130,49 +130,52 @@ module _ (households : List (List Record)) (household : ℕ) (change : Change) w
   abbrev is_rival : ℕ → ℕ → Bool
   is_rival = is_rival_on households household change
 
-  found_is : (other day : ℕ) → first_double_use households household change ≡ Some (other, day) → IsDoubleUse households household change other day
+  found_is : (other day : ℕ) → first_double_use households household change ≡ Some (use_on day other) → IsDoubleUse households household change (use_on day other)
   found_is other day some =
       let found = rival_found is_rival (length households) 80354 other day some in
       let range = rival_in_range is_rival (length households) 80354 other day some in
       double_is other day range.0 range.1 found.0 found.1
 
-  found_least : (other day : ℕ) → first_double_use households household change ≡ Some (other, day) →
-      (another any : ℕ) → IsDoubleUse households household change another any → (day < any) ⊎ ((day ≡ any) × (other ≤ another))
+  found_least : (other day : ℕ) → first_double_use households household change ≡ Some (use_on day other) →
+      (another any : ℕ) → IsDoubleUse households household change (use_on any another) → (day < any) ⊎ ((day ≡ any) × (other ≤ another))
   found_least other day some another any double =
       rival_least is_rival (length households) 80354 other day another any some double.least double.most (let by = double.by in omega arith) (rival_is another any double)
 
-  none_is : first_double_use households household change ≡ None → (other day : ℕ) → ¬ IsDoubleUse households household change other day
+  none_is : first_double_use households household change ≡ None → (other day : ℕ) → ¬ IsDoubleUse households household change (use_on day other)
   none_is none other day double =
       false≢true
       (sym (none_found is_rival (length households) 80354 none other day double.least double.most (let by = double.by in omega arith))
       ∙ rival_is other day double)
 
-  by_found : (P : Option (ℕ × ℕ) → Type 0) → (first_double_use households household change ≡ None → P None) →
-      ((o d : ℕ) → first_double_use households household change ≡ Some (o, d) → P (Some (o, d))) → P (first_double_use households household change)
+  by_found : (P : Option DoubleUse → Type 0) → (first_double_use households household change ≡ None → P None) →
+      ((o d : ℕ) → first_double_use households household change ≡ Some (use_on d o) → P (Some (use_on d o))) → P (first_double_use households household change)
   by_found P of_none of_some = by (first_double_use households household change) refl
     where
-      by : (found : Option (ℕ × ℕ)) → first_double_use households household change ≡ found → P found
+      by : (found : Option DoubleUse) → first_double_use households household change ≡ found → P found
       by None is = of_none is
-      by (Some (o, d)) is = of_some o d is
+      by (Some double) is = of_some double.household double.day is
 
-same_pair : (o d other day : ℕ) → (d < day) ⊎ ((d ≡ day) × (o ≤ other)) → (day < d) ⊎ ((day ≡ d) × (other ≤ o)) → ◌≡◌ {A = Option (ℕ × ℕ)} (Some (o, d)) (Some (other, day))
+same_pair : (o d other day : ℕ) → (d < day) ⊎ ((d ≡ day) × (o ≤ other)) → (day < d) ⊎ ((day ≡ d) × (other ≤ o)) → ◌≡◌ {A = Option DoubleUse} (Some (use_on d o)) (Some (use_on day other))
 same_pair o d other day one two =
     let days : d ≡ day = omega (arith, one, two) in
     let households : o ≡ other = omega (arith, one, two) in
     cc
 
 pub double_use_is_first : DoubleUseIsFirst
-double_use_is_first households household change other day = (
-  λ some. (found_is households household change other day some, found_least households household change other day some),
-  λ (double, least). by_found households household change (λ found. found ≡ Some (other, day))
-      (λ none. absurd (none_is households household change none other day double))
-      (λ o d some. same_pair o d other day (found_least households household change o d some other day double)
-      (least o d (found_is households household change o d some))),
+double_use_is_first households household change first = (
+  λ some. (
+    found_is households household change first.household first.day some,
+    λ any. found_least households household change first.household first.day some any.household any.day,
+  ),
+  λ (double, least). by_found households household change (λ found. found ≡ Some first)
+      (λ none. absurd (none_is households household change none first.household first.day double))
+      (λ o d some. same_pair o d first.household first.day (found_least households household change o d some first.household first.day double)
+      (least (use_on d o) (found_is households household change o d some))),
 )
 
 pub no_double_use : NoDoubleUse
 no_double_use households household change = (
-  none_is households household change,
+  λ none any. none_is households household change none any.household any.day,
   λ never. by_found households household change (λ found. found ≡ None) (λ none. refl)
-      (λ o d some. absurd (never o d (found_is households household change o d some))),
+      (λ o d some. absurd (never (use_on d o) (found_is households household change o d some))),
 )

@@ -2,7 +2,7 @@
 use Rattle.std.specs.Prelude.{◌≡◌, ◌≢◌, ◌↔◌, ◌≤◌, ◌<◌, ℕ, true, false, if◌then◌else◌, List, [], ◌∷◌, ◌++◌, length, Some, None, All, Contains, IfSome}
 use Rattle.days_core.specs.OfficeDays.{last_office_day}
 use Rattle.record_history.specs.{declared.records.Record.Record, Records.is_withdrawal, Records.live_records, Records.comes_before, Held.records_of}
-use Rattle.tenancy_rules.specs.{declared.change.Change.Change, Changed.changed_records, Changed.NumbersRise, Occupancy.occupied_unit_on, Occupancy.first_double_use}
+use Rattle.tenancy_rules.specs.{declared.change.Change.Change, declared.occupancy.DoubleUse.DoubleUse, Changed.changed_records, Changed.NumbersRise, Occupancy.occupied_unit_on, Occupancy.first_double_use}
 use Rattle.tenancy_rules.specs.Order.{is_transfer, is_move_out, record_before, first_out_of_order}
 
 -- where no record is out of order, the unit changes from one record to the next exactly by a transfer
@@ -26,11 +26,11 @@ NoUnitHasTwo = (households : List (List Record)) (household : ℕ) (change : Cha
 
 -- the double use that is found is one: another household has the unit on that day
 abbrev pub DoubleUseHasTwo : Type 0
-DoubleUseHasTwo = (households : List (List Record)) (household : ℕ) (change : Change) (other day : ℕ) →
-    first_double_use households household change ≡ Some (other, day) →
-    (other ≢ household) × (day ≤ last_office_day) × (unit : ℕ)
-    × (occupied_unit_on (changed_records (records_of households household) change) day ≡ Some unit)
-    × (occupied_unit_on (live_records (records_of households other)) day ≡ Some unit)
+DoubleUseHasTwo = (households : List (List Record)) (household : ℕ) (change : Change) (found : DoubleUse) →
+    first_double_use households household change ≡ Some found →
+    (found.household ≢ household) × (found.day ≤ last_office_day) × (unit : ℕ)
+    × (occupied_unit_on (changed_records (records_of households household) change) found.day ≡ Some unit)
+    × (occupied_unit_on (live_records (records_of households found.household)) found.day ≡ Some unit)
 
 -- once a record is held too, the records that live are those that were judged: without the one that it corrects or
 -- withdraws, and with it where it is no withdrawal itself

@@ -4,7 +4,7 @@ use Rattle.std.specs.{Option.option_map, List.range_with_len}
 use Rattle.days_core.specs.OfficeDays.{last_office_day}
 use Rattle.row_choice.specs.FirstDay.{first_day}
 use Rattle.record_history.specs.{declared.records.Record.Record, Records.live_records, Records.latest, Held.records_of}
-use Rattle.tenancy_rules.specs.{declared.change.Change.Change, Changed.changed_records, Order.is_move_out}
+use Rattle.tenancy_rules.specs.{declared.change.Change.Change, declared.occupancy.DoubleUse.DoubleUse, Changed.changed_records, Order.is_move_out}
 
 -- the unit that a household has while the record is in force: that of the record, and none after a move-out
 abbrev pub unit_kept : Record → Option ℕ
@@ -38,12 +38,16 @@ first_rival_on is_rival count day = find (λ other. is_rival other day) (range_w
 unfoldable pub first_day_before : ℕ → (ℕ → Bool) → Option ℕ
 first_day_before end passes = first_day passes 0 end
 
+-- a double use with that household on that day
+abbrev pub use_on : ℕ → ℕ → DoubleUse
+use_on day other = record { household = other; day = day }
+
 -- the first day before the end on which there is a rival, with the first rival on that day
-abbrev pub first_rivalry : (ℕ → ℕ → Bool) → ℕ → ℕ → Option (ℕ × ℕ)
+abbrev pub first_rivalry : (ℕ → ℕ → Bool) → ℕ → ℕ → Option DoubleUse
 first_rivalry is_rival count end =
-    option_and_then (λ day. option_map (λ other. (other, day)) (first_rival_on is_rival count day))
+    option_and_then (λ day. option_map (use_on day) (first_rival_on is_rival count day))
     (first_day_before end (λ day. is_some (first_rival_on is_rival count day)))
 
 -- the first day through 2099-12-31 on which one unit would have this household and another, and the first such other
-abbrev pub first_double_use : List (List Record) → ℕ → Change → Option (ℕ × ℕ)
+abbrev pub first_double_use : List (List Record) → ℕ → Change → Option DoubleUse
 first_double_use households household change = first_rivalry (is_rival_on households household change) (length households) (last_office_day + 1)

@@ -2,7 +2,7 @@
 use Rattle.std.specs.Prelude.{ℕ, ◌+◌, ◌==◌, nat_lt, if◌then◌else◌, Bool, Option, Some, List, [], All, Contains, filter, fold, vec_len, vec_capacity}
 use Rattle.std.specs.{Global.Vec, Option.option_map_or, List.Sorted.IsNonDecreasingBy}
 use Rattle.record_history.specs.{declared.records.Record.Record, Held.records_of}
-use Rattle.tenancy_rules.specs.{declared.uses.Use.Use, Occupancy.first_day_before}
+use Rattle.tenancy_rules.specs.{declared.uses.Use.Use, declared.occupancy.DoubleUse.DoubleUse, Occupancy.use_on, Occupancy.first_day_before}
 
 -- no use is of a lesser unit than one before it
 abbrev pub UnitsNeverFall : List Use → Type 0
@@ -23,14 +23,14 @@ room_beside room uses = if nat_lt (vec_len uses) (vec_capacity uses) then room e
 
 -- the day before which a double use with the other household comes first: on the day of the one so far only that with the
 -- lesser household does
-abbrev pub end_beside : Option (ℕ × ℕ) → ℕ → ℕ → ℕ
-end_beside first other end = option_map_or (λ rivalry. if nat_lt other rivalry.0 then rivalry.1 + 1 else rivalry.1) first end
+abbrev pub end_beside : Option DoubleUse → ℕ → ℕ → ℕ
+end_beside first other end = option_map_or (λ found. if nat_lt other found.household then found.day + 1 else found.day) first end
 
 -- the household of the use and the first day on which it is a rival, where that comes before the double use so far
-abbrev pub sooner_use : (ℕ → ℕ → Bool) → ℕ → Option (ℕ × ℕ) → Use → Option (ℕ × ℕ)
+abbrev pub sooner_use : (ℕ → ℕ → Bool) → ℕ → Option DoubleUse → Use → Option DoubleUse
 sooner_use is_rival end first used =
-    option_map_or (λ day. Some (used.household, day)) (first_day_before (end_beside first used.household end) (is_rival used.household)) first
+    option_map_or (λ day. Some (use_on day used.household)) (first_day_before (end_beside first used.household end) (is_rival used.household)) first
 
 -- the first of the double uses with households that had a record in the unit of that one
-abbrev pub sooner_uses : (ℕ → ℕ → Bool) → ℕ → List Use → Option (ℕ × ℕ) → Record → Option (ℕ × ℕ)
+abbrev pub sooner_uses : (ℕ → ℕ → Bool) → ℕ → List Use → Option DoubleUse → Record → Option DoubleUse
 sooner_uses is_rival end uses first r = fold (sooner_use is_rival end) first (of_unit uses r.unit)

@@ -15,7 +15,7 @@ pub use laws::{
     change_is_what_lives, double_use_is_first, no_unit_has_two, occupancy_is_plain, order_is_plain,
     units_change_by_transfer,
 };
-pub use occupancy::double_use;
+pub use occupancy::{DoubleUse, double_use};
 pub use order::{order_fault, sooner};
 pub use rent_table::{admission_limit, suits};
 pub use tenancies::Tenancies;

@@ -6,7 +6,7 @@ ghost use Rattle.days_core.specs.OfficeDays.{last_office_day};
 ghost use Rattle.record_history.specs.Records.{latest, live_records};
 ghost use Rattle.record_history.specs.Held.{records_of};
 ghost use Rattle.tenancy_rules.specs.Changed.{changed_records, AddsNext};
-ghost use Rattle.tenancy_rules.specs.Occupancy.{unit_kept, is_one_unit, have_one_unit_on, is_rival_on, first_day_before, first_double_use};
+ghost use Rattle.tenancy_rules.specs.Occupancy.{unit_kept, is_one_unit, have_one_unit_on, is_rival_on, use_on, first_day_before, first_double_use};
 ghost use Rattle.tenancy_rules.specs.Beginnings.{sooner_beginning, sooner_rivalry};
 ghost use Rattle.tenancy_rules.specs.Uses.{UnitsNeverFall, TellUses, end_beside, sooner_use, sooner_uses};
 
@@ -16,13 +16,20 @@ use crate::uses::{Use, of_unit};
 use days_core::{Day, LAST_OFFICE_DAY};
 use record_history::{History, Kind, Record};
 
+/// Another household that would have the unit too, and a day on which it would.
+#[derive(Clone, Copy, Debug, PartialEq, Eq)]
+pub struct DoubleUse {
+    pub household: u32,
+    pub day: Day,
+}
+
 /// How many days there are from 1880-01-01 through 2099-12-31.
 const DAYS: u32 = LAST_OFFICE_DAY + 1;
 
 /// The first day through 2099-12-31 on which one unit would have the household and another after the change, with the
 /// least of such others on that day; None where there is no such day. Own rule: a household has the unit of its record in
 /// force, unless that is a move-out.
-pub fn double_use(history: &History, household: u32, change: &Change) -> Option<(u32, Day)>
+pub fn double_use(history: &History, household: u32, change: &Change) -> Option<DoubleUse>
     requires next { AddsNext (records_of history.now.households household) household change.now }
     ensures { result ≡ first_double_use history.now.households household change.now }
 {
@@ -45,7 +52,7 @@ pub fn double_use_by(
     uses: &[Use],
     household: u32,
     change: &Change,
-) -> Option<(u32, Day)>
+) -> Option<DoubleUse>
     requires next { AddsNext (records_of history.now.households household) household change.now }
     requires uses { TellUses history.now.households uses.now }
     ensures { result ≡ first_double_use history.now.households household change.now }
@@ -66,7 +73,7 @@ fn first_by_records(
     household: u32,
     change: &Change,
     records: &[Record],
-) -> Option<(u32, Day)>
+) -> Option<DoubleUse>
     requires { UnitsNeverFall uses.now }
     ensures { result ≡ fold (sooner_uses (is_rival_on history.now.households household change.now) 80354 uses.now) None records.now }
 {
@@ -86,9 +93,9 @@ fn first_among(
     history: &History,
     household: u32,
     change: &Change,
-    first: Option<(u32, Day)>,
+    first: Option<DoubleUse>,
     uses: &[Use],
-) -> Option<(u32, Day)>
+) -> Option<DoubleUse>
     ensures { result ≡ fold (sooner_use (is_rival_on history.now.households household change.now) 80354) first uses.now }
 {
     let mut found = first;
@@ -115,22 +122,31 @@ struct Pair<'a> {
 
 impl Pair<'_> {
     /// The other household and the first day on which it is a rival, where that comes before the day so far.
-    fn sooner_rivalry(&self, first: Option<(u32, Day)>) -> Option<(u32, Day)>
+    fn sooner_rivalry(&self, first: Option<DoubleUse>) -> Option<DoubleUse>
         ensures { result ≡ sooner_rivalry (is_rival_on self.now.history.now.households self.now.household self.now.change.now) 80354 first self.now.other }
     {
         match self.first_day(end_of(&first)) {
-            Some(day) => Some((self.other, day)),
+            Some(day) => Some(self.use_on(day)),
             None => first,
         }
     }
 
     /// The same where households come in any order: on one day that of the lesser number comes first.
-    fn sooner_use(&self, first: Option<(u32, Day)>) -> Option<(u32, Day)>
-        ensures { result ≡ option_map_or (λ day. Some (self.now.other, day)) (first_day_before (end_beside first self.now.other 80354) (is_rival_on self.now.history.now.households self.now.household self.now.change.now self.now.other)) first }
+    fn sooner_use(&self, first: Option<DoubleUse>) -> Option<DoubleUse>
+        ensures { result ≡ option_map_or (λ day. Some (use_on day self.now.other)) (first_day_before (end_beside first self.now.other 80354) (is_rival_on self.now.history.now.households self.now.household self.now.change.now self.now.other)) first }
     {
         match self.first_day(end_beside(&first, self.other)) {
-            Some(day) => Some((self.other, day)),
+            Some(day) => Some(self.use_on(day)),
             None => first,
+        }
+    }
+
+    fn use_on(&self, day: Day) -> DoubleUse
+        ensures { result ≡ use_on day self.now.other }
+    {
+        DoubleUse {
+            household: self.other,
+            day,
         }
     }
 
@@ -188,25 +204,25 @@ impl Pair<'_> {
 }
 
 /// The number of the day before which an earlier double use would lie.
-fn end_of(first: &Option<(u32, Day)>) -> u32
-    ensures { result ≡ option_map_or (λ rivalry. rivalry.1) first.now (last_office_day + 1) }
+fn end_of(first: &Option<DoubleUse>) -> u32
+    ensures { result ≡ option_map_or (λ found. found.day) first.now (last_office_day + 1) }
 {
     match first {
-        Some((_, day)) => day.number(),
+        Some(found) => found.day.number(),
         None => DAYS,
     }
 }
 
 /// The number of the day before which a double use with the other household would come first.
-fn end_beside(first: &Option<(u32, Day)>, other: u32) -> u32
+fn end_beside(first: &Option<DoubleUse>, other: u32) -> u32
     ensures { result ≡ end_beside first.now other (last_office_day + 1) }
 {
     match first {
-        Some((found, day)) => {
-            if other < *found {
-                day.number() + 1
+        Some(found) => {
+            if other < found.household {
+                found.day.number() + 1
             } else {
-                day.number()
+                found.day.number()
             }
         }
         None => DAYS,

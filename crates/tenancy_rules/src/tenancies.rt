@@ -1,9 +1,8 @@
 //! The records of all households, with who was ever in which unit.
 
 use crate::Change;
-use crate::occupancy::double_use_by;
+use crate::occupancy::{DoubleUse, double_use_by};
 use crate::uses::{Use, tell};
-use days_core::Day;
 use plain_data::NoMemory;
 use record_history::{Dates, History, Record};
 use std::alloc::Global;
@@ -100,7 +99,7 @@ impl Tenancies {
 
     /// The first day through 2099-12-31 on which one unit would have the household and another after the change, with the
     /// least of such others on that day; None where there is no such day.
-    pub fn double_use(&self, household: u32, change: &Change) -> Option<(u32, Day)>
+    pub fn double_use(&self, household: u32, change: &Change) -> Option<DoubleUse>
         requires next { AddsNext (records_of self.now.households household) household change.now }
         ensures { result ≡ first_double_use self.now.households household change.now }
     {

@@ -1,7 +1,7 @@
 -- Each line of a closing names its pair.
-use Rattle.voucher_core.proofs.Words.{common_steps, ◌≡◌, ℕ, ◌+◌, ◌-◌, ◌<◌, ◌≤◌, List, [], ◌∷◌, get_or, pos, ◌-ℤ◌, true, Option, Some, None, refl, arith, All, IfSome, find, not, ◌==◌, ne_eqb, eq-eqb, Decides-int_eq, first_of-suc, Record, as_of, in_force, AreNumbered, int_eq, days_in, first_of, Stretch, Change, Closing, Line, assistance_on, day_at, change_on, is_same_change, changes, difference, line_of, month_lines, known_before, lines_for, adjustment_lines, closing_lines, placed, IsOfItsDays, Cover, IsOther, of_their_days, option_map_or, number_on, in_force_is, assistance_of, shares_of, NamesItsPair, NameTheirPairs, LinesNameTheirPairs, IsOtherPair, CoverByPairs, ChangesAreLongest, NumberTellsAssistance, is_same_pair, NumbersMakeTheRuns, Decides, same_from_decides, with_day, newest_first, reverse, ap, ◌∙◌, zero, suc, cond_both, Bool, find_first, find_fails}
+use Rattle.voucher_core.proofs.Words.{common_steps, ◌≡◌, ℕ, ◌+◌, ◌-◌, ◌<◌, ◌≤◌, List, [], ◌∷◌, get_or, pos, ◌-ℤ◌, true, Option, Some, refl, arith, All, IfSome, find, not, ◌==◌, ne_eqb, eq-eqb, Decides-int_eq, first_of-suc, Record, as_of, in_force, AreNumbered, int_eq, days_in, first_of, Stretch, Change, Closing, Line, assistance_on, day_at, change_on, is_same_change, changes, difference, line_of, month_lines, known_by, lines_for, adjustment_lines, closing_lines, placed, IsOfItsDays, Cover, IsOther, of_their_days, option_map_or, number_on, in_force_among, assistance_of, shares_of, NamesItsPair, NameTheirPairs, LinesNameTheirPairs, IsOtherPair, CoverByPairs, ChangesAreLongest, NumberTellsAssistance, is_same_pair, NumbersMakeTheRuns, Decides, same_from_decides, with_day, newest_first, reverse, ap, ◌∙◌, zero, suc, cond_both, Bool, find_first, find_fails, Contains, All-nil, All-contains, All-contains_itself, All-filter, nat_le, AreOfOne}
 use Rattle.list_laws.proofs.Pieces.{all_pieces}
-use Rattle.voucher_core.proofs.{Covered.exact_change, Covered.exact_numbers, Covered.change_at, Covered.month_covered, Paid.each_passing, Settled.all_earlier, Settled.all_months, Settled.all_for, Settled.all_closing}
+use Rattle.voucher_core.proofs.{Covered.exact_change, Covered.exact_numbers, Covered.change_at, Covered.month_covered, Paid.each_passing, Settled.all_earlier, Settled.all_months, Settled.all_for, Settled.all_closing, Settled.nothing}
 
 -- Numbers lead to records ----
 
@@ -22,15 +22,22 @@ module _ (records : List Record) (numbered : AreNumbered records) where
       assistance_of records (option_map_or (λ r. r.number) o 0) ≡ option_map_or (λ r. r.assistance) o 0
   of_force o found = grind (arith, common_steps, no_assistance)
 
-  -- so the number of the record in force leads to its assistance
-  pub leads : (act day : ℕ) → assistance_of records (number_on (as_of act records) day) ≡ assistance_on (as_of act records) day
-  leads act day =
-      of_force (in_force (as_of act records) day) (in_force_is (λ (r : Record). find (λ q. q.number == r.number) records ≡ Some r) records act day lead_back)
+  abbrev LeadsBack : Record → Type 0
+  LeadsBack r = find (λ q. q.number == r.number) records ≡ Some r
 
-  -- so does that of the record known before, if any
-  pub leads_before : (before : Option ℕ) (day : ℕ) → assistance_of records (number_on (known_before before records) day) ≡ assistance_on (known_before before records) day
-  leads_before None day = no_assistance
-  leads_before (Some act) day = leads act day
+  -- so the number of the record in force leads to its assistance
+  pub leads : (known : List Record) → All (Contains records) known → (day : ℕ) → assistance_of records (number_on known day) ≡ assistance_on known day
+  leads known own day =
+      of_force (in_force known day) (in_force_among LeadsBack known day
+      (λ k d within. All-contains LeadsBack records (get_or known k d) lead_back (own k d within)))
+
+pub as_of_own : (act : ℕ) (records : List Record) → All (Contains records) (as_of act records)
+as_of_own act records = All-filter (λ (r : Record). nat_le r.act act) (Contains records) records (All-contains_itself records)
+
+pub are_of_one : (own before : ℕ → List Record) (act : ℕ) → ((household : ℕ) → AreNumbered (own household)) →
+    ((household : ℕ) → All (Contains (own household)) (before household)) → (household : ℕ) → AreOfOne (own household) (before household) (as_of act (own household))
+are_of_one own before act numbered own_before household =
+    record { numbered = numbered household; old_own = own_before household; new_own = as_of_own act (own household) }
 
 -- One line ----
 
@@ -39,11 +46,14 @@ pub changes_of_days : (old new : List Record) (month : ℕ) →
     All (IsOfItsDays (λ place. change_on old new (day_at month place)) 1 (1 + days_in month)) (changes old new month)
 changes_of_days old new month = of_their_days (change_at old new month) is_same_change exact_change 1 (days_in month)
 
-module _ (records before now : List Record)
-    (old_leads : (day : ℕ) → assistance_of records (number_on before day) ≡ assistance_on before day)
-    (new_leads : (day : ℕ) → assistance_of records (number_on now day) ≡ assistance_on now day)
-    (month : ℕ)
+module _ (records before now : List Record) (of_one : AreOfOne records before now) (month : ℕ)
   where
+    old_leads : (day : ℕ) → assistance_of records (number_on before day) ≡ assistance_on before day
+    old_leads = leads records of_one.numbered before of_one.old_own
+
+    new_leads : (day : ℕ) → assistance_of records (number_on now day) ≡ assistance_on now day
+    new_leads = leads records of_one.numbered now of_one.new_own
+
     -- the numbers of a change lead to its assistance
     old_found : (key : Change) (place : ℕ) → key ≡ change_at before now month place → assistance_of records key.old.number ≡ key.old.assistance
     old_found key place is = rw is (old_leads (day_at month place))
@@ -125,33 +135,34 @@ moved records before now l place names = assumption
 
 module _ (own : ℕ → List Record) (count : ℕ) (closing : Closing) (place : ℕ) (numbered : (household : ℕ) → AreNumbered (own household)) where
   -- the line names what was known before of its household, and what is known now
-  abbrev Names : Option ℕ → Line → Type 0
-  Names before l = NamesItsPair (own l.household) (known_before before (own l.household)) (as_of closing.act (own l.household)) l
+  abbrev Names : (ℕ → List Record) → Line → Type 0
+  Names before l = NamesItsPair (own l.household) (before l.household) (as_of closing.act (own l.household)) l
 
-  lines_name : (before : Option ℕ) (month : ℕ) → All (Names before) (lines_for own count closing before month)
-  lines_name before month =
-      all_pieces (Names before) (λ (h : ℕ). month_lines closing h month (known_before before (own h)) (as_of closing.act (own h))) 1 count
-      (λ h low high. each_passing (Names before) closing h month (known_before before (own h)) (as_of closing.act (own h))
-      (month_names (own h) (known_before before (own h)) (as_of closing.act (own h)) (leads_before (own h) (numbered h) before) (leads (own h) (numbered h) closing.act) month closing h))
+  lines_name : (before : ℕ → List Record) → ((household : ℕ) → All (Contains (own household)) (before household)) → (month : ℕ) →
+      All (Names before) (lines_for before (known_by own closing.act) count closing month)
+  lines_name before own_before month =
+      all_pieces (Names before) (λ (h : ℕ). month_lines closing h month (before h) (as_of closing.act (own h))) 1 count
+      (λ h low high. each_passing (Names before) closing h month (before h) (as_of closing.act (own h))
+      (month_names (own h) (before h) (as_of closing.act (own h)) (are_of_one own before closing.act numbered own_before h) month closing h))
 
   are_before : All (λ l. l.for_month < closing.closed) (adjustment_lines own count closing)
   are_before = all_months own count closing (λ (m : ℕ). m < closing.closed) (λ m low high. high)
 
-  are_of_it : All (λ l. l.for_month ≡ closing.closed) (lines_for own count closing None closing.closed)
-  are_of_it = all_for own count closing None closing.closed (λ (m : ℕ). m ≡ closing.closed) refl
+  are_of_it : All (λ l. l.for_month ≡ closing.closed) (lines_for nothing (known_by own closing.act) count closing closing.closed)
+  are_of_it = all_for own count closing nothing closing.closed (λ (m : ℕ). m ≡ closing.closed) refl
 
-  all_now : All (λ l. l.for_month ≡ closing.closed → Names None l) (placed place (closing_lines own count closing))
+  all_now : All (λ l. l.for_month ≡ closing.closed → Names nothing l) (placed place (closing_lines own count closing))
   all_now =
-      all_closing own count closing (λ (l : Line). l.for_month ≡ closing.closed → Names None l) (λ l at names now. moved _ _ _ l at (names now)) place
-      (λ k d within now. absurd (omega (arith, are_before k d within, now))) (λ k d within now. lines_name None closing.closed k d within)
+      all_closing own count closing (λ (l : Line). l.for_month ≡ closing.closed → Names nothing l) (λ l at names now. moved _ _ _ l at (names now)) place
+      (λ k d within now. absurd (omega (arith, are_before k d within, now))) (λ k d within now. lines_name nothing (λ h. All-nil (Contains (own h))) closing.closed k d within)
 
   pub name_their_pairs : NameTheirPairs own closing (placed place (closing_lines own count closing))
   name_their_pairs = record {
     months = all_closing own count closing (λ (l : Line). l.for_month ≤ closing.closed) (λ l at p. p) place
         (λ k d within. omega (arith, are_before k d within)) (λ k d within. omega (arith, are_of_it k d within));
-    earlier = all_closing own count closing (λ (l : Line). l.for_month < closing.closed → Names (Some closing.last_close) l)
+    earlier = all_closing own count closing (λ (l : Line). l.for_month < closing.closed → Names (known_by own closing.last_close) l)
         (λ l at names before. moved _ _ _ l at (names before)) place
-        (all_earlier own count closing (λ (l : Line). l.for_month < closing.closed → Names (Some closing.last_close) l) (λ month from to k d within before. lines_name (Some closing.last_close) month k d within))
+        (all_earlier own count closing (λ (l : Line). l.for_month < closing.closed → Names (known_by own closing.last_close) l) (λ month from to k d within before. lines_name (known_by own closing.last_close) (λ h. as_of_own closing.last_close (own h)) month k d within))
         (λ k d within before. absurd (omega (arith, are_of_it k d within, before)));
     none_before = λ k d within now. (let names = all_now k d within now in names.old _ (omega arith) names.in_order);
     closed_month = all_now;
@@ -161,13 +172,12 @@ pub lines_name_their_pairs : LinesNameTheirPairs
 lines_name_their_pairs = name_their_pairs
 
 pub changes_are_longest : ChangesAreLongest
-changes_are_longest records before act month numbered =
-    longest records (known_before before records) (as_of act records) (leads_before records numbered before) (leads records numbered act) month
+changes_are_longest records old new month of_one = longest records old new of_one month
 
 -- Runs by numbers alone ----
 
 pub number_tells : NumberTellsAssistance
-number_tells records act other day next numbered same = cc (leads records numbered act day, leads records numbered other next)
+number_tells records old new day next of_one same = cc (old_leads records old new of_one 0 day, new_leads records old new of_one 0 next)
 
 module _ {K : Type 0} (same other : K → K → Bool) (key_on : ℕ → K) (agree : (day next : ℕ) → same (key_on day) (key_on next) ≡ other (key_on day) (key_on next)) where
   -- the key of the newest is that of some day
@@ -191,10 +201,8 @@ module _ {K : Type 0} (same other : K → K → Bool) (key_on : ℕ → K) (agre
       (more.0 ∙ ap (λ (xs : List (Stretch K)). with_day other xs (first + count) (key_on (first + count))) so_far.0, more.1)
 
 pub numbers_make_the_runs : NumbersMakeTheRuns
-numbers_make_the_runs records before act month numbered =
-    let old = known_before before records in
-    let now = as_of act records in
+numbers_make_the_runs records old new month of_one =
     ap reverse
-    (same_stretches is_same_pair is_same_change (change_at old now month)
-    (λ day next. same_from_decides _ _ (exact_pair records old now (leads_before records numbered before) (leads records numbered act) month day next) (exact_change _ _))
+    (same_stretches is_same_pair is_same_change (change_at old new month)
+    (λ day next. same_from_decides _ _ (exact_pair records old new of_one month day next) (exact_change _ _))
     1 (days_in month)).0

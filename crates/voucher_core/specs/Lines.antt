@@ -1,7 +1,7 @@
 -- The lines of a closing (form HUD-52670 in outline; the layout of a line is an own rule).
 --
 -- `own` gives each household all its records, and households have the numbers from 1 to the count.
-use Rattle.std.specs.Prelude.{ℕ, ◌+◌, ◌-◌, ◌==◌, ◌&&◌, ℤ, pos, ◌+ℤ◌, ◌-ℤ◌, not, Bool, if◌then◌else◌, List, [], ◌∷◌, ◌++◌, map, filter, Option, Some, None}
+use Rattle.std.specs.Prelude.{ℕ, ◌+◌, ◌-◌, ◌==◌, ◌&&◌, ℤ, pos, ◌+ℤ◌, ◌-ℤ◌, not, Bool, if◌then◌else◌, List, [], ◌∷◌, ◌++◌, map, filter}
 use Rattle.std.specs.{List.range_with_len, List.flat_map, Ordering.int_eq}
 use Rattle.days_core.specs.Calendar.{days_in}
 use Rattle.record_history.specs.{declared.records.Record.Record, declared.stretch.Stretch.Stretch, Records.as_of, Runs.number_on, Stretch.stretches}
@@ -54,26 +54,25 @@ abbrev pub month_lines : Closing → ℕ → ℕ → List Record → List Record
 month_lines closing household month old new =
     filter (λ l. not (int_eq l.amount (pos 0))) (map (line_of closing household month) (changes old new month))
 
--- the records known at the last closing where it paid for the month, and none where no closing did
-abbrev pub known_before : Option ℕ → List Record → List Record
-known_before None records = []
-known_before (Some last_close) records = as_of last_close records
+-- The lines of all households for one month. `old` gives the records by which each was paid before, `new` those by which it
+-- is paid now.
+abbrev pub lines_for : (ℕ → List Record) → (ℕ → List Record) → ℕ → Closing → ℕ → List Line
+lines_for old new count closing month = flat_map (λ h. month_lines closing h month (old h) (new h)) (range_with_len 1 count)
 
--- the lines of all households for one month
-abbrev pub lines_for : (ℕ → List Record) → ℕ → Closing → Option ℕ → ℕ → List Line
-lines_for own count closing before month =
-    flat_map (λ h. month_lines closing h month (known_before before (own h)) (as_of closing.act (own h))) (range_with_len 1 count)
+-- the records that each household has as of the act
+abbrev pub known_by : (ℕ → List Record) → ℕ → ℕ → List Record
+known_by own act household = as_of act (own household)
 
 -- The lines for the months that were closed before: what has changed since the last closing. Its act is 0 where there
 -- was none, and then there is no such line.
 abbrev pub adjustment_lines : (ℕ → List Record) → ℕ → Closing → List Line
 adjustment_lines own count closing =
     if closing.last_close == 0 then []
-    else flat_map (lines_for own count closing (Some closing.last_close)) (range_with_len closing.first_month (closing.closed - closing.first_month))
+    else flat_map (lines_for (known_by own closing.last_close) (known_by own closing.act) count closing) (range_with_len closing.first_month (closing.closed - closing.first_month))
 
--- The lines of a closing: the adjustments, and then the lines of the closed month.
+-- The lines of a closing: the adjustments, and then the lines of the closed month, for which nothing was paid before.
 abbrev pub closing_lines : (ℕ → List Record) → ℕ → Closing → List Line
-closing_lines own count closing = adjustment_lines own count closing ++ lines_for own count closing None closing.closed
+closing_lines own count closing = adjustment_lines own count closing ++ lines_for (λ h. []) (known_by own closing.act) count closing closing.closed
 
 -- the lines with their places, from this one on
 abbrev pub placed : ℕ → List Line → List Line

@@ -1,11 +1,11 @@
 -- What each line of a closing tells of its records.
-use Rattle.std.specs.Prelude.{ℕ, ◌+◌, ◌-◌, ◌<◌, ◌≤◌, ◌≡◌, ◌≢◌, ◌==◌, ◌&&◌, Bool, pos, ◌-ℤ◌, List, [], ◌∷◌, All, find, Option}
+use Rattle.std.specs.Prelude.{ℕ, ◌+◌, ◌-◌, ◌<◌, ◌≤◌, ◌≡◌, ◌≢◌, ◌==◌, ◌&&◌, Bool, pos, ◌-ℤ◌, List, [], ◌∷◌, All, Contains, find}
 use Rattle.std.specs.Option.{option_map_or}
 use Rattle.days_core.specs.Calendar.{days_in, first_of, last_of}
 use Rattle.record_history.specs.{declared.records.Record.Record, declared.stretch.Stretch.Stretch, Records.as_of, Runs.number_on, Stretch.stretches, Held.AreNumbered}
 use Rattle.share_rules.specs.Shares.{run_share}
 use Rattle.voucher_core.specs.{declared.closing.Closing.Closing, declared.line.Line.Line, declared.changes.Change.Change, Certified.assistance_on, Certified.day_at}
-use Rattle.voucher_core.specs.Lines.{known_before, change_on, changes, closing_lines, placed}
+use Rattle.voucher_core.specs.Lines.{change_on, changes, closing_lines, placed}
 
 -- the assistance of the household's record of that number, and 0 where it has none
 abbrev pub assistance_of : List Record → ℕ → ℕ
@@ -56,21 +56,23 @@ CoverByPairs old_on new_on first next (run ∷ rest) =
     × ((day : ℕ) → first ≤ day → day ≤ run.last → (run.key.old.number ≡ old_on day) × (run.key.new.number ≡ new_on day))
     × IsOtherPair run.key rest × CoverByPairs old_on new_on (run.last + 1) next rest
 
--- Where a household's records are numbered from 1, the changes of a month are the longest runs of its days with one
--- pair of records.
-abbrev pub ChangesAreLongest : Type 0
-ChangesAreLongest = (records : List Record) (paid_at : Option ℕ) (act month : ℕ) →
-    AreNumbered records →
-    CoverByPairs (λ place. number_on (known_before paid_at records) (day_at month place)) (λ place. number_on (as_of act records) (day_at month place))
-    1 (1 + days_in month) (changes (known_before paid_at records) (as_of act records) month)
+-- the old records and the new ones are all of one household, whose records are numbered from 1
+pub record AreOfOne (records old new : List Record) : Type 0 where
+  pub numbered : AreNumbered records
+  pub old_own : All (Contains records) old
+  pub new_own : All (Contains records) new
 
--- Where a household's records are numbered from 1, the number of the record in force tells its assistance, on whatever day
--- and as of whatever act.
+-- the changes of a month are the longest runs of its days with one pair of records
+abbrev pub ChangesAreLongest : Type 0
+ChangesAreLongest = (records old new : List Record) (month : ℕ) →
+    AreOfOne records old new →
+    CoverByPairs (λ place. number_on old (day_at month place)) (λ place. number_on new (day_at month place)) 1 (1 + days_in month) (changes old new month)
+
+-- the number of the record in force tells its assistance, on whatever day and by whatever is known
 abbrev pub NumberTellsAssistance : Type 0
-NumberTellsAssistance = (records : List Record) (act other day next : ℕ) →
-    AreNumbered records →
-    number_on (as_of act records) day ≡ number_on (as_of other records) next →
-    assistance_on (as_of act records) day ≡ assistance_on (as_of other records) next
+NumberTellsAssistance = (records old new : List Record) (day next : ℕ) →
+    AreOfOne records old new →
+    number_on old day ≡ number_on new next → assistance_on old day ≡ assistance_on new next
 
 -- the same numbers of both records, whatever their assistance
 abbrev pub is_same_pair : Change → Change → Bool
@@ -78,7 +80,6 @@ is_same_pair a b = a.old.number == b.old.number && a.new.number == b.new.number
 
 -- So the runs with one pair of numbers are those with one pair of numbers and of assistances.
 abbrev pub NumbersMakeTheRuns : Type 0
-NumbersMakeTheRuns = (records : List Record) (paid_at : Option ℕ) (act month : ℕ) →
-    AreNumbered records →
-    stretches is_same_pair (λ place. change_on (known_before paid_at records) (as_of act records) (day_at month place)) 1 (days_in month)
-    ≡ changes (known_before paid_at records) (as_of act records) month
+NumbersMakeTheRuns = (records old new : List Record) (month : ℕ) →
+    AreOfOne records old new →
+    stretches is_same_pair (λ place. change_on old new (day_at month place)) 1 (days_in month) ≡ changes old new month

@@ -1,14 +1,14 @@
 -- How a closing goes over households and days: past those that add nothing.
-use Rattle.std.specs.Prelude.{ℕ, ◌<◌, ◌≤◌, ◌≡◌, ◌==◌, ◌&&◌, ◌||◌, nat_lt, min, Bool, true, All, List, [], ◌∷◌, filter, find, Option, IfSome}
+use Rattle.std.specs.Prelude.{ℕ, ◌<◌, ◌≤◌, ◌≡◌, ◌==◌, ◌&&◌, ◌||◌, nat_lt, min, Bool, true, All, List, [], ◌∷◌, filter, find, Option, Some, None, IfSome}
 use Rattle.std.specs.{List.range_with_len, List.list_any, Option.option_map_or}
 use Rattle.days_core.specs.Calendar.{last_of}
 use Rattle.record_history.specs.{declared.records.Record.Record, declared.stretch.Stretch.Stretch, Records.as_of, Records.newest_act}
-use Rattle.voucher_core.specs.{declared.closing.Closing.Closing, declared.line.Line.Line, declared.touched.Touched.Touched, Lines.month_lines, Lines.known_before}
+use Rattle.voucher_core.specs.declared.touched.Touched.{Touched}
 
--- the lines of one household for one month
-abbrev pub household_lines : (ℕ → List Record) → Closing → Option ℕ → ℕ → ℕ → List Line
-household_lines own closing before household month =
-    month_lines closing household month (known_before before (own household)) (as_of closing.act (own household))
+-- the records by which a household was paid as of an act, and none where no act paid it
+abbrev pub known_before : Option ℕ → List Record → List Record
+known_before None records = []
+known_before (Some act) records = as_of act records
 
 -- the households of which an act after that one made a record
 abbrev pub changed_since : ℕ → (ℕ → List Record) → ℕ → List ℕ

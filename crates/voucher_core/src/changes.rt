@@ -5,9 +5,9 @@ ghost use Rattle.days_core.specs.RentBounds.{most_gross_rent};
 ghost use Rattle.record_history.specs.Records.{as_of};
 ghost use Rattle.record_history.specs.Held.{records_of};
 ghost use Rattle.record_history.specs.Stretch.{with_day};
-ghost use Rattle.voucher_core.specs.Lines.{known_before, force_on, change_on, is_same_change, changes};
+ghost use Rattle.voucher_core.specs.Lines.{force_on, change_on, is_same_change, changes};
 ghost use Rattle.voucher_core.specs.Bounds.{IsUsable};
-ghost use Rattle.voucher_core.specs.Walk.{up_to};
+ghost use Rattle.voucher_core.specs.Walk.{known_before, up_to};
 
 use crate::starts::next_start;
 use days_core::{Day, Month, first_of, last_of};

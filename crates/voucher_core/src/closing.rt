@@ -53,6 +53,6 @@ fn gathered(alloc: Global, history: &History, closing: &Closing) -> Result<Vec<L
 {
     let mut lines = Vec::new(alloc);
     add_adjustments(alloc, &mut lines, history, closing)?;
-    add_month(alloc, &mut lines, history, closing, closing.closed, None)?;
+    add_month(alloc, &mut lines, history, closing)?;
     Ok(lines)
 }

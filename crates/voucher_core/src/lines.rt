@@ -1,14 +1,14 @@
 //! The lines of a closing, household by household and month by month.
 
-ghost use Rattle.std.specs.Prelude.{◌≡◌, ◌≤◌, ◌<◌, ◌-◌, ◌+◌, ◌^◌, ◌++◌, pos, not, All, Some, OnOk, filter, map, length};
+ghost use Rattle.std.specs.Prelude.{◌≡◌, ◌≤◌, ◌<◌, ◌-◌, ◌+◌, ◌^◌, ◌++◌, pos, not, All, [], OnOk, filter, map, length};
 ghost use Rattle.std.specs.List.{flat_map};
 ghost use Rattle.std.specs.Ordering.{int_eq};
 ghost use Rattle.days_core.specs.Calendar.{days_in};
 ghost use Rattle.record_history.specs.Held.{records_of};
 ghost use Rattle.voucher_core.specs.Certified.{day_at};
-ghost use Rattle.voucher_core.specs.Lines.{line_of, lines_for, adjustment_lines, placed};
+ghost use Rattle.voucher_core.specs.Lines.{line_of, month_lines, known_by, lines_for, adjustment_lines, placed};
 ghost use Rattle.voucher_core.specs.Bounds.{IsUsable};
-ghost use Rattle.voucher_core.specs.Walk.{household_lines, touched_household, BeginsUntouched};
+ghost use Rattle.voucher_core.specs.Walk.{known_before, touched_household, BeginsUntouched};
 
 use crate::changes::{Change, changes_of_month};
 use crate::touched::{Touched, first_changed, touched_since};
@@ -56,7 +56,7 @@ fn add_changed(
 ) -> Result<(), NoMemory>
     requires last_close { closing.now.last_close ≤ closing.now.act }
     requires untouched { All (BeginsUntouched closing.now.last_close (records_of history.now.households)) changed.now }
-    ensures { OnOk result (lines.new.items ≡ lines.old.items ++ flat_map (λ h. household_lines (records_of history.now.households) closing.now (Some closing.now.last_close) h month) (map touched_household changed.now)) }
+    ensures { OnOk result (lines.new.items ≡ lines.old.items ++ flat_map (λ h. month_lines closing.now h month (known_by (records_of history.now.households) closing.now.last_close h) (known_by (records_of history.now.households) closing.now.act h)) (map touched_household changed.now)) }
 {
     let last = last_of(month).number();
     let paid_at = Some(closing.last_close);
@@ -69,22 +69,26 @@ fn add_changed(
     Ok(())
 }
 
-/// Adds the lines of all households for a month.
+/// Adds the lines of all households for the month that is closed.
 pub fn add_month(
     alloc: Global,
     lines: &mut Vec<Line>,
     history: &History,
     closing: &Closing,
-    month: Month,
-    paid_at: Option<u32>,
 ) -> Result<(), NoMemory>
     requires { length history.now.households ≤ 100000 }
-    ensures { OnOk result (lines.new.items ≡ lines.old.items ++ lines_for (records_of history.now.households) (length history.now.households) closing.now paid_at month) }
+    ensures { OnOk result (lines.new.items ≡ lines.old.items ++ lines_for (λ h. []) (known_by (records_of history.now.households) closing.now.act) (length history.now.households) closing.now closing.now.closed) }
 {
     let mut runs = Vec::new(alloc);
     for household in 1..history.households() + 1 {
         add_household(
-            lines, &mut runs, history, closing, household, month, paid_at,
+            lines,
+            &mut runs,
+            history,
+            closing,
+            household,
+            closing.closed,
+            None,
         )?;
     }
     Ok(())
@@ -100,7 +104,7 @@ fn add_household(
     month: Month,
     paid_at: Option<u32>,
 ) -> Result<(), NoMemory>
-    ensures { OnOk result (lines.new.items ≡ lines.old.items ++ household_lines (records_of history.now.households) closing.now paid_at household month) }
+    ensures { OnOk result (lines.new.items ≡ lines.old.items ++ month_lines closing.now household month (known_before paid_at (records_of history.now.households household)) (known_by (records_of history.now.households) closing.now.act household)) }
 {
     changes_of_month(runs, history, household, month, paid_at, closing.act)?;
     add_lines(lines, closing, household, month, runs)

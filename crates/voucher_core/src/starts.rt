@@ -7,8 +7,7 @@ ghost use Rattle.std.specs.List.Sorted.{IsPartitionPoint};
 ghost use Rattle.record_history.specs.Records.{as_of, live_records};
 ghost use Rattle.record_history.specs.Held.{records_of};
 ghost use Rattle.record_history.specs.Ordered.{StandInOrder};
-ghost use Rattle.voucher_core.specs.Lines.{known_before};
-ghost use Rattle.voucher_core.specs.Walk.{made_after, BeginsNotWithin, CorrectsNotWithin};
+ghost use Rattle.voucher_core.specs.Walk.{known_before, made_after, BeginsNotWithin, CorrectsNotWithin};
 
 use crate::touched::made_after;
 use record_history::{History, Record};

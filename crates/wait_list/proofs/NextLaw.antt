@@ -1,5 +1,5 @@
 -- Whoever is next is so rightly.
-use Rattle.wait_list.proofs.Words.{◌≡◌, ◌∙◌, sym, ℕ, Bool, true, false, List, length, ◌<◌, [], ◌∷◌, get_or, refl, inl, inr, Option, Some, None, ◌&&◌, ◌||◌, not, filter, All, Contains, IfSome, IsSomeAnd, MatchOption, if◌then◌else◌, option_map, option_or, Applicant, Asked, is_within_limit, is_extremely_low, is_candidate, candidates, stands_behind, first_of, next_of, mover_of, next_needing, next_not_needing, next_of_all, first_there, common_steps, arith, false≢true, and_parts, and_from, false_from_ne_true, cond_both, Candidate, needs, goes_before, NoMoverNeeds, NoApplicantNeeds, ApplicantIsFirst, IsRightful, NextIsRightful}
+use Rattle.wait_list.proofs.Words.{◌≡◌, ◌∙◌, sym, ℕ, Bool, true, false, List, length, ◌<◌, [], ◌∷◌, get_or, refl, inl, inr, Option, Some, None, ◌&&◌, ◌||◌, not, filter, All, Contains, IfSome, IsSomeAnd, if◌then◌else◌, option_map, option_or, Applicant, Asked, is_within_limit, is_extremely_low, is_candidate, candidates, stands_behind, first_of, next_of, mover_of, first_there, common_steps, arith, false≢true, and_parts, and_from, false_from_ne_true, cond_both, Candidate, needs, goes_before, NoMoverNeeds, NoApplicantNeeds, ApplicantIsFirst, IsRightful, NextIsRightful}
 use Rattle.rent_table.specs.Admission.{suits}
 use Rattle.row_choice.{specs.Latest.IsLatest, proofs.LatestLemmas.latest-is, proofs.LatestLemmas.pairs_order-turned, proofs.LatestLemmas.filter-filter}
 
@@ -75,8 +75,7 @@ by_number next = option_map (λ applicant. Candidate.Applicant applicant.number)
 
 -- the first who is there of the four groups
 in_turn : (asked : Asked) (applicants : List Applicant) (needing other : Option ℕ) (who_needs another : Option Applicant) →
-    MatchOption needing (NoMoverNeeds asked) (λ household. (asked.unit.accessible ≡ true) × (asked.needing ≡ Some household)) →
-    asked.other ≡ other → NextOfNeed asked applicants true who_needs → NextOfNeed asked applicants false another →
+    asked.needing ≡ needing → asked.other ≡ other → NextOfNeed asked applicants true who_needs → NextOfNeed asked applicants false another →
     IsRightful asked applicants (first_there (mover_of needing ∷ by_number who_needs ∷ mover_of other ∷ by_number another ∷ []))
 in_turn asked applicants (Some household) other who_needs another of_needing is_other of_need of_others = inl of_needing
 in_turn asked applicants None other (Some next) another no_mover_needs is_other of_need of_others =
@@ -98,40 +97,12 @@ in_turn asked applicants None other None another no_mover_needs is_other of_need
       no_applicant = λ k d within. false_from_ne_true (is_candidate asked (get_or applicants k d)) (λ passed. of_others.first k d within passed (none_needs k d within passed));
     }
 
--- in a unit that has accessible features
-in_accessible : (asked : Asked) (applicants : List Applicant) → asked.unit.accessible ≡ true →
-    IsRightful asked applicants
-    (first_there (mover_of asked.needing ∷ next_needing asked applicants ∷ mover_of asked.other ∷ next_not_needing asked applicants ∷ []))
-in_accessible asked applicants is =
-    in_turn asked applicants asked.needing asked.other
-    (next_of asked (filter (λ applicant. applicant.accessible) (candidates asked applicants)))
-    (next_of asked (filter (λ applicant. not applicant.accessible) (candidates asked applicants)))
-    (by_needing asked.needing refl) refl
-    (of_need asked applicants true (λ applicant. applicant.accessible)
-    (λ applicant. and_from asked.unit.accessible applicant.accessible is)
-    (λ applicant needed. (and_parts asked.unit.accessible applicant.accessible needed).1))
-    (of_need asked applicants false (λ applicant. not applicant.accessible)
-    (λ applicant not_needing. grind (arith, common_steps))
-    (λ applicant no_need. grind (arith, common_steps)))
-  where
-    by_needing : (needing : Option ℕ) → asked.needing ≡ needing →
-        MatchOption needing (NoMoverNeeds asked) (λ household. (asked.unit.accessible ≡ true) × (asked.needing ≡ Some household))
-    by_needing None none = λ _. none
-    by_needing (Some household) some = (is, some)
-
--- in another unit
-in_another : (asked : Asked) (applicants : List Applicant) → asked.unit.accessible ≡ false →
-    IsRightful asked applicants (first_there (mover_of asked.other ∷ next_of_all asked applicants ∷ []))
-in_another asked applicants is =
-    in_turn asked applicants None asked.other None
-    (next_of asked (filter (λ applicant. true) (candidates asked applicants)))
-    (λ accessible. absurd (false≢true (sym is ∙ accessible))) refl
-    (record { among = tt; first = λ k d within passed needed. absurd (false≢true (sym (none_needs (get_or applicants k d)) ∙ needed)) })
-    (of_need asked applicants false (λ applicant. true) (λ applicant _. none_needs applicant) (λ applicant _. refl))
-  where
-    none_needs : (applicant : Applicant) → needs asked applicant ≡ false
-    none_needs applicant = rw is refl
-
 pub next-is_rightful : NextIsRightful
 next-is_rightful asked applicants =
-    cond_both asked.unit.accessible _ _ (λ nexts. IsRightful asked applicants (first_there nexts)) (in_accessible asked applicants) (in_another asked applicants)
+    in_turn asked applicants asked.needing asked.other
+    (next_of asked (filter (needs asked) (candidates asked applicants)))
+    (next_of asked (filter (λ applicant. not (needs asked applicant)) (candidates asked applicants))) refl refl
+    (of_need asked applicants true (needs asked) (λ applicant needed. needed) (λ applicant needed. needed))
+    (of_need asked applicants false (λ applicant. not (needs asked applicant))
+    (λ applicant not_needed. grind (arith, common_steps))
+    (λ applicant not_needed. grind (arith, common_steps)))

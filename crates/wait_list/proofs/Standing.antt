@@ -1,5 +1,5 @@
 -- Applicants in the order in which they stand.
-use Rattle.wait_list.proofs.Words.{◌≡◌, ◌≢◌, ◌∙◌, sym, ap, refl, ℕ, suc, zero, ◌<◌, Bool, true, false, List, [], ◌∷◌, ◌++◌, length, get_or, arith, Option, Some, None, All, All-head, All-tail, All-filter, AllPairs-filter, Contains, IsSomeAnd, filter, nat_tests, false≢true, if◌then◌else◌, Applicant, Asked, stands_behind, first_of, is_candidate, candidates, is_extremely_low, next_of, ◌&&◌, is_listed, without, HaveOwnNumbers, IsSoundList, IsSize}
+use Rattle.wait_list.proofs.Words.{◌≡◌, ◌≢◌, ◌∙◌, sym, ap, refl, ℕ, suc, zero, ◌<◌, Bool, true, false, List, [], ◌∷◌, ◌++◌, length, get_or, arith, Option, Some, None, All, All-head, All-tail, All-filter, AllPairs-filter, Contains, IsSomeAnd, filter, nat_tests, false≢true, if◌then◌else◌, Applicant, Asked, needs, stands_behind, first_of, is_candidate, candidates, is_extremely_low, next_of, ◌&&◌, is_listed, without, HaveOwnNumbers, IsSoundList, IsSize}
 use Rattle.std.specs.Prelude.{find, fold, insert, remove, position, ◌≤◌, ◌-◌, ◌+◌, not, ◌==◌}
 use Rattle.std.specs.List.Sorted.{IsPermutation, IsPartitionPoint, IsPartitionedBy}
 use Rattle.std.proofs.Common.{◌⊎◌, inl, inr, subst, eq-eqb}
@@ -233,7 +233,7 @@ module _ (number : ℕ) (applicants ranked : List Applicant) (sound : IsSoundRan
 -- who is next of some is the same, whatever the order in which they are listed
 pub same_next : (asked : Asked) (applicants ranked : List Applicant) → ActsRise applicants → IsRanking applicants ranked → next_candidate asked ranked ≡ next_candidate asked applicants
 same_next asked applicants ranked rise ranking =
-    rw (of_group (λ applicant. applicant.accessible), of_group (λ applicant. not applicant.accessible), of_group (λ applicant. true)) refl
+    rw (of_group (needs asked), of_group (λ applicant. not (needs asked applicant))) refl
   where
     of_first : (passes : Applicant → Bool) → first_of (filter passes (candidates asked ranked)) ≡ first_of (filter passes (candidates asked applicants))
     of_first passes =

@@ -2,11 +2,7 @@
 use Rattle.std.specs.Prelude.{◌≡◌, ◌⊎◌, ℕ, ◌&&◌, ◌||◌, not, Bool, true, false, Option, Some, None, List, All, Contains}
 use Rattle.rent_table.specs.Admission.{suits}
 use Rattle.wait_list.specs.declared.{applicant.Applicant.Applicant, ask.Candidate.Candidate}
-use Rattle.wait_list.specs.Next.{Asked, is_within_limit, is_extremely_low, is_candidate, stands_behind, next_candidate}
-
--- the applicant needs accessible features, and the unit has them
-abbrev pub needs : Asked → Applicant → Bool
-needs asked applicant = asked.unit.accessible && applicant.accessible
+use Rattle.wait_list.specs.Next.{Asked, needs, is_within_limit, is_extremely_low, is_candidate, stands_behind, next_candidate}
 
 -- an extremely low-income applicant is wanted, and the first is one and the second isn't
 abbrev pub is_preferred : Asked → Applicant → Applicant → Bool
@@ -20,7 +16,7 @@ goes_before asked applicant other =
 
 -- no mover needs features that the unit has
 abbrev pub NoMoverNeeds : Asked → Type 0
-NoMoverNeeds asked = asked.unit.accessible ≡ true → asked.needing ≡ None
+NoMoverNeeds asked = asked.needing ≡ None
 
 -- nor does an applicant who could be admitted
 abbrev pub NoApplicantNeeds : Asked → List Applicant → Type 0
@@ -41,7 +37,7 @@ pub record ApplicantIsFirst (asked : Asked) (applicants : List Applicant) (next 
 -- nobody needs them.
 abbrev pub HouseholdIsFirst : Asked → List Applicant → ℕ → Type 0
 HouseholdIsFirst asked applicants household =
-    ((asked.unit.accessible ≡ true) × (asked.needing ≡ Some household))
+    (asked.needing ≡ Some household)
     ⊎ ((asked.other ≡ Some household) × NoMoverNeeds asked × NoApplicantNeeds asked applicants)
 
 -- Rightly nobody is next: there is no mover, and nobody on the list could be admitted.

@@ -1,13 +1,13 @@
 -- Who is next for a unit.
-use Rattle.std.specs.Prelude.{ℕ, ◌&&◌, not, nat_le, if◌then◌else◌, Bool, true, false, Option, None, List, [], ◌∷◌, filter, fold}
+use Rattle.std.specs.Prelude.{ℕ, ◌&&◌, not, nat_le, if◌then◌else◌, Bool, false, Option, None, List, [], ◌∷◌, filter, fold}
 use Rattle.std.specs.Option.{option_map, option_map_or, option_or, option_copied}
 use Rattle.rent_table.specs.{declared.plan.Plan.Plan, declared.rows.Unit.Unit as UnitRow, declared.rows.LimitRow.LimitRow, Admission.suits, Admission.admission_limit, Admission.has_extremely_low_income}
 use Rattle.row_choice.specs.Latest.{comes_before, latest}
 use Rattle.wait_list.specs.declared.{applicant.Applicant.Applicant, ask.Ask.Ask, ask.Candidate.Candidate}
 
 -- What is asked about a unit on a day: the plan, the income limits that stand for the day, whether an extremely
--- low-income applicant is wanted, and the households that would move there. For an accessible unit `needing` is the
--- first mover who needs its features, and `other` the first other mover; for another unit `other` is the first mover.
+-- low-income applicant is wanted, and of the households that would move there the first that needs accessible features
+-- which the unit has, and the first other one.
 pub record Asked : Type 0 where
   pub unit : UnitRow
   pub plan : Plan
@@ -26,6 +26,10 @@ asked_by ask = record {
   needing = ask.needing;
   other = ask.other;
 }
+
+-- the applicant needs accessible features, and the unit has them
+abbrev pub needs : Asked → Applicant → Bool
+needs asked applicant = asked.unit.accessible && applicant.accessible
 
 -- limits stand for the day, and the applicant's annual income is at most the admission limit of its size (24 CFR 5.653)
 abbrev pub is_within_limit : Asked → Applicant → Bool
@@ -64,18 +68,6 @@ abbrev pub next_applicant : Asked → (Applicant → Bool) → List Applicant �
 next_applicant asked is_of_group applicants =
     option_map (λ applicant. Candidate.Applicant applicant.number) (next_of asked (filter is_of_group (candidates asked applicants)))
 
--- of those who need accessible features
-abbrev pub next_needing : Asked → List Applicant → Option Candidate
-next_needing asked applicants = next_applicant asked (λ applicant. applicant.accessible) applicants
-
--- of the others
-abbrev pub next_not_needing : Asked → List Applicant → Option Candidate
-next_not_needing asked applicants = next_applicant asked (λ applicant. not applicant.accessible) applicants
-
--- of all
-abbrev pub next_of_all : Asked → List Applicant → Option Candidate
-next_of_all asked applicants = next_applicant asked (λ applicant. true) applicants
-
 -- a household that would move
 abbrev pub mover_of : Option ℕ → Option Candidate
 mover_of household = option_map (λ number. Candidate.Household number) household
@@ -84,9 +76,10 @@ mover_of household = option_map (λ number. Candidate.Household number) househol
 -- (24 CFR 8.27), and movers before applicants (own rule).
 abbrev pub groups : Asked → List Applicant → List (Option Candidate)
 groups asked applicants =
-    if asked.unit.accessible
-    then mover_of asked.needing ∷ next_needing asked applicants ∷ mover_of asked.other ∷ next_not_needing asked applicants ∷ []
-    else mover_of asked.other ∷ next_of_all asked applicants ∷ []
+    mover_of asked.needing
+    ∷ next_applicant asked (needs asked) applicants
+    ∷ mover_of asked.other
+    ∷ next_applicant asked (λ applicant. not (needs asked applicant)) applicants ∷ []
 
 -- the next of the first group that isn't empty
 abbrev pub first_there : List (Option Candidate) → Option Candidate

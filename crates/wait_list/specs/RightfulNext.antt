@@ -26,7 +26,7 @@ IsAhead family other = (family.rank < other.rank) ⊎ ((family.rank ≡ other.ra
 
 -- no mover needs features that the unit has
 abbrev pub NoMoverInNeed : Asked → Type 0
-NoMoverInNeed asked = asked.unit.accessible ≡ true → asked.needing ≡ None
+NoMoverInNeed asked = asked.needing ≡ None
 
 -- nor does an applicant who may be admitted
 abbrev pub NoFamilyInNeed : Asked → List Applicant → Type 0
@@ -52,7 +52,7 @@ pub record FamilyIsNext (targets : Targets) (asked : Asked) (applicants : List A
 -- where nobody is in need of them.
 abbrev pub MoverIsNext : Asked → List Applicant → ℕ → Type 0
 MoverIsNext asked applicants household =
-    ((asked.unit.accessible ≡ true) × (asked.needing ≡ Some household))
+    (asked.needing ≡ Some household)
     ⊎ ((asked.other ≡ Some household) × NoMoverInNeed asked × NoFamilyInNeed asked applicants)
 
 -- rightly nobody is next: there is no mover, and no family on the list may be admitted

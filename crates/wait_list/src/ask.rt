@@ -19,8 +19,8 @@ pub struct Ask<'a> {
     pub limits: Option<&'a LimitRow>,
     /// Whether an extremely low-income applicant is wanted, as `wants_extremely_low` says.
     pub wanted: bool,
-    /// For an accessible unit, the household of the first mover who needs its features, if any. For another unit, none.
+    /// The household of the first mover who needs accessible features that the unit has, if any.
     pub needing: Option<u32>,
-    /// For an accessible unit, the household of the first other mover, if any. For another unit, that of the first mover.
+    /// The household of the first other mover, if any.
     pub other: Option<u32>,
 }

@@ -1,6 +1,6 @@
 //! The one who is next, of applicants in the order in which they stand.
 
-ghost use Rattle.std.specs.Prelude.{◌≡◌, ◌≤◌, ◌&&◌, filter, find};
+ghost use Rattle.std.specs.Prelude.{◌≡◌, ◌≤◌, ◌&&◌, false, None, filter, find};
 ghost use Rattle.std.specs.Option.{option_copied, option_or};
 ghost use Rattle.wait_list.specs.Waiting.{HaveSizes, IsSize};
 ghost use Rattle.wait_list.specs.Next.{asked_by, is_within_limit, is_extremely_low, is_candidate, candidates, stands_behind, first_of, next_of, next_applicant, mover_of, next_candidate};
@@ -25,6 +25,7 @@ pub fn next_among(ranked: &[Applicant], ask: &Ask) -> Option<Candidate>
     requires bedrooms { ask.now.unit.now.bedrooms ≤ 5 }
     requires sizes { HaveSizes ranked.now }
     requires in_order { StandInOrder ranked.now }
+    requires needing { ask.now.unit.now.accessible ≡ false → ask.now.needing ≡ None }
     ensures { result ≡ next_candidate (asked_by ask.now) ranked.now }
 {
     if !ask.unit.accessible {

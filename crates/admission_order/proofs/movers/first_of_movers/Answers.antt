@@ -7,4 +7,4 @@ use Rattle.admission_order.proofs.movers.first_of_movers.Goals as goal
 pub loop-place-preserved : goal.loop-place-preserved
 loop-place-preserved c =
     let of_household = mover_of c.args.vacancy.now.plan.now c.args.vacancy.now.unit.now c.args.vacancy.now.day c.args.vacancy.now.requests.now c.args.vacancy.now.history.now.households in
-    rw (c.sooner-first.ensures, c.loop-place.invariant, c.mover_of-mover.ensures, movers-more (is_turn c.args.vacancy.now.unit.now.accessible c.args.needing) of_household c.loop-place.place) refl
+    rw (c.sooner-first.ensures, c.loop-place.invariant, c.mover_of-mover.ensures, movers-more (is_turn c.args.vacancy.now.unit.now c.args.needing) of_household c.loop-place.place) refl
