@@ -63,6 +63,10 @@ pub excused_on : (a b c : State) (e : Error) → b.faults ≤ c.faults → IsExc
 excused_on a b c e later (inl memory) = inl memory
 excused_on a b c e later (inr fault) = inr (omega (arith, fault, later))
 
+pub excused_from : (a b c : State) (e : Error) → a.faults ≤ b.faults → IsExcused b c e → IsExcused a c e
+excused_from a b c e sooner (inl memory) = inl memory
+excused_from a b c e sooner (inr fault) = inr (omega (arith, fault, sooner))
+
 -- what stops a statement on an open file stopped those before it too
 pub excused_then : (a b c : State) (P Q : Trees → Type 0) (e : Error) → Survives a b P → Survives b c Q → HasCleanDisk b → IsTrue a.is_open → (IsTrue b.is_open → IsExcused b c e) → IsExcused a c e
 excused_then a b c P Q e first second clean is_open why = elim (first.closes clean is_open) [

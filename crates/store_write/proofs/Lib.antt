@@ -1,5 +1,6 @@
 mod Results
 mod Filled
-mod Causes
+pub mod Causes
 mod Transactions
 mod Made
+mod Makeable
