@@ -1,5 +1,5 @@
 -- Whom admissions and transfers take.
-use Rattle.std.specs.Prelude.{◌≡◌, ⊤, ℕ, Some}
+use Rattle.std.specs.Prelude.{◌≡◌, ⊤, ℕ, false, Some, None}
 use Rattle.rent_table.specs.{declared.plan.Plan.Plan, declared.rows.Unit.Unit as UnitRow, Table.unit_at, Table.limits_on}
 use Rattle.wait_list.specs.{declared.ask.Candidate.Candidate, Next.next_candidate, RightfulNext.IsRightAnswer}
 use Rattle.book_rows.specs.{declared.rows.Batch.Batch, declared.command.Command.Command, declared.household.HouseholdChange.HouseholdChange, Book.Book}
@@ -15,6 +15,8 @@ pub record IsNextFor (known : Known) (unit day : ℕ) (candidate : Candidate) : 
   pub is_next : next_candidate (asked_of plan row day (limits_on known.limits day) known.requests known.households) known.waiting ≡ Some candidate
   pub rightly : IsRightAnswer (targets_of plan day known.households) (asked_of plan row day (limits_on known.limits day) known.requests known.households)
       known.waiting (Some candidate)
+  -- no household would move for features that the unit hasn't
+  pub none_in_need : row.accessible ≡ false → (asked_of plan row day (limits_on known.limits day) known.requests known.households).needing ≡ None
 
 -- an admission takes the applicant, and a transfer the household, that is next for its unit on its first day
 abbrev pub TakesNextBy : Known → ℕ → HouseholdChange → Type 0

@@ -1,10 +1,13 @@
 -- Admissions and transfers take the next candidate.
-use Rattle.office_laws.proofs.Words.{nat_tests, common_steps, arith, Refusal, ◌≡◌, refl, ℕ, false, Option, Some, None, is_some, if◌then◌else◌, Plan, unit_at, Command, Known, known_of, HouseholdChange, MoveIn, Passed, is_plan, none_such, are_there, matter_of, changing, option_and_then, Candidate}
-use Rattle.std.proofs.Common.{subst}
+use Rattle.office_laws.proofs.Words.{nat_tests, common_steps, arith, Refusal, ◌≡◌, refl, ℕ, false, Option, Some, None, is_some, if◌then◌else◌, Plan, unit_at, Command, Known, known_of, filter_none, HouseholdChange, MoveIn, Passed, is_plan, none_such, are_there, matter_of, changing, option_and_then, Candidate}
+use Rattle.std.proofs.Common.{List, ap, subst}
+use Rattle.std.specs.Prelude.{filter}
+use Rattle.rent_table.specs.declared.rows.Unit.{Unit as UnitRow}
 use Rattle.rent_table.specs.Table.{limits_on}
 use Rattle.wait_list.specs.{Next.Asked, Next.next_candidate, RightfulNext.IsRightAnswer}
 use Rattle.wait_list.proofs.PlainNext.{next_is_plain}
-use Rattle.office_step.specs.Candidates.{asked_of, targets_of}
+use Rattle.office_step.specs.Candidates.{asked_of, targets_of, in_need, first_mover, movers_of}
+use Rattle.office_step.specs.declared.known.Mover.{Mover}
 use Rattle.office_step.specs.declared.refusal.Named.{Named}
 use Rattle.office_step.specs.Against.{moving_on, next_for, other_next, not_next}
 use Rattle.office_laws.specs.Taken.{TakesNextBy, IsNextFor, TakesNext}
@@ -18,6 +21,10 @@ some_there None why none = absurd (cc)
 
 is_the_next : (next : Option Candidate) (asked : Candidate) → other_next next asked ≡ None → next ≡ Some asked
 is_the_next next asked none = grind (arith, common_steps, nat_tests, none)
+
+-- a unit without such features has nobody who needs them
+no_need : (unit : UnitRow) (movers : List Mover) → unit.accessible ≡ false → first_mover (filter (in_need unit) movers) ≡ None
+no_need unit movers is = ap first_mover (filter_none (in_need unit) movers (λ k d within. rw is refl))
 
 -- who moves is next
 is_taken : (known : Known) (mover : MoveIn) → (plan : Plan) × (known.plan ≡ Some plan) → none_such Named.Unit (λ unit. is_some (unit_at known.units unit)) (Some mover.unit) ≡ None →
@@ -35,6 +42,7 @@ is_taken known mover (plan, is_plan) there none =
       is_next = next;
       rightly = subst (IsRightAnswer (targets_of plan mover.from known.households) asked known.waiting) next
           (next_is_plain (targets_of plan mover.from known.households) asked known.waiting refl);
+      none_in_need = no_need unit.0 (movers_of plan unit.0 mover.from known.requests known.households);
     }
 
 takes_next : (known : Known) (most today : ℕ) (asked : Command) → (is_plan asked ≡ false → (plan : Plan) × (known.plan ≡ Some plan)) →
