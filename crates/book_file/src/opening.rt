@@ -1,6 +1,7 @@
 //! The file of a book is opened at a path.
 
-ghost use Rattle.std.specs.Prelude.{◌≡◌, ◌⊎◌, true, IfOk, IfErr, Err};
+ghost use Rattle.std.specs.Prelude.{◌≡◌, ◌⊎◌, true, false, IfOk, IfErr, Err};
+ghost use Rattle.sqlite_std_file.specs.File.{IsFresh};
 ghost use Rattle.book_file.specs.Opening.{HoldsFewPages, cannot_open, names_no_file, no_memory};
 
 use crate::statuses::error_of;
@@ -36,6 +37,8 @@ pub fn open_book(rt: &HostRuntime, path: &str) -> Result<(Files<File>, Options),
     ensures no_file { names_no_file path.now ≡ true → result ≡ Err cannot_open }
     ensures why { IfErr result (λ error. (error ≡ cannot_open) ⊎ (error ≡ no_memory)) }
     ensures few { IfOk result (λ opened. HoldsFewPages opened.1) }
+    // They are the log and the file, and nothing was done with them yet.
+    ensures fresh { IfOk result (λ opened. IsFresh true opened.0.log × IsFresh false opened.0.db) }
 {
     if names_no_file(path) {
         return Err(Error::SqliteFailure(ErrorCode::CannotOpen));
