@@ -11,19 +11,19 @@ use plain_data::{NoMemory, Text};
 use std::alloc::Global;
 
 /// The text of a command: compact JSON, with the members of each object in the byte order of their names.
-pub fn body_of_command(alloc: Global, asked: &Command) -> Result<Text, NoMemory>
-    ensures body { IfOk result (λ body. body ≡ body_of asked.now) }
-    ensures read_again { IfOk result (λ body. is_fit asked.now ≡ true → command_in body ≡ Some asked.now) }
+pub fn body_of_command(alloc: Global, command: &Command) -> Result<Text, NoMemory>
+    ensures body { IfOk result (λ body. body ≡ body_of command.now) }
+    ensures read_again { IfOk result (λ body. is_fit command.now ≡ true → command_in body ≡ Some command.now) }
 {
-    held_command(asked);
-    let body = text_of_command(alloc, asked)?;
+    held_command(command);
+    let body = text_of_command(alloc, command)?;
     Ok(body)
 }
 
-fn text_of_command(alloc: Global, asked: &Command) -> Result<Text, NoMemory>
-    ensures { IfOk result (λ body. body ≡ body_of asked.now) }
+fn text_of_command(alloc: Global, command: &Command) -> Result<Text, NoMemory>
+    ensures { IfOk result (λ body. body ≡ body_of command.now) }
 {
-    let mut bytes = exact_of(alloc, asked)?.text(alloc)?.into_bytes();
+    let mut bytes = exact_of(alloc, command)?.text(alloc)?.into_bytes();
     // A book holds its texts for good, and a writer leaves up to as much room again.
     bytes.shrink_to_fit();
     Ok(Text::new(bytes))

@@ -15,17 +15,17 @@ use std::alloc::Global;
 
 /// Writes the command as a value.
 #[tactic(auto, unfolding(command_forms::specs::Commands::command_members))]
-pub fn exact_of(alloc: Global, asked: &Command) -> Result<Exact, NoMemory>
-    ensures { IfOk result (λ exact. view exact.value ≡ command_data asked.now) }
+pub fn exact_of(alloc: Global, command: &Command) -> Result<Exact, NoMemory>
+    ensures { IfOk result (λ exact. view exact.value ≡ command_data command.now) }
 {
-    let members = members_of(alloc, asked)?.with("kind", &word_of(asked))?;
+    let members = members_of(alloc, command)?.with("kind", &word_of(command))?;
     Ok(members.done())
 }
 
-fn members_of(alloc: Global, asked: &Command) -> Result<Members, NoMemory>
-    ensures { IfOk result (λ all. members_view all.members.entries ≡ field_members asked.now) }
+fn members_of(alloc: Global, command: &Command) -> Result<Members, NoMemory>
+    ensures { IfOk result (λ all. members_view all.members.entries ≡ field_members command.now) }
 {
-    match asked {
+    match command {
         Command::Plan(plan) => plan_members(alloc, plan),
         Command::Unit(unit) => unit_members(alloc, unit),
         Command::Rents(rents) => rents_members(alloc, rents),
@@ -41,10 +41,10 @@ fn members_of(alloc: Global, asked: &Command) -> Result<Members, NoMemory>
 }
 
 /// The word for the kind of a command.
-fn word_of(asked: &Command) -> &'static str
-    ensures { result.now ≡ word_of asked.now }
+fn word_of(command: &Command) -> &'static str
+    ensures { result.now ≡ word_of command.now }
 {
-    match asked {
+    match command {
         Command::Plan(_) => "plan",
         Command::Unit(_) => "unit",
         Command::Rents(_) => "rents",

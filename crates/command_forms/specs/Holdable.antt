@@ -5,13 +5,14 @@ use Rattle.std.specs.Prelude.{ℕ, ◌<◌, ◌≤◌, ◌^◌, ⊤}
 use Rattle.facts_core.specs.Facts.{FactsFit}
 use Rattle.record_history.specs.declared.records.Dates.{Dates}
 use Rattle.book_rows.specs.declared.{household.HouseholdChange.HouseholdChange, command.Command.Command}
+use Rattle.days_core.specs.Calendar.{last_day}
 
 -- a number of an applicant, a household, a unit or a record
 abbrev pub IsNumber : ℕ → Type 0
 IsNumber number = number < 2 ^ 32
 
 abbrev pub IsDay : ℕ → Type 0
-IsDay day = day ≤ 116877
+IsDay day = day ≤ last_day
 
 abbrev pub IsMonth : ℕ → Type 0
 IsMonth month = month ≤ 3839

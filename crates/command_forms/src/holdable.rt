@@ -13,10 +13,10 @@ use facts_core::{Asset, Disposal, Facts, Income, Member};
 use record_history::Dates;
 
 /// A command that a program holds is one that it can hold.
-pub fn held_command(asked: &Command)
-    ensures { IsHoldable asked.now }
+pub fn held_command(command: &Command)
+    ensures { IsHoldable command.now }
 {
-    match asked {
+    match command {
         Command::Plan(_) => {}
         Command::Unit(_) => {}
         Command::Rents(rents) => held_day(rents.from),
@@ -125,7 +125,9 @@ fn held_rows<T: Row>(rows: &[T])
 }
 
 impl Row for Member {
-    ghost fits = { λ person. person.born ≤ 116877 };
+    ghost use Rattle.days_core.specs.Calendar.{last_day};
+
+    ghost fits = { λ person. person.born ≤ last_day };
 
     fn held(&self) {
         held_day(self.born);

@@ -62,11 +62,11 @@ fn own_command(alloc: Global, body: &[u8]) -> Result<Command, BodyFault>
 }
 
 /// Why the text isn't the command's own, if it isn't.
-fn fault_of_text(alloc: Global, asked: &Command, body: &[u8]) -> Option<BodyFault>
-    ensures own { result ≡ None → body_of asked.now ≡ body.now }
-    ensures bad_body { result ≡ Some BodyFault.BadBody → body_of asked.now ≢ body.now }
+fn fault_of_text(alloc: Global, command: &Command, body: &[u8]) -> Option<BodyFault>
+    ensures own { result ≡ None → body_of command.now ≡ body.now }
+    ensures bad_body { result ≡ Some BodyFault.BadBody → body_of command.now ≢ body.now }
 {
-    match body_of_command(alloc, asked) {
+    match body_of_command(alloc, command) {
         Ok(own) => {
             if own.as_bytes() == body {
                 None

@@ -54,10 +54,10 @@ fn fields_of(alloc: Global, value: &Value, kind: Kind) -> Result<Command, FormFa
 
 /// The names of a command's members, in their byte order.
 #[tactic(auto, unfolding(command_forms::specs::Commands::command_members, command_forms::specs::Property::plan_members, command_forms::specs::Property::unit_members, command_forms::specs::Property::rents_members, command_forms::specs::Property::limits_members, command_forms::specs::Applicants::apply_members, command_forms::specs::Applicants::remove_members, command_forms::specs::Applicants::start_members, command_forms::specs::Applicants::admit_members, command_forms::specs::Changes::ask_transfer_members))]
-fn names_of(asked: &Command) -> &'static [&'static str]
-    ensures { map (λ name. name.now) result.now ≡ names_of (command_members asked.now) }
+fn names_of(command: &Command) -> &'static [&'static str]
+    ensures { map (λ name. name.now) result.now ≡ names_of (command_members command.now) }
 {
-    match asked {
+    match command {
         Command::Plan(_) => &[
             "bounds",
             "early",

@@ -3,6 +3,9 @@
 use jiff_core::civil::Date;
 use std::marker::Model;
 
+/// The number of 2199-12-31.
+pub const LAST_DAY: u32 = 116_877;
+
 /// How many days lie between the first date of `jiff` and 1880-01-01.
 const DAYS_BEFORE: u32 = 4_338_715;
 
@@ -16,12 +19,13 @@ pub struct Day {
 
 impl Model for Day {
     ghost use Rattle.std.specs.Prelude.{ℕ, ◌≤◌};
+    ghost use Rattle.days_core.specs.Calendar.{last_day};
 
     ghost Value = { ℕ };
 
     ghost view = { λ day. day.number };
 
-    ghost invariant = { λ day. day.number ≤ 116877 };
+    ghost invariant = { λ day. day.number ≤ last_day };
 
     ghost inverse = { λ number. record { number = number } };
 }
@@ -30,13 +34,13 @@ impl Day {
     ghost use Rattle.std.specs.Prelude.{◌≡◌, ◌≤◌, ◌↔◌, pos, unsigned_abs, true, IsSome, IfSome};
     ghost use Rattle.std.specs.Option.{SomeIff};
     ghost use Rattle.jiff_core.specs.Calendar.{IsBetween};
-    ghost use Rattle.days_core.specs.Calendar.{year_of, month_in_year, day_in_month, day_number, is_date};
+    ghost use Rattle.days_core.specs.Calendar.{year_of, month_in_year, day_in_month, day_number, is_date, last_day};
 
     /// The day with that number, counted from 0 for 1880-01-01, and None past 2199-12-31.
     pub fn from_number(number: u32) -> Option<Day>
-        ensures { SomeIff result (number ≤ 116877) number }
+        ensures { SomeIff result (number ≤ last_day) number }
     {
-        if number <= 116_877 {
+        if number <= LAST_DAY {
             Some(Day { number })
         } else {
             None
@@ -46,7 +50,7 @@ impl Day {
     /// The number of days since 1880-01-01.
     pub fn number(self) -> u32
         ensures value { result ≡ self }
-        ensures in_range { result ≤ 116877 }
+        ensures in_range { result ≤ last_day }
     {
         self.number
     }
@@ -78,7 +82,7 @@ impl Day {
         ensures year { result.0 ≡ year_of self }
         ensures month { result.1 ≡ month_in_year self }
         ensures day { result.2 ≡ day_in_month self }
-        ensures in_range { self ≤ 116877 }
+        ensures in_range { self ≤ last_day }
         ensures is_date { is_date result.0 result.1 result.2 ≡ true }
     {
         let date = self.to_date();

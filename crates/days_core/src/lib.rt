@@ -19,7 +19,8 @@ pub use month::Month;
 pub use months::{days_in, first_of, last_of, month_of, plus_months};
 pub use moves::{plus_days, years_before};
 pub use office_days::{
-    FIRST_OFFICE_MONTH, LAST_OFFICE_DAY, LAST_OFFICE_MONTH, office_days_end_with_2099,
+    FIRST_OFFICE_DAY, FIRST_OFFICE_MONTH, LAST_OFFICE_DAY, LAST_OFFICE_MONTH,
+    office_days_end_with_2099,
 };
 pub use rents::Rents;
 pub use rounding::round_half_up;

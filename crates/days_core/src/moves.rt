@@ -1,17 +1,18 @@
 //! Days before and after a day.
 
 ghost use Rattle.std.specs.Prelude.{◌≡◌};
-ghost use Rattle.days_core.specs.Calendar.{moved, years_before};
+ghost use Rattle.days_core.specs.Calendar.{moved, years_before, last_day};
 
 use crate::Day;
 use crate::civil::{day_with, days_in_month};
+use crate::day::LAST_DAY;
 
 /// The day so many days later, or earlier for a negative count; None outside 1880-01-01 to 2199-12-31.
 pub fn plus_days(day: Day, count: i32) -> Option<Day>
-    ensures { result ≡ moved 116877 day count }
+    ensures { result ≡ moved last_day day count }
 {
     let number = i64::from(day.number()) + i64::from(count);
-    if number < 0 || number > 116_877 {
+    if number < 0 || number > i64::from(LAST_DAY) {
         return None;
     }
     Day::from_number(number as u32)

@@ -3,6 +3,7 @@
 ghost use Rattle.std.specs.Prelude.{◌≡◌, ◌≢◌, ℕ, ◌<◌, ◌≤◌, Some, IfOk, OnErr, IfSome};
 ghost use Rattle.std.specs.Result.{result_ok};
 ghost use Rattle.days_core.specs.DayText.{day_text, day_from, day_named, month_text, month_from, month_named, two_digits_from, digit_from};
+ghost use Rattle.days_core.specs.Calendar.{last_day};
 
 use crate::civil::{day_with, is_date};
 use crate::{Day, Month};
@@ -16,7 +17,7 @@ pub fn day_of_text(text: &str) -> Result<Day, BadDay>
     ensures exact { result_ok result ≡ day_from text.now }
     // It is the day's own text, and no other text has a day.
     ensures written { IfOk result (λ day. text.now ≡ day_text day) }
-    ensures refused { OnErr result ((day : ℕ) → day ≤ 116877 → text.now ≢ day_text day) }
+    ensures refused { OnErr result ((day : ℕ) → day ≤ last_day → text.now ≢ day_text day) }
 {
     day_of_bytes(text.as_bytes()).ok_or(BadDay)
 }
@@ -102,6 +103,6 @@ fn digit(byte: u8) -> Option<u32>
 
 /// Every day and every month of the calendar is read again from its own text.
 pub fn texts_read_back()
-    ensures days { (day : ℕ) → day ≤ 116877 → day_from (day_text day) ≡ Some day }
+    ensures days { (day : ℕ) → day ≤ last_day → day_from (day_text day) ≡ Some day }
     ensures months { (month : ℕ) → month ≤ 3839 → month_from (month_text month) ≡ Some month }
 {}

@@ -6,6 +6,7 @@ use Rattle.serde_json.specs.Data.{Data, boolean, string, object, Members, member
 use Rattle.json_form.specs.Form.{◌>>=◌, bool_at, u32_at, day_at, one_of, is_object_at, field, closed_by, array_at}
 use Rattle.json_form.specs.Written.{number_data, day_data, array_data}
 use Rattle.facts_core.specs.declared.{members.Relation.Relation, members.Member.Member, incomes.IncomeKind.IncomeKind, incomes.Income.Income, property.Asset.Asset, property.Disposal.Disposal, facts.Facts.Facts}
+use Rattle.days_core.specs.Calendar.{last_day}
 
 -- ---- members
 
@@ -162,12 +163,12 @@ pub record AssetFits (asset : Asset) : Type 0 where
   pub income : asset.income < 2 ^ 32
 
 pub record DisposalFits (disposal : Disposal) : Type 0 where
-  pub day : disposal.day ≤ 116877
+  pub day : disposal.day ≤ last_day
   pub value : disposal.value < 2 ^ 32
   pub received : disposal.received < 2 ^ 32
 
 pub record FactsFit (facts : Facts) : Type 0 where
-  pub members : All (λ person. person.born ≤ 116877) facts.members
+  pub members : All (λ person. person.born ≤ last_day) facts.members
   pub incomes : All IncomeFits facts.incomes
   pub assets : All AssetFits facts.assets
   pub disposals : All DisposalFits facts.disposals

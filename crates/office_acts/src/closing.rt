@@ -101,12 +101,16 @@ pub fn overdue(about: &Matter) -> Option<Refusal>
 }
 
 /// The lines that the next act makes. Only a closing makes some.
-pub fn lines_of(alloc: Global, register: &Register, asked: &Command) -> Result<Vec<Line>, NoMemory>
-    requires { ClosesBy last_office_month asked.now }
-    ensures lines { IfOk result (λ lines. lines.items ≡ lines_of register.now.known asked.now) }
+pub fn lines_of(
+    alloc: Global,
+    register: &Register,
+    command: &Command,
+) -> Result<Vec<Line>, NoMemory>
+    requires { ClosesBy last_office_month command.now }
+    ensures lines { IfOk result (λ lines. lines.items ≡ lines_of register.now.known command.now) }
     ensures few { IfOk result (λ lines. length lines.items < 2 ^ 32) }
 {
-    match asked {
+    match command {
         Command::Close(close) => lines_of_close(alloc, register, close),
         _ => Ok(Vec::new(alloc)),
     }

@@ -11,6 +11,7 @@ ghost use Rattle.office_step.specs.Refusals.{first_of};
 ghost use Rattle.office_step.specs.Against.{tests_on, refused_by};
 ghost use Rattle.office_acts.specs.Judged.{judged_by, IsOfCommand, IsMade, IsPlaced, ClosesBy};
 ghost use Rattle.office_acts.specs.Matter.{matter_by};
+ghost use Rattle.record_history.specs.Limits.{most_acts};
 
 use crate::admission::{ineligible, no_assistance, not_next};
 use crate::closing::{overdue, rent_due, wrong_month};
@@ -44,33 +45,33 @@ pub fn judge(
     register: &Register,
     most: u32,
     today: Day,
-    asked: &Command,
+    command: &Command,
 ) -> Result<Option<Record>, Refusal>
-    requires fit { is_fit asked.now ≡ true }
+    requires fit { is_fit command.now ≡ true }
     requires today { today ≤ last_office_day }
-    requires most { most ≤ 100000 }
-    ensures judged { result ≡ judged_by (refused_by register.now.known most today asked.now) (record_of register.now.known asked.now) }
-    ensures accepted { IfOk result (λ made. IsAccepted register.now.known asked.now made) }
+    requires most { most ≤ most_acts }
+    ensures judged { result ≡ judged_by (refused_by register.now.known most today command.now) (record_of register.now.known command.now) }
+    ensures accepted { IfOk result (λ made. IsAccepted register.now.known command.now made) }
     ensures placed { IfOk result (λ made. IfSome made (IsPlaced register.now.known)) }
     ensures within { IfOk result (λ made. IfSome made IsWithin) }
     ensures dates { IfOk result (λ made. IfSome made HasDates) }
-    ensures month { IsOk result → ClosesBy last_office_month asked.now }
+    ensures month { IsOk result → ClosesBy last_office_month command.now }
 {
-    judge_any(register, most, today, asked)
+    judge_any(register, most, today, command)
 }
 
 fn judge_any(
     register: &Register,
     most: u32,
     today: Day,
-    asked: &Command,
+    command: &Command,
 ) -> Result<Option<Record>, Refusal>
     requires { today ≤ last_office_day }
-    ensures judged { result ≡ judged_by (refused_by register.now.known most today asked.now) (record_of register.now.known asked.now) }
+    ensures judged { result ≡ judged_by (refused_by register.now.known most today command.now) (record_of register.now.known command.now) }
     ensures made { IfOk result (λ made. IfSome made (IsMade register.now.known)) }
-    ensures month { IsOk result → ClosesBy last_office_month asked.now }
+    ensures month { IsOk result → ClosesBy last_office_month command.now }
 {
-    let about = matter_of(register, asked);
+    let about = matter_of(register, command);
     // The check of loans refuses a type that the function doesn't name.
     let (_name, _facts): (Option<&Text>, Option<&Facts>) = (about.name, about.facts);
     judge_matter(&about, most, today)

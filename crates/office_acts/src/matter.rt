@@ -1,11 +1,12 @@
 //! What a command is about: the one place of a judgement that asks which command it is.
 
-ghost use Rattle.std.specs.Prelude.{◌≡◌, ◌+◌, ◌<◌};
+ghost use Rattle.std.specs.Prelude.{◌≡◌, ◌+◌, ◌<◌, Some};
 ghost use Rattle.days_core.specs.OfficeDays.{last_office_day};
+ghost use Rattle.book_rows.specs.declared.{command.Command.Command, household.HouseholdChange.HouseholdChange};
 ghost use Rattle.office_acts.specs.Matter.{matter_by};
-ghost use Rattle.office_step.specs.Matter.{from_facts, carried, quiet, recording, resumed_dates, move_in, said_in, matter_of};
+ghost use Rattle.office_step.specs.Matter.{from_facts, carried, quiet, recording, resumed_dates, move_in, said_in, said_by, matter_of};
 
-use book_rows::{Command, HouseholdChange};
+use book_rows::{AdmitAct, Command, HouseholdChange, TransferAct};
 use days_core::{Day, Month};
 use facts_core::Facts;
 use office_register::Register;
@@ -39,11 +40,11 @@ pub struct Matter<'a> {
 }
 
 /// What the command is about.
-pub fn matter_of<'a>(register: &'a Register, asked: &'a Command) -> Matter<'a>
-    ensures { matter_by result ≡ matter_of register.now.known asked.now }
+pub fn matter_of<'a>(register: &'a Register, command: &'a Command) -> Matter<'a>
+    ensures { matter_by result ≡ matter_of register.now.known command.now }
 {
     let quiet = quiet(register);
-    match asked {
+    match command {
         Command::Plan(_) => Matter {
             gives_plan: true,
             ..quiet
@@ -52,40 +53,18 @@ pub fn matter_of<'a>(register: &'a Register, asked: &'a Command) -> Matter<'a>
             name: Some(&unit.name),
             ..quiet
         },
-        Command::Rents(rents) => Matter {
-            sets_from: Some(rents.from),
-            ..quiet
-        },
-        Command::Limits(limits) => Matter {
-            sets_from: Some(limits.from),
-            ..quiet
-        },
+        Command::Rents(rents) => setting(register, rents.from),
+        Command::Limits(limits) => setting(register, limits.from),
         Command::Apply(_) => quiet,
         Command::Remove(remove) => Matter {
             applicant: Some(remove.applicant),
             ..quiet
         },
         Command::Start(start) => Matter {
-            kind: Some(Kind::IC),
-            from: Some(start.from),
-            facts: Some(&start.facts),
             unit: Some(start.unit),
-            ..quiet
+            ..certifying(register, Kind::IC, start.from, &start.facts)
         },
-        Command::Admit(admit) => Matter {
-            kind: Some(Kind::MI),
-            from: Some(admit.from),
-            facts: Some(&admit.facts),
-            applicant: Some(admit.applicant),
-            unit: Some(admit.unit),
-            moves: move_in(
-                Candidate::Applicant(admit.applicant),
-                admit.unit,
-                admit.from,
-            ),
-            begins: true,
-            ..quiet
-        },
+        Command::Admit(admit) => admitting(register, admit),
         Command::AskTransfer(ask) => Matter {
             household: Some(ask.household),
             ..quiet
@@ -126,15 +105,7 @@ fn change_of<'a>(register: &'a Register, household: u32, change: &'a HouseholdCh
             facts: Some(&correct.facts),
             ..quiet(register)
         },
-        HouseholdChange::Transfer(transfer) => Matter {
-            unit: Some(transfer.unit),
-            moves: move_in(
-                Candidate::Household(household),
-                transfer.unit,
-                transfer.from,
-            ),
-            ..carrying(register, Kind::UT, transfer.from)
-        },
+        HouseholdChange::Transfer(transfer) => transferring(register, household, *transfer),
         HouseholdChange::MoveOut(move_out) => Matter {
             kind: Some(Kind::MO),
             last: Some(move_out.last),
@@ -150,6 +121,42 @@ fn change_of<'a>(register: &'a Register, household: u32, change: &'a HouseholdCh
             target: Some(withdraw.target),
             ..quiet(register)
         },
+    }
+}
+
+/// One that sets rents or limits from a day on.
+fn setting(register: &Register, from: Day) -> Matter
+    ensures { matter_by result ≡ record (quiet register.now.known) { sets_from = Some from } }
+{
+    Matter {
+        sets_from: Some(from),
+        ..quiet(register)
+    }
+}
+
+/// An admission.
+fn admitting<'a>(register: &'a Register, admit: &'a AdmitAct) -> Matter<'a>
+    ensures { matter_by result ≡ said_by register.now.known (Command.Admit admit.now) }
+{
+    let candidate = Candidate::Applicant(admit.applicant);
+    Matter {
+        applicant: Some(admit.applicant),
+        unit: Some(admit.unit),
+        moves: move_in(candidate, admit.unit, admit.from),
+        begins: true,
+        ..certifying(register, Kind::MI, admit.from, &admit.facts)
+    }
+}
+
+/// A transfer of the household.
+fn transferring(register: &Register, household: u32, transfer: TransferAct) -> Matter
+    ensures { matter_by result ≡ said_in register.now.known household (HouseholdChange.Transfer transfer) }
+{
+    let candidate = Candidate::Household(household);
+    Matter {
+        unit: Some(transfer.unit),
+        moves: move_in(candidate, transfer.unit, transfer.from),
+        ..carrying(register, Kind::UT, transfer.from)
     }
 }
 

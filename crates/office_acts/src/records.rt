@@ -11,6 +11,7 @@ ghost use Rattle.office_step.specs.Made.{heading_in, record_in, rents_in_unit, m
 ghost use Rattle.office_step.specs.Known.{own_in};
 ghost use Rattle.office_acts.specs.Judged.{AreWithin, IsMade, IsReady, HasSize, HasSizeBy};
 ghost use Rattle.office_acts.specs.Matter.{matter_by};
+ghost use Rattle.record_history.specs.Limits.{most_acts};
 
 use crate::matter::Matter;
 use certified_figures::{Figures, figures_carried, figures_of_facts, no_figures};
@@ -92,7 +93,7 @@ fn made_with(register: &Register, heading: &Heading, extremely: bool, figures: &
 
 /// The number of the household's next record.
 fn next_number(history: &History, household: u32) -> u32
-    requires { sum_by length history.now.households ≤ 100000 }
+    requires { sum_by length history.now.households ≤ most_acts }
     ensures { result ≡ newest_number (records_of history.now.households household) + 1 }
 {
     history.newest(household) + 1

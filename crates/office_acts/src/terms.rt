@@ -15,7 +15,7 @@ ghost use Rattle.office_acts.specs.Matter.{matter_by};
 use crate::lookups::target_in;
 use crate::matter::Matter;
 use crate::refusing::refused_unless;
-use days_core::{Day, LAST_OFFICE_DAY, Month};
+use days_core::{Day, FIRST_OFFICE_DAY, LAST_OFFICE_DAY, Month};
 use due_dates::gross_day;
 use facts_core::{Facts, broken_rule};
 use office_refusals::{annual_right, corrected_right, interim_right, resume_right};
@@ -23,9 +23,7 @@ use office_step::{Heading, Refusal, Rightful};
 use record_history::{Dates, Kind, Record};
 use wait_list::Candidate;
 
-/// 2000-01-01 and 2099-12-30.
-const FIRST_DAY: u32 = 43_829;
-
+/// 2099-12-30.
 const LAST_DAY_LIVED: u32 = LAST_OFFICE_DAY - 1;
 
 /// Refused if the facts break a rule on the first day of the record.
@@ -41,7 +39,7 @@ pub fn facts_rule(about: &Matter) -> Option<Refusal>
 pub fn day_range(today: Day, about: &Matter) -> Option<Refusal>
     ensures { result ≡ day_range today (matter_by about.now) }
 {
-    let first = Day::from_number(FIRST_DAY).unwrap();
+    let first = Day::from_number(FIRST_OFFICE_DAY).unwrap();
     let last = Day::from_number(LAST_OFFICE_DAY).unwrap();
     let last_lived = Day::from_number(LAST_DAY_LIVED).unwrap();
     let plan_day = about.register.plan_day();
@@ -56,7 +54,7 @@ fn told_range(today: Day, told: Option<Dates>) -> Option<Refusal>
     ensures { result ≡ option_and_then (λ dates. first_of (told_days today dates)) told }
 {
     let dates = told?;
-    let first = Day::from_number(FIRST_DAY).unwrap();
+    let first = Day::from_number(FIRST_OFFICE_DAY).unwrap();
     stands!(outside(first, today, Some(dates.event)));
     stands!(outside(dates.event, today, Some(dates.notice)));
     outside(dates.notice, today, Some(dates.done))

@@ -1,8 +1,9 @@
 //! Clocks: one that stands still, and the system's.
 
 ghost use Rattle.std.specs.Prelude.{◌≡◌};
+ghost use Rattle.days_core.specs.OfficeDays.{first_office_day};
 
-use days_core::Day;
+use days_core::{Day, FIRST_OFFICE_DAY};
 use jiff::Timestamp;
 use jiff::tz::Offset;
 use std::marker::Model;
@@ -94,7 +95,7 @@ impl<T: time::Clock> Clock for SystemClock<T> {
 }
 
 fn first_of_2000() -> Day
-    ensures { result ≡ 43829 }
+    ensures { result ≡ first_office_day }
 {
-    Day::from_number(43_829).unwrap()
+    Day::from_number(FIRST_OFFICE_DAY).unwrap()
 }

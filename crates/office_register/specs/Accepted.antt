@@ -5,13 +5,14 @@ use Rattle.days_core.specs.OfficeDays.{last_office_day}
 use Rattle.record_history.specs.{declared.records.Record.Record, Records.newest_number, Held.with_record}
 use Rattle.book_rows.specs.{declared.command.Command.Command, Fit.is_fit}
 use Rattle.office_step.specs.{declared.known.Application.Application, Acts.at_number, Known.Known, Known.own_in, After.next_act, Made.record_of, Against.refused_by}
+use Rattle.record_history.specs.Limits.{most_acts}
 
 -- The command is fit, nothing stands against it in an office of at most 100,000 acts on a day up to 2099-12-31, and this
 -- is the record that it makes, if it makes one.
 pub record IsAccepted (known : Known) (asked : Command) (made : Option Record) : Type 0 where
   pub most : ℕ
   pub today : ℕ
-  pub few : most ≤ 100000
+  pub few : most ≤ most_acts
   pub lived : today ≤ last_office_day
   pub fit : is_fit asked ≡ true
   pub free : refused_by known most today asked ≡ None

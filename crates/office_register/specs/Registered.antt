@@ -9,6 +9,7 @@ use Rattle.due_dates.specs.Stale.{is_rent_stale_on, rent_due_day_of}
 use Rattle.record_history.specs.Records.{newest_act}
 use Rattle.office_step.specs.{declared.known.Application.Application, declared.known.Request.Request, declared.known.Closed.Closed, Known.Known, Known.own_in, Households.AreBy, Against.plan_day, Refusals.annual_right}
 use Rattle.office_register.specs.declared.register.Reviewed.{Reviewed}
+use Rattle.record_history.specs.Limits.{most_acts}
 
 -- what is known, for how many more rows of every sort there is room, and for how many more records of each household and,
 -- last, of the one to come
@@ -60,7 +61,7 @@ pub record IsClosing (count : ℕ) (closing : Closed) : Type 0 where
 
 -- what holds of everything that is known
 pub record IsSound (known : Known) : Type 0 where
-  pub count : known.count ≤ 100000
+  pub count : known.count ≤ most_acts
   pub plan : IfSome known.plan (λ plan. is_plan plan ≡ true)
   pub plan_act : is_some known.plan_act ≡ is_some known.plan
   pub units : AreUnits known.count known.units

@@ -76,6 +76,7 @@ impl Register {
     ghost use Rattle.office_step.specs.After.{next_act, known_after};
     ghost use Rattle.office_register.specs.Registered.{HasDates, IsReviewed, EndsBefore, rent_due_from};
     ghost use Rattle.office_register.specs.Accepted.{IsAccepted, IsNext, with_household, with_further};
+    ghost use Rattle.record_history.specs.Limits.{most_acts};
 
     pub fn new(alloc: Global) -> Result<Register, NoMemory>
         ensures { IfOk result (λ register. register.known ≡ known_of empty_book) }
@@ -99,7 +100,7 @@ impl Register {
     /// The number of acts.
     pub fn count(&self) -> u32
         ensures count { result ≡ self.now.known.count }
-        ensures few { result ≤ 100000 }
+        ensures few { result ≤ most_acts }
     {
         self.count
     }
@@ -134,7 +135,7 @@ impl Register {
     /// The number of units.
     pub fn units(&self) -> u32
         ensures units { result ≡ length self.now.known.units }
-        ensures few { result ≤ 100000 }
+        ensures few { result ≤ most_acts }
     {
         self.table.unit_rows().len() as u32
     }
@@ -143,7 +144,7 @@ impl Register {
     pub fn applications(&self) -> &[Application]
         ensures applications { result.now ≡ self.now.known.applications }
         ensures few { length result.now ≤ self.now.known.count }
-        ensures few_acts { self.now.known.count ≤ 100000 }
+        ensures few_acts { self.now.known.count ≤ most_acts }
     {
         &self.applications
     }
@@ -176,8 +177,8 @@ impl Register {
     pub fn history(&self) -> &History
         ensures households { result.now.households ≡ self.now.known.households }
         ensures few { length result.now.households ≤ self.now.known.count }
-        ensures few_households { length result.now.households ≤ 100000 }
-        ensures few_records { sum_by length result.now.households ≤ 100000 }
+        ensures few_households { length result.now.households ≤ most_acts }
+        ensures few_records { sum_by length result.now.households ≤ most_acts }
         ensures dates { All (All HasDates) result.now.households }
     {
         self.tenancies.history()
@@ -250,16 +251,16 @@ impl Register {
 
     /// Knows of one more act, and takes no memory: the one of the command that was asked, the name of the household that it
     /// makes and the record that it makes.
-    pub fn note(&mut self, asked: Command, name: Option<Text>, made: Option<Record>)
+    pub fn note(&mut self, command: Command, name: Option<Text>, made: Option<Record>)
         requires room { 1 ≤ self.old.room }
         requires record_room { IfSome made (λ r. 1 ≤ room_of self.old.record_room r.household) }
-        requires accepted { IsAccepted self.old.known asked made }
+        requires accepted { IsAccepted self.old.known command made }
         requires within { IfSome made IsWithin }
         requires dates { IfSome made HasDates }
-        requires name { name ≡ name_given self.old.known.applications asked }
-        ensures known { self.new.known ≡ known_after self.old.known asked made }
+        requires name { name ≡ name_given self.old.known.applications command }
+        ensures known { self.new.known ≡ known_after self.old.known command made }
     {
-        match asked {
+        match command {
             Command::Plan(plan) => self.note_plan(plan),
             Command::Unit(unit) => self.note_unit(unit),
             Command::Rents(rents) => self.note_rents(rents),
@@ -275,10 +276,10 @@ impl Register {
     }
 
     /// The name of the household that the command makes, if it makes one: its own, or that of the applicant.
-    pub fn name_given(&self, alloc: Global, asked: &Command) -> Result<Option<Text>, NoMemory>
-        ensures { IfOk result (λ name. name ≡ name_given self.now.known.applications asked.now) }
+    pub fn name_given(&self, alloc: Global, command: &Command) -> Result<Option<Text>, NoMemory>
+        ensures { IfOk result (λ name. name ≡ name_given self.now.known.applications command.now) }
     {
-        match asked {
+        match command {
             Command::Start(start) => Ok(Some(copy_of(alloc, &start.name)?)),
             Command::Admit(admit) => Ok(Some(self.applicant_name(alloc, admit.applicant)?)),
             _ => Ok(None),
@@ -340,7 +341,7 @@ impl Register {
 
     /// Goes on to the next act, which nothing but its number is kept of.
     fn pass(&mut self)
-        requires { self.old.known.count < 100000 }
+        requires { self.old.known.count < most_acts }
         ensures known { self.new.known ≡ record self.old.known { count = next_act self.old.known } }
         ensures room { self.new.room ≡ self.old.room }
         ensures record_room { self.new.record_room ≡ self.old.record_room }
@@ -530,7 +531,7 @@ impl Register {
 
     /// Adds the household that comes next, of which this is the first record.
     fn add_household(&mut self, name: Text, held: Record)
-        requires few { self.old.known.count < 100000 }
+        requires few { self.old.known.count < most_acts }
         requires room { 1 ≤ self.old.room }
         requires record_room { 1 ≤ room_of self.old.record_room held.household }
         requires household { held.household ≡ length self.old.known.households + 1 }
@@ -565,7 +566,7 @@ impl Register {
 
     /// Holds the next record of a household that there is.
     fn hold(&mut self, held: Record)
-        requires few { self.old.known.count < 100000 }
+        requires few { self.old.known.count < most_acts }
         requires record_room { 1 ≤ room_of self.old.record_room held.household }
         requires household { held.household ≤ length self.old.known.households }
         requires next { IsNext self.old.known held }

@@ -4,7 +4,7 @@ use Rattle.std.specs.Prelude.{option_and_then, IfSome, All, unwrap_or}
 use Rattle.std.specs.Option.{option_map, option_or}
 use Rattle.std.proofs.lemmas.Bool.{and_parts, leb-true}
 use Rattle.list_laws.proofs.{Finds.find_holds, Options.option_map_some}
-use Rattle.days_core.specs.OfficeDays.{last_office_day}
+use Rattle.days_core.specs.OfficeDays.{first_office_day, last_office_day}
 use Rattle.record_history.specs.declared.records.{Dates.Dates, Record.Record}
 use Rattle.office_step.specs.{declared.heading.Heading.Heading, declared.refusal.Refusal.Refusal, Households.record_at, Refusals.first_of}
 use Rattle.office_step.specs.Matter.{Matter, certifies, household_of, own, begins_on}
@@ -40,14 +40,14 @@ days_in_range today about none = record {
 
 -- a change that was told came about, was told and was worked on in that order, none of it before 2000-01-01 or after the act
 pub record ToldInTurn (today : ℕ) (dates : Dates) : Type 0 where
-  pub event : against.first_day ≤ dates.event
+  pub event : first_office_day ≤ dates.event
   pub notice : dates.event ≤ dates.notice
   pub done : dates.notice ≤ dates.done
   pub by_today : dates.done ≤ today
 
 pub told_in_turn : (today : ℕ) (dates : Dates) → first_of (against.told_days today dates) ≡ None → ToldInTurn today dates
 told_in_turn today dates none =
-    let event = in_range against.first_day today dates.event (none_at (against.told_days today dates) 0 none) in
+    let event = in_range first_office_day today dates.event (none_at (against.told_days today dates) 0 none) in
     let notice = in_range dates.event today dates.notice (none_at (against.told_days today dates) 1 none) in
     let done = in_range dates.notice today dates.done (none_at (against.told_days today dates) 2 none) in
     record { event = event.0; notice = notice.0; done = done.0; by_today = done.1 }

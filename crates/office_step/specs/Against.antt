@@ -1,7 +1,7 @@
 -- What stands against a command: every test in its one order, over what the command is about.
 use Rattle.std.specs.Prelude.{ℕ, ◌-◌, ◌==◌, ◌&&◌, ◌||◌, not, nat_le, nat_lt, nat_eq, Bool, false, if◌then◌else◌, Option, Some, None, option_and_then, List, [], ◌∷◌, length, is_some}
 use Rattle.std.specs.Option.{option_eq, option_map, option_map_or}
-use Rattle.days_core.specs.{Calendar.first_of as first_day_of, Calendar.last_of as last_day_of, OfficeDays.last_office_day}
+use Rattle.days_core.specs.{Calendar.first_of as first_day_of, Calendar.last_of as last_day_of, OfficeDays.first_office_day, OfficeDays.last_office_day}
 use Rattle.facts_core.specs.Rules.{broken_rule}
 use Rattle.payment_rules.specs.Payment.{gross_rent_of}
 use Rattle.record_history.specs.{declared.records.Dates.Dates, declared.records.Kind.Kind, declared.records.Record.Record, Records.is_live_as_of, Records.newest_number}
@@ -74,10 +74,7 @@ facts_rule about = option_and_then (rule_broken about.basis) about.from
 
 -- ---- 9: the days, in the order of their fields
 
--- 2000-01-01 and 2099-12-30
-abbrev pub first_day : ℕ
-first_day = 43829
-
+-- 2099-12-30
 abbrev pub last_day_lived : ℕ
 last_day_lived = last_office_day - 1
 
@@ -92,11 +89,11 @@ outside first last day = refused_unless (nat_le first day && nat_le day last) (R
 -- of the days of a change that was told, each lies from the one before it to the act's
 abbrev pub told_days : ℕ → Dates → List (Option Refusal)
 told_days today dates =
-    outside first_day today dates.event ∷ outside dates.event today dates.notice ∷ outside dates.notice today dates.done ∷ []
+    outside first_office_day today dates.event ∷ outside dates.event today dates.notice ∷ outside dates.notice today dates.done ∷ []
 
 abbrev pub days_in : ℕ → Matter → List (Option Refusal)
 days_in today about =
-    option_and_then (outside first_day last_office_day) about.sets_from
+    option_and_then (outside first_office_day last_office_day) about.sets_from
     ∷ option_and_then (λ dates. first_of (told_days today dates)) about.told
     ∷ option_and_then (outside (plan_day about.known) last_office_day) about.from
     ∷ option_and_then (outside (plan_day about.known) last_day_lived) about.last ∷ []

@@ -3,8 +3,8 @@ use Rattle.std.specs.Prelude.{ℕ, ◌+◌, ◌++◌, ◌≡◌, ◌&&◌, nat_l
 use Rattle.std.specs.Option.{option_map_or}
 use Rattle.book_rows.specs.{declared.rows.ActRow.ActRow, declared.rows.Batch.Batch, Fit.is_within, Fit.is_fit, Book.Book, Book.empty_book, Book.appended}
 use Rattle.command_forms.specs.Commands.{command_in, body_of}
-use Rattle.days_core.specs.OfficeDays.{last_office_day}
-use Rattle.office_step.specs.{declared.call.Call.Call, declared.call.Capacity.Capacity, declared.refusal.Refusal.Refusal, declared.reply.Done.Done, Known.known_of, Made.record_of, Made.lines_of, Against.first_day, Against.tests_of, Reply.done_of}
+use Rattle.days_core.specs.OfficeDays.{first_office_day, last_office_day}
+use Rattle.office_step.specs.{declared.call.Call.Call, declared.call.Capacity.Capacity, declared.refusal.Refusal.Refusal, declared.reply.Done.Done, Known.known_of, Made.record_of, Made.lines_of, Against.tests_of, Reply.done_of}
 use Rattle.office_step.specs.Refusals.{first_of, repeated, request_reused, lines_full}
 
 -- ---- days
@@ -17,7 +17,7 @@ last_act_day (row ∷ next ∷ rows) = last_act_day (next ∷ rows)
 
 -- the clock's day, put into 2000-01-01 to 2099-12-31, or the last act's where that is later
 abbrev pub day_after : ℕ → ℕ → ℕ
-day_after last clock = max (min (max clock first_day) last_office_day) last
+day_after last clock = max (min (max clock first_office_day) last_office_day) last
 
 -- the day of the next act
 abbrev pub act_day : List ActRow → ℕ → ℕ

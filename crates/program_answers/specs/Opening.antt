@@ -11,10 +11,11 @@ use Rattle.batch_command.specs.Below.office_laws.Upheld.{IsUpheld}
 use Rattle.batch_command.specs.Below.clerk_desk.{declared.opening.DeskFault.DeskFault, Opening.IsUnopened}
 use Rattle.batch_command.specs.Answers.{Counts}
 use Rattle.program_answers.specs.Answer.{Answer, Ends}
+use Rattle.record_history.specs.Limits.{most_acts, most_lines}
 
 -- the most acts and lines of the program's book
 abbrev pub largest : Capacity
-largest = record { acts = 100000; lines = 4000000 }
+largest = record { acts = most_acts; lines = most_lines }
 
 -- what the source has left and the sink holds, where they tell it, and how many faults were counted
 pub record Door : Type 0 where

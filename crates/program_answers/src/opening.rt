@@ -9,12 +9,13 @@ use batch_command::clerk_desk::DeskFault;
 use batch_command::office_core::{Capacity, Fault};
 use book_rows::Table;
 use office_io::{ExitStatus, Sink};
+use record_history::{MOST_ACTS, MOST_LINES};
 use std::alloc::{AllocError, Global};
 
 /// How much the program's book may hold.
 pub const LARGEST: Capacity = Capacity {
-    acts: 100_000,
-    lines: 4_000_000,
+    acts: MOST_ACTS,
+    lines: MOST_LINES,
 };
 
 /// Says why the keeper's book can't be opened, and gives the status.

@@ -5,6 +5,7 @@ mod force;
 mod history;
 mod household;
 mod laws;
+mod limits;
 mod lists;
 mod live;
 mod order;
@@ -15,6 +16,7 @@ mod stretch;
 
 pub use history::History;
 pub use laws::{in_force_is_latest, one_record_is_in_force};
+pub use limits::{MOST_ACTS, MOST_LINES, limits_are_named};
 pub use live::is_live;
 pub use order::{comes_before, later};
 pub use records::{Dates, Kind, Record};

@@ -5,6 +5,7 @@ ghost use Rattle.record_history.specs.Records.{as_of};
 ghost use Rattle.record_history.specs.Households.{IsIndexed};
 ghost use Rattle.record_history.specs.Stretch.{stretches};
 ghost use Rattle.record_history.specs.Runs.{number_on, run_of, CoverLongest, IsBy};
+ghost use Rattle.days_core.specs.Calendar.{last_day};
 
 use crate::Stretch;
 use crate::force::in_force_at;
@@ -46,7 +47,7 @@ fn stretches_among(
     act: u32,
 ) -> Result<Vec<Stretch<u32>>, NoMemory>
     requires indexed { IsIndexed own.now }
-    requires last { last ≤ 116877 }
+    requires last { last ≤ last_day }
     ensures { IfOk result (λ days. days.items ≡ stretches nat_eq (number_on (as_of act own.now.records.items)) first (last + 1 - first)) }
 {
     let mut days = Vec::new(alloc);
@@ -58,7 +59,7 @@ fn stretches_among(
 
 fn number_on(own: &Household, day: u32, act: u32) -> u32
     requires indexed { IsIndexed own.now }
-    requires day { day ≤ 116877 }
+    requires day { day ≤ last_day }
     ensures { result ≡ number_on (as_of act own.now.records.items) day }
 {
     match in_force_at(own, Day::from_number(day).unwrap(), act) {
@@ -68,7 +69,7 @@ fn number_on(own: &Household, day: u32, act: u32) -> u32
 }
 
 fn runs_of(alloc: Global, days: &[Stretch<u32>]) -> Result<Vec<Run>, NoMemory>
-    requires { All (IsBy 116877) days.now }
+    requires { All (IsBy last_day) days.now }
     ensures { IfOk result (λ runs. runs.items ≡ map run_of days.now) }
 {
     let mut runs = Vec::new(alloc);
@@ -79,7 +80,7 @@ fn runs_of(alloc: Global, days: &[Stretch<u32>]) -> Result<Vec<Run>, NoMemory>
 }
 
 fn run_of(stretch: &Stretch<u32>) -> Run
-    requires { IsBy 116877 stretch.now }
+    requires { IsBy last_day stretch.now }
     ensures { result ≡ run_of stretch.now }
 {
     Run {

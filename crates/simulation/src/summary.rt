@@ -6,6 +6,7 @@ ghost use Rattle.text_columns.specs.Columns.{labelled};
 ghost use Rattle.voucher_core.specs.Lines.{total};
 ghost use Rattle.book_rows.specs.Book.{book_of};
 ghost use Rattle.simulation.specs.Trial.{adjusting_lines, own_lines, summary};
+ghost use Rattle.record_history.specs.Limits.{most_lines};
 
 use book_rows::Tables;
 use plain_data::{NoMemory, Text};
@@ -16,7 +17,7 @@ use voucher_core::{Line, total};
 /// The five lines of the summary. Amounts are whole dollars.
 #[tactic(auto, unfolding(crate::specs::Trial::summary))]
 pub fn summary(alloc: Global, tables: &Tables) -> Result<Text, NoMemory>
-    requires { length tables.now.lines.items ≤ 4000000 }
+    requires { length tables.now.lines.items ≤ most_lines }
     ensures { IfOk result (λ text. text ≡ summary (book_of tables.now)) }
 {
     let requested = total(&own_lines(alloc, &tables.lines)?);
@@ -58,7 +59,7 @@ fn adjusting_lines(alloc: Global, lines: &[Line]) -> Result<Vec<Line>, NoMemory>
 
 /// What these and those amount to together.
 fn total_of_both(lines: &[Line]) -> i64
-    requires { length lines.now ≤ 4000000 }
+    requires { length lines.now ≤ most_lines }
     ensures { result ≡ total (own_lines lines.now) +ℤ total (adjusting_lines lines.now) }
 {
     total(lines)

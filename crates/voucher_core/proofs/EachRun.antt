@@ -1,5 +1,5 @@
 -- The lines of a closing tell each run, once.
-use Rattle.voucher_core.proofs.Words.{◌≡◌, ◌≢◌, inl, inr, ℕ, zero, suc, ◌+◌, ◌-◌, ◌<◌, ◌≤◌, List, [], ◌∷◌, length, true, pos, ◌-ℤ◌, refl, ap, sym, ◌∙◌, arith, All, Any, AllPairs, Contains, All-nil, AllPairs-filter, AllPairs-append, Contains-append_left, Contains-append_right, Contains-get_or, Contains-map, get_or, map, not, ◌==◌, ne_eqb, eq-eqb, cond_both, false_from_ne_true, range_with_len, flat_map, int_eq, Decides-int_eq, days_in, first_of, last_of, first_of-suc, days_in_bounds, Record, AreNumbered, as_of, number_on, Stretch, Change, Closing, Line, day_at, changes, difference, line_of, month_lines, known_by, lines_for, adjustment_lines, closing_lines, placed, shares_of, old_on, new_on, IsLongestRun, IsPaidFor, TellsRun, ComesBefore, LinesTellEachRun}
+use Rattle.voucher_core.proofs.Words.{◌≡◌, ◌≢◌, inl, inr, ℕ, zero, suc, ◌+◌, ◌-◌, ◌<◌, ◌≤◌, List, [], ◌∷◌, length, true, pos, ◌-ℤ◌, refl, ap, sym, ◌∙◌, arith, All, Any, AllPairs, Contains, All-nil, AllPairs-filter, AllPairs-append, Contains-append_left, Contains-append_right, Contains-get_or, Contains-map, get_or, map, not, ◌==◌, ne_eqb, eq-eqb, cond_both, false_from_ne_true, range_with_len, flat_map, int_eq, Decides-int_eq, days_in, first_of, last_of, first_of-suc, days_in_bounds, Record, AreNumbered, as_of, number_on, Stretch, Change, Closing, Line, day_at, changes, difference, line_of, month_lines, known_as_of, lines_for, adjustment_lines, closing_lines, placed, shares_of, old_on, new_on, IsLongestRun, IsPaidFor, TellsRun, ComesBefore, LinesTellEachRun}
 use Rattle.list_laws.proofs.{Elements.AllPairs-map, Filters.Contains-filter, Pieces.all_pieces, Pieces.Contains-pieces, Pieces.AllPairs-pieces}
 use Rattle.voucher_core.proofs.{Paid.each_passing, Paid.each_line, Settled.all_months, Settled.all_for, Settled.all_closing, Settled.nothing}
 use Rattle.voucher_core.proofs.{Named.changes_of_days, Named.are_of_one, Named.as_of_own, Named.line_amount, Named.changes_are_longest, Gathered.length-placed}
@@ -81,7 +81,7 @@ module _ (own : ℕ → List Record) (count : ℕ) (closing : Closing) (numbered
             not_for_nothing = λ none. (let test = (Decides-int_eq (difference month (get_or (runs_of h) k d)) (pos 0)).1 none in let passed = rw test at passes in cc);
           })
 
-      pub all_tell : All Tells (lines_for before (known_by own closing.act) count closing month)
+      pub all_tell : All Tells (lines_for before (known_as_of own closing.act) count closing month)
       all_tell = all_pieces Tells (λ (h : ℕ). month_lines closing h month (before h) (as_of closing.act (own h))) 1 count tells
 
       -- each run is told
@@ -96,7 +96,7 @@ module _ (own : ℕ → List Record) (count : ℕ) (closing : Closing) (numbered
           let last_day : day_at month run.last ≡ l.last = omega (arith, last, from, order) in
           cc (is.of_act, is.closes, is.amount)
 
-      pub told : (l : Line) → Tells l → l.for_month ≡ month → Contains (lines_for before (known_by own closing.act) count closing month) (record l { place = 0 })
+      pub told : (l : Line) → Tells l → l.for_month ≡ month → Contains (lines_for before (known_as_of own closing.act) count closing month) (record l { place = 0 })
       told l is of_month =
           Contains-pieces (λ (h : ℕ). month_lines closing h month (before h) (as_of closing.act (own h))) 1 count l.household (record l { place = 0 })
           is.is_household.0 (omega (arith, is.is_household.1))
@@ -126,7 +126,7 @@ module _ (own : ℕ → List Record) (count : ℕ) (closing : Closing) (numbered
         AllPairs-map ComesBefore (line_of closing h month) (changes (before h) (as_of closing.act (own h)) month)
         (λ i j d before within. inr (refl, inr (refl, omega (arith, up.0 i d (omega arith), up.1 i j d before within))))
 
-    pub month_in_order : AllPairs ComesBefore (lines_for before (known_by own closing.act) count closing month)
+    pub month_in_order : AllPairs ComesBefore (lines_for before (known_as_of own closing.act) count closing month)
     month_in_order =
         AllPairs-pieces (λ (l : Line). l.household) (λ (l : Line). l.for_month ≡ month) ComesBefore
         (λ (h : ℕ). month_lines closing h month (before h) (as_of closing.act (own h)))
@@ -139,7 +139,7 @@ module _ (own : ℕ → List Record) (count : ℕ) (closing : Closing) (numbered
   nothing_own : (household : ℕ) → All (Contains (own household)) (nothing household)
   nothing_own household = All-nil (Contains (own household))
 
-  earlier_own : (household : ℕ) → All (Contains (own household)) (known_by own closing.last_close household)
+  earlier_own : (household : ℕ) → All (Contains (own household)) (known_as_of own closing.last_close household)
   earlier_own household = as_of_own closing.last_close (own household)
 
   now_known : (household : ℕ) → old_on own closing household closing.closed ≡ number_on (nothing household)
@@ -148,14 +148,14 @@ module _ (own : ℕ → List Record) (count : ℕ) (closing : Closing) (numbered
       of_day : (day : ℕ) → old_on own closing household closing.closed day ≡ 0
       of_day day = rw (eq-eqb closing.closed closing.closed refl) refl
 
-  before_known : (month : ℕ) → month < closing.closed → (household : ℕ) → old_on own closing household month ≡ number_on (known_by own closing.last_close household)
+  before_known : (month : ℕ) → month < closing.closed → (household : ℕ) → old_on own closing household month ≡ number_on (known_as_of own closing.last_close household)
   before_known month earlier household = λ i. λ day. of_day day i
     where
       of_day : (day : ℕ) → old_on own closing household month day ≡ number_on (as_of closing.last_close (own household)) day
       of_day day = rw (ne_eqb month closing.closed (λ same. absurd (omega (arith, same, earlier)))) refl
 
   abbrev earlier_lines : List Line
-  earlier_lines = flat_map (lines_for (known_by own closing.last_close) (known_by own closing.act) count closing) (range_with_len closing.first_month (closing.closed - closing.first_month))
+  earlier_lines = flat_map (lines_for (known_as_of own closing.last_close) (known_as_of own closing.act) count closing) (range_with_len closing.first_month (closing.closed - closing.first_month))
 
   -- where there was no closing there are none
   adjusted : (P : List Line → Type 0) → P [] → (closing.last_close ≢ 0 → P earlier_lines) → P (adjustment_lines own count closing)
@@ -164,8 +164,8 @@ module _ (own : ℕ → List Record) (count : ℕ) (closing : Closing) (numbered
   earlier_tell : All Tells (adjustment_lines own count closing)
   earlier_tell =
       adjusted (All Tells) (All-nil Tells)
-      (λ some. all_pieces Tells (lines_for (known_by own closing.last_close) (known_by own closing.act) count closing) closing.first_month (closing.closed - closing.first_month)
-      (λ month low high. all_tell (known_by own closing.last_close) earlier_own month (inr (some, low, omega (arith, high))) (before_known month (omega (arith, high)))))
+      (λ some. all_pieces Tells (lines_for (known_as_of own closing.last_close) (known_as_of own closing.act) count closing) closing.first_month (closing.closed - closing.first_month)
+      (λ month low high. all_tell (known_as_of own closing.last_close) earlier_own month (inr (some, low, omega (arith, high))) (before_known month (omega (arith, high)))))
 
   closing_told : (l : Line) → Tells l → Contains (closing_lines own count closing) (record l { place = 0 })
   closing_told l is = by_month is.is_paid_for
@@ -176,16 +176,16 @@ module _ (own : ℕ → List Record) (count : ℕ) (closing : Closing) (numbered
       by_month (inr (some, low, high)) =
           Contains-append_left (adjustment_lines own count closing) _ _
           (rw (ne_eqb closing.last_close 0 some)
-          (Contains-pieces (lines_for (known_by own closing.last_close) (known_by own closing.act) count closing) closing.first_month (closing.closed - closing.first_month) l.for_month (record l { place = 0 }) low (omega arith)
-          (told (known_by own closing.last_close) earlier_own l.for_month (inr (some, low, high)) (before_known l.for_month high) l is refl)))
+          (Contains-pieces (lines_for (known_as_of own closing.last_close) (known_as_of own closing.act) count closing) closing.first_month (closing.closed - closing.first_month) l.for_month (record l { place = 0 }) low (omega arith)
+          (told (known_as_of own closing.last_close) earlier_own l.for_month (inr (some, low, high)) (before_known l.for_month high) l is refl)))
 
   closing_in_order : AllPairs ComesBefore (closing_lines own count closing)
   closing_in_order =
-      AllPairs-append ComesBefore (adjustment_lines own count closing) (lines_for nothing (known_by own closing.act) count closing closing.closed)
+      AllPairs-append ComesBefore (adjustment_lines own count closing) (lines_for nothing (known_as_of own closing.act) count closing closing.closed)
       (adjusted (AllPairs ComesBefore) (λ i j d before within. absurd (omega arith))
-      (λ _. AllPairs-pieces (λ (l : Line). l.for_month) (λ (l : Line). Unit {0}) ComesBefore (lines_for (known_by own closing.last_close) (known_by own closing.act) count closing)
-      (λ m. all_for own count closing (known_by own closing.last_close) m (λ (k : ℕ). (k ≡ m) × Unit {0}) (refl, tt))
-      (λ l m _ _ lower. inl lower) (month_in_order (known_by own closing.last_close) earlier_own) closing.first_month (closing.closed - closing.first_month)))
+      (λ _. AllPairs-pieces (λ (l : Line). l.for_month) (λ (l : Line). Unit {0}) ComesBefore (lines_for (known_as_of own closing.last_close) (known_as_of own closing.act) count closing)
+      (λ m. all_for own count closing (known_as_of own closing.last_close) m (λ (k : ℕ). (k ≡ m) × Unit {0}) (refl, tt))
+      (λ l m _ _ lower. inl lower) (month_in_order (known_as_of own closing.last_close) earlier_own) closing.first_month (closing.closed - closing.first_month)))
       (month_in_order nothing nothing_own closing.closed)
       (λ k l d first second. inl (omega (
         arith,

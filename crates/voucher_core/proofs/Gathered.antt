@@ -1,5 +1,5 @@
 -- Lines that are gathered one after another.
-use Rattle.voucher_core.proofs.Words.{◌≡◌, ℕ, zero, suc, ◌+◌, ◌-◌, ◌<◌, ◌≤◌, List, [], ◌∷◌, ◌++◌, length, map, take, drop, get_or, set, Option, Some, None, pos, ◌-ℤ◌, max, false, refl, ap, sym, ◌∙◌, subst, arith, append_assoc, to_z, of_z, w32, SomeIff, ◌==◌, ne_eqb, Record, range_with_len, flat_map, ints, to_z-of_z, to_z_pos, flat_map_more, map_push, take_more, drop_more, append-nil, length-take-le, Closing, Line, known_by, lines_for, adjustment_lines, placed, range-more}
+use Rattle.voucher_core.proofs.Words.{◌≡◌, ℕ, zero, suc, ◌+◌, ◌-◌, ◌<◌, ◌≤◌, List, [], ◌∷◌, ◌++◌, length, map, take, drop, get_or, set, Option, Some, None, pos, ◌-ℤ◌, max, false, refl, ap, sym, ◌∙◌, subst, arith, append_assoc, to_z, of_z, w32, SomeIff, ◌==◌, ne_eqb, Record, range_with_len, flat_map, ints, to_z-of_z, to_z_pos, flat_map_more, map_push, take_more, drop_more, append-nil, length-take-le, Closing, Line, known_as_of, lines_for, adjustment_lines, placed, range-more}
 use Rattle.std.proofs.Math.Seq.{set-append_seam, get_or-append_seam}
 use Rattle.days_core.specs.RentBounds.{most_gross_rent}
 
@@ -46,12 +46,12 @@ pieces-none f a k start low none =
 -- all adjustments
 pub adjustments-all : (own : ℕ → List Record) (count : ℕ) (closing : Closing) (month : ℕ) (start lines : List Line) → (closing.last_close ≡ 0 → ⊥) →
     closing.first_month ≤ month → closing.closed ≤ month → month ≤ max closing.first_month closing.closed →
-    lines ≡ start ++ flat_map (lines_for (known_by own closing.last_close) (known_by own closing.act) count closing) (range_with_len closing.first_month (month - closing.first_month)) →
+    lines ≡ start ++ flat_map (lines_for (known_as_of own closing.last_close) (known_as_of own closing.act) count closing) (range_with_len closing.first_month (month - closing.first_month)) →
     lines ≡ start ++ adjustment_lines own count closing
 adjustments-all own count closing month start lines some low after within so_far =
     let test : (closing.last_close == 0) ≡ false = ne_eqb closing.last_close 0 some in
     let count' : month - closing.first_month ≡ closing.closed - closing.first_month = omega arith in
-    rw test (so_far ∙ ap (λ (n : ℕ). start ++ flat_map (lines_for (known_by own closing.last_close) (known_by own closing.act) count closing) (range_with_len closing.first_month n)) count')
+    rw test (so_far ∙ ap (λ (n : ℕ). start ++ flat_map (lines_for (known_as_of own closing.last_close) (known_as_of own closing.act) count closing) (range_with_len closing.first_month n)) count')
 
 -- the amount of a line
 pub amount_is : (a b : ℕ) → a ≤ most_gross_rent → b ≤ most_gross_rent → to_z w32 (of_z w32 (to_z w32 a -ℤ to_z w32 b)) ≡ pos a -ℤ pos b

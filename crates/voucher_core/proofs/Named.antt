@@ -1,5 +1,5 @@
 -- Each line of a closing names its pair.
-use Rattle.voucher_core.proofs.Words.{common_steps, ◌≡◌, ℕ, ◌+◌, ◌-◌, ◌<◌, ◌≤◌, List, [], ◌∷◌, get_or, pos, ◌-ℤ◌, true, Option, Some, refl, arith, All, IfSome, find, not, ◌==◌, ne_eqb, eq-eqb, Decides-int_eq, first_of-suc, Record, as_of, in_force, AreNumbered, int_eq, days_in, first_of, Stretch, Change, Closing, Line, assistance_on, day_at, change_on, is_same_change, changes, difference, line_of, month_lines, known_by, lines_for, adjustment_lines, closing_lines, placed, IsOfItsDays, Cover, IsOther, of_their_days, option_map_or, number_on, in_force_among, assistance_of, shares_of, NamesItsPair, NameTheirPairs, LinesNameTheirPairs, IsOtherPair, CoverByPairs, ChangesAreLongest, NumberTellsAssistance, is_same_pair, NumbersMakeTheRuns, Decides, same_from_decides, with_day, newest_first, reverse, ap, ◌∙◌, zero, suc, cond_both, Bool, find_first, find_fails, Contains, All-nil, All-contains, All-contains_itself, All-filter, nat_le, AreOfOne}
+use Rattle.voucher_core.proofs.Words.{common_steps, ◌≡◌, ℕ, ◌+◌, ◌-◌, ◌<◌, ◌≤◌, List, [], ◌∷◌, get_or, pos, ◌-ℤ◌, true, Option, Some, refl, arith, All, IfSome, find, not, ◌==◌, ne_eqb, eq-eqb, Decides-int_eq, first_of-suc, Record, as_of, in_force, AreNumbered, int_eq, days_in, first_of, Stretch, Change, Closing, Line, assistance_on, day_at, change_on, is_same_change, changes, difference, line_of, month_lines, known_as_of, lines_for, adjustment_lines, closing_lines, placed, IsOfItsDays, Cover, IsOther, of_their_days, option_map_or, number_on, in_force_among, assistance_of, shares_of, NamesItsPair, NameTheirPairs, LinesNameTheirPairs, IsOtherPair, CoverByPairs, ChangesAreLongest, NumberTellsAssistance, is_same_pair, NumbersMakeTheRuns, Decides, same_from_decides, with_day, newest_first, reverse, ap, ◌∙◌, zero, suc, cond_both, Bool, find_first, find_fails, Contains, All-nil, All-contains, All-contains_itself, All-filter, nat_le, AreOfOne}
 use Rattle.list_laws.proofs.Pieces.{all_pieces}
 use Rattle.voucher_core.proofs.{Covered.exact_change, Covered.exact_numbers, Covered.change_at, Covered.month_covered, Paid.each_passing, Settled.all_earlier, Settled.all_months, Settled.all_for, Settled.all_closing, Settled.nothing}
 
@@ -139,7 +139,7 @@ module _ (own : ℕ → List Record) (count : ℕ) (closing : Closing) (place : 
   Names before l = NamesItsPair (own l.household) (before l.household) (as_of closing.act (own l.household)) l
 
   lines_name : (before : ℕ → List Record) → ((household : ℕ) → All (Contains (own household)) (before household)) → (month : ℕ) →
-      All (Names before) (lines_for before (known_by own closing.act) count closing month)
+      All (Names before) (lines_for before (known_as_of own closing.act) count closing month)
   lines_name before own_before month =
       all_pieces (Names before) (λ (h : ℕ). month_lines closing h month (before h) (as_of closing.act (own h))) 1 count
       (λ h low high. each_passing (Names before) closing h month (before h) (as_of closing.act (own h))
@@ -148,7 +148,7 @@ module _ (own : ℕ → List Record) (count : ℕ) (closing : Closing) (place : 
   are_before : All (λ l. l.for_month < closing.closed) (adjustment_lines own count closing)
   are_before = all_months own count closing (λ (m : ℕ). m < closing.closed) (λ m low high. high)
 
-  are_of_it : All (λ l. l.for_month ≡ closing.closed) (lines_for nothing (known_by own closing.act) count closing closing.closed)
+  are_of_it : All (λ l. l.for_month ≡ closing.closed) (lines_for nothing (known_as_of own closing.act) count closing closing.closed)
   are_of_it = all_for own count closing nothing closing.closed (λ (m : ℕ). m ≡ closing.closed) refl
 
   all_now : All (λ l. l.for_month ≡ closing.closed → Names nothing l) (placed place (closing_lines own count closing))
@@ -160,9 +160,9 @@ module _ (own : ℕ → List Record) (count : ℕ) (closing : Closing) (place : 
   name_their_pairs = record {
     months = all_closing own count closing (λ (l : Line). l.for_month ≤ closing.closed) (λ l at p. p) place
         (λ k d within. omega (arith, are_before k d within)) (λ k d within. omega (arith, are_of_it k d within));
-    earlier = all_closing own count closing (λ (l : Line). l.for_month < closing.closed → Names (known_by own closing.last_close) l)
+    earlier = all_closing own count closing (λ (l : Line). l.for_month < closing.closed → Names (known_as_of own closing.last_close) l)
         (λ l at names before. moved _ _ _ l at (names before)) place
-        (all_earlier own count closing (λ (l : Line). l.for_month < closing.closed → Names (known_by own closing.last_close) l) (λ month from to k d within before. lines_name (known_by own closing.last_close) (λ h. as_of_own closing.last_close (own h)) month k d within))
+        (all_earlier own count closing (λ (l : Line). l.for_month < closing.closed → Names (known_as_of own closing.last_close) l) (λ month from to k d within before. lines_name (known_as_of own closing.last_close) (λ h. as_of_own closing.last_close (own h)) month k d within))
         (λ k d within before. absurd (omega (arith, are_of_it k d within, before)));
     none_before = λ k d within now. (let names = all_now k d within now in names.old _ (omega arith) names.in_order);
     closed_month = all_now;

@@ -1,5 +1,5 @@
 -- The law of one closing.
-use Rattle.voucher_core.proofs.Words.{◌≡◌, ◌≢◌, ◌⊎◌, inl, inr, ℕ, ◌+◌, ◌-◌, ◌<◌, ◌≤◌, List, [], ◌++◌, pos, ◌+ℤ◌, ◌-ℤ◌, false, ap, refl, ◌∙◌, arith, All, nat_le, nat_lt, ◌&&◌, true, ◌==◌, range_with_len, ints, nat_tests, cases_lt, eqb-true, lt-leb, All-append, All-nil, filter-append, append-nil, sum_by-le, days_in, Record, as_of, day_share, Closing, Line, certified_amount, month_lines, known_by, lines_for, adjustment_lines, closing_lines, placed, paid, filter_none, cond_both, ClosingSettles, NothingIsSettled, SettledPaysNoOther, CertifiedStays, SettledStays}
+use Rattle.voucher_core.proofs.Words.{◌≡◌, ◌≢◌, ◌⊎◌, inl, inr, ℕ, ◌+◌, ◌-◌, ◌<◌, ◌≤◌, List, [], ◌++◌, pos, ◌+ℤ◌, ◌-ℤ◌, false, ap, refl, ◌∙◌, arith, All, nat_le, nat_lt, ◌&&◌, true, ◌==◌, range_with_len, ints, nat_tests, cases_lt, eqb-true, lt-leb, All-append, All-nil, filter-append, append-nil, sum_by-le, days_in, Record, as_of, day_share, Closing, Line, certified_amount, month_lines, known_as_of, lines_for, adjustment_lines, closing_lines, placed, paid, filter_none, cond_both, ClosingSettles, NothingIsSettled, SettledPaysNoOther, CertifiedStays, SettledStays}
 use Rattle.list_laws.proofs.Pieces.{all_pieces}
 use Rattle.voucher_core.proofs.DayShares.{share_at}
 use Rattle.voucher_core.proofs.Paid.{paid-append, paid-placed, paid_elsewhere, paid_by_one, paid_month, paid_other, each_line, all_placed}
@@ -24,19 +24,19 @@ module _ (own : ℕ → List Record) (count : ℕ) (closing : Closing) where
   lines_of before month h = month_lines closing h month (before h) (as_of closing.act (own h))
 
   -- they are all for it
-  pub all_for : (before : ℕ → List Record) (month : ℕ) (P : ℕ → Type 0) → P month → All (λ l. P l.for_month) (lines_for before (known_by own closing.act) count closing month)
+  pub all_for : (before : ℕ → List Record) (month : ℕ) (P : ℕ → Type 0) → P month → All (λ l. P l.for_month) (lines_for before (known_as_of own closing.act) count closing month)
   all_for before month P p =
       all_pieces (λ (l : Line). P l.for_month) (lines_of before month) 1 count
       (λ h low high. each_line (λ (l : Line). P l.for_month) closing h month (before h) (as_of closing.act (own h)) (λ run. p))
 
   -- so they pay nothing for another
-  paid_for_other : (before : ℕ → List Record) (household month other : ℕ) → month ≢ other → paid household other (lines_for before (known_by own closing.act) count closing month) ≡ pos 0
+  paid_for_other : (before : ℕ → List Record) (household month other : ℕ) → month ≢ other → paid household other (lines_for before (known_as_of own closing.act) count closing month) ≡ pos 0
   paid_for_other before household month other apart = paid_elsewhere household other _ (all_for before month (λ (m : ℕ). m ≢ other) apart)
 
   -- and for it what has changed
   paid_for : ((household : ℕ) → count < household → own household ≡ []) → (before : ℕ → List Record) → ((household : ℕ) → count < household → before household ≡ []) →
       (household month : ℕ) → 1 ≤ household →
-      paid household month (lines_for before (known_by own closing.act) count closing month)
+      paid household month (lines_for before (known_as_of own closing.act) count closing month)
       ≡ pos (certified_amount (as_of closing.act (own household)) month) -ℤ pos (certified_amount (before household) month)
   paid_for past before past_before household month low =
       let by_one =
@@ -54,34 +54,34 @@ module _ (own : ℕ → List Record) (count : ℕ) (closing : Closing) where
   -- Lines for the months before ----
 
   -- what is true of the lines of each month
-  pub all_earlier : (P : Line → Type 0) → ((month : ℕ) → closing.first_month ≤ month → month < closing.closed → All P (lines_for (known_by own closing.last_close) (known_by own closing.act) count closing month)) → All P (adjustment_lines own count closing)
+  pub all_earlier : (P : Line → Type 0) → ((month : ℕ) → closing.first_month ≤ month → month < closing.closed → All P (lines_for (known_as_of own closing.last_close) (known_as_of own closing.act) count closing month)) → All P (adjustment_lines own count closing)
   all_earlier P each =
       cond_both (closing.last_close == 0) _ _ (All P) (λ _. All-nil P)
-      (λ _. all_pieces P (lines_for (known_by own closing.last_close) (known_by own closing.act) count closing) closing.first_month (closing.closed - closing.first_month) (λ month low high. each month low (omega (arith, high))))
+      (λ _. all_pieces P (lines_for (known_as_of own closing.last_close) (known_as_of own closing.act) count closing) closing.first_month (closing.closed - closing.first_month) (λ month low high. each month low (omega (arith, high))))
 
   pub all_months : (P : ℕ → Type 0) → ((month : ℕ) → closing.first_month ≤ month → month < closing.closed → P month) → All (λ l. P l.for_month) (adjustment_lines own count closing)
-  all_months P each = all_earlier (λ (l : Line). P l.for_month) (λ month low high. all_for (known_by own closing.last_close) month P (each month low high))
+  all_months P each = all_earlier (λ (l : Line). P l.for_month) (λ month low high. all_for (known_as_of own closing.last_close) month P (each month low high))
 
   paid_earlier : ((household : ℕ) → count < household → own household ≡ []) → (closing.last_close ≡ 0 → closing.closed ≡ closing.first_month) →
       (household month : ℕ) → 1 ≤ household → closing.first_month ≤ month → month < closing.closed →
       paid household month (adjustment_lines own count closing)
       ≡ pos (certified_amount (as_of closing.act (own household)) month) -ℤ pos (certified_amount (as_of closing.last_close (own household)) month)
   paid_earlier past first household month low from to =
-      let by_month = paid_for past (known_by own closing.last_close) (λ h after. ap (as_of closing.last_close) (past h after)) household month low in
+      let by_month = paid_for past (known_as_of own closing.last_close) (λ h after. ap (as_of closing.last_close) (past h after)) household month low in
       let by_one =
-      paid_by_one household month (lines_for (known_by own closing.last_close) (known_by own closing.act) count closing) closing.first_month (closing.closed - closing.first_month) month
-      (λ m apart. paid_for_other (known_by own closing.last_close) household m month apart) in
+      paid_by_one household month (lines_for (known_as_of own closing.last_close) (known_as_of own closing.act) count closing) closing.first_month (closing.closed - closing.first_month) month
+      (λ m apart. paid_for_other (known_as_of own closing.last_close) household m month apart) in
       cond_both (closing.last_close == 0) _ _ (λ lines. paid household month lines
       ≡ pos (certified_amount (as_of closing.act (own household)) month) -ℤ pos (certified_amount (as_of closing.last_close (own household)) month))
       (λ is. absurd (omega (arith, first (eqb-true closing.last_close 0 is)))) (λ _. grind (arith, nat_tests))
 
   -- what is true of all lines of a closing, whatever their places
   pub all_closing : (P : Line → Type 0) → ((l : Line) (place : ℕ) → P l → P (record l { place = place })) → (place : ℕ) →
-      All P (adjustment_lines own count closing) → All P (lines_for nothing (known_by own closing.act) count closing closing.closed) →
+      All P (adjustment_lines own count closing) → All P (lines_for nothing (known_as_of own closing.act) count closing closing.closed) →
       All P (placed place (closing_lines own count closing))
   all_closing P moves place earlier now =
       all_placed P moves place (closing_lines own count closing)
-      (All-append P (adjustment_lines own count closing) (lines_for nothing (known_by own closing.act) count closing closing.closed) earlier now)
+      (All-append P (adjustment_lines own count closing) (lines_for nothing (known_as_of own closing.act) count closing closing.closed) earlier now)
 
 -- The law ----
 
@@ -98,7 +98,7 @@ closing_settles own count closing place lines past order first settled =
     earlier_lines = adjustment_lines own count closing
 
     of_month : List Line
-    of_month = lines_for nothing (known_by own closing.act) count closing closing.closed
+    of_month = lines_for nothing (known_as_of own closing.act) count closing closing.closed
 
     new_lines : List Line
     new_lines = closing_lines own count closing

@@ -1,5 +1,5 @@
 -- A household with no new record has no changes, so it adds no lines.
-use Rattle.voucher_core.proofs.Words.{◌≡◌, ℕ, suc, ◌+◌, ◌-◌, ◌≤◌, List, [], ◌∷◌, ◌++◌, Bool, true, false, pos, refl, ap, ◌∙◌, arith, ints, All, All-nil, All-cons, All-head, All-tail, filter, map, not, max, fold, nat_le, nat_lt, if◌then◌else◌, flat_map, range_with_len, int_eq, ltb-false, le-leb, Decides-int_eq, filter-append, filter_all, common_steps, Record, Stretch, as_of, newest_act, Change, Closing, Line, changes, difference, line_of, month_lines, known_by, lines_for, changed_since, range_more}
+use Rattle.voucher_core.proofs.Words.{◌≡◌, ℕ, suc, ◌+◌, ◌-◌, ◌≤◌, List, [], ◌∷◌, ◌++◌, Bool, true, false, pos, refl, ap, ◌∙◌, arith, ints, All, All-nil, All-cons, All-head, All-tail, filter, map, not, max, fold, nat_le, nat_lt, if◌then◌else◌, flat_map, range_with_len, int_eq, ltb-false, le-leb, Decides-int_eq, filter-append, filter_all, common_steps, Record, Stretch, as_of, newest_act, Change, Closing, Line, changes, difference, line_of, month_lines, known_as_of, lines_for, changed_since, range_more}
 use Rattle.voucher_core.proofs.Named.{changes_of_days}
 
 -- items that give nothing can be left out
@@ -47,16 +47,16 @@ module _ (closing : Closing) (household month : ℕ) where
 
 -- so the households with new records have all lines
 pub all_of_changed : (own : ℕ → List Record) (count : ℕ) (closing : Closing) (month : ℕ) → closing.last_close ≤ closing.act →
-    flat_map (λ h. month_lines closing h month (known_by own closing.last_close h) (known_by own closing.act h)) (changed_since closing.last_close own count)
-    ≡ lines_for (known_by own closing.last_close) (known_by own closing.act) count closing month
+    flat_map (λ h. month_lines closing h month (known_as_of own closing.last_close h) (known_as_of own closing.act h)) (changed_since closing.last_close own count)
+    ≡ lines_for (known_as_of own closing.last_close) (known_as_of own closing.act) count closing month
 all_of_changed own count closing month order =
     flat_map-filter of_household (λ (h : ℕ). nat_lt closing.last_close (newest_act (own h))) (range_with_len 1 count)
     (λ h test. none h (ltb-false closing.last_close (newest_act (own h)) test))
   where
     of_household : ℕ → List Line
-    of_household h = month_lines closing h month (known_by own closing.last_close h) (known_by own closing.act h)
+    of_household h = month_lines closing h month (known_as_of own closing.last_close h) (known_as_of own closing.act h)
 
-    none : (h : ℕ) → newest_act (own h) ≤ closing.last_close → month_lines closing h month (known_by own closing.last_close h) (known_by own closing.act h) ≡ []
+    none : (h : ℕ) → newest_act (own h) ≤ closing.last_close → month_lines closing h month (known_as_of own closing.last_close h) (known_as_of own closing.act h) ≡ []
     none h newest = rw (all_known closing.last_close (own h) newest, all_known closing.act (own h) (omega arith)) (none_of_same closing h month (own h))
 
 -- one household more, where it passes and where it doesn't

@@ -1,5 +1,5 @@
 -- Before the first day that new records touch, nothing has changed.
-use Rattle.voucher_core.proofs.Words.{◌≡◌, ℕ, ◌<◌, ◌≤◌, List, [], ◌∷◌, Bool, true, false, refl, ap, sym, ◌∙◌, arith, nat_tests, common_steps, All, filter, nat_le, nat_lt, ◌==◌, ◌&&◌, get_or, list_any, or_parts, ltb-false, le-leb, lt-leb, last_of, first_of-suc, filter_alike, filter-filter, Record, Stretch, as_of, is_live, latest, in_force, Change, Closing, day_at, force_on, changes, lines_for, month_lines, known_by, changed_since, touched_household, is_newly_corrected, is_touched, TouchesFrom, BeginsUntouched, IsTouchedAfter, Touched, Line, map, flat_map, All-head, All-tail}
+use Rattle.voucher_core.proofs.Words.{◌≡◌, ℕ, ◌<◌, ◌≤◌, List, [], ◌∷◌, Bool, true, false, refl, ap, sym, ◌∙◌, arith, nat_tests, common_steps, All, filter, nat_le, nat_lt, ◌==◌, ◌&&◌, get_or, list_any, or_parts, ltb-false, le-leb, lt-leb, last_of, first_of-suc, filter_alike, filter-filter, Record, Stretch, as_of, is_live, latest, in_force, Change, Closing, day_at, force_on, changes, lines_for, month_lines, known_as_of, changed_since, touched_household, is_newly_corrected, is_touched, TouchesFrom, BeginsUntouched, IsTouchedAfter, Touched, Line, map, flat_map, All-head, All-tail}
 use Rattle.voucher_core.proofs.{Alike.force_of, Alike.force_is, Named.changes_of_days, Unchanged.IsUnchanged, Unchanged.no_line, Unchanged.all_of_changed}
 
 never : (a b : Bool) → (a && (b && false)) ≡ false
@@ -48,7 +48,7 @@ module _ (last act : ℕ) (order : last ≤ act) where
 
 -- so a month that ends before it has no lines
 pub none_before : (own : ℕ → List Record) (closing : Closing) → closing.last_close ≤ closing.act → (household month first : ℕ) →
-    TouchesFrom closing.last_close (own household) first → last_of month < first → month_lines closing household month (known_by own closing.last_close household) (known_by own closing.act household) ≡ []
+    TouchesFrom closing.last_close (own household) first → last_of month < first → month_lines closing household month (known_as_of own closing.last_close household) (known_as_of own closing.act household) ≡ []
 none_before own closing order household month first touches before = no_line closing household month (changes (known closing.last_close) (known closing.act) month) unchanged
   where
     known : ℕ → List Record
@@ -65,12 +65,12 @@ none_before own closing order household month first touches before = no_line clo
 -- and one that ends before each of their first days has none at all
 pub month_untouched : (own : ℕ → List Record) (count : ℕ) (closing : Closing) (changed : List Touched) → closing.last_close ≤ closing.act →
     map touched_household changed ≡ changed_since closing.last_close own count → All (BeginsUntouched closing.last_close own) changed →
-    (month : ℕ) → All (IsTouchedAfter month) changed → lines_for (known_by own closing.last_close) (known_by own closing.act) count closing month ≡ []
+    (month : ℕ) → All (IsTouchedAfter month) changed → lines_for (known_as_of own closing.last_close) (known_as_of own closing.act) count closing month ≡ []
 month_untouched own count closing changed order same untouched month after =
     sym (all_of_changed own count closing month order) ∙ ap (flat_map of_household) (sym same) ∙ none_of changed untouched after
   where
     of_household : ℕ → List Line
-    of_household h = month_lines closing h month (known_by own closing.last_close h) (known_by own closing.act h)
+    of_household h = month_lines closing h month (known_as_of own closing.last_close h) (known_as_of own closing.act h)
 
     none_of : (touched : List Touched) → All (BeginsUntouched closing.last_close own) touched → All (IsTouchedAfter month) touched →
         flat_map of_household (map touched_household touched) ≡ []

@@ -60,19 +60,19 @@ abbrev pub lines_for : (ℕ → List Record) → (ℕ → List Record) → ℕ �
 lines_for old new count closing month = flat_map (λ h. month_lines closing h month (old h) (new h)) (range_with_len 1 count)
 
 -- the records that each household has as of the act
-abbrev pub known_by : (ℕ → List Record) → ℕ → ℕ → List Record
-known_by own act household = as_of act (own household)
+abbrev pub known_as_of : (ℕ → List Record) → ℕ → ℕ → List Record
+known_as_of own act household = as_of act (own household)
 
 -- The lines for the months that were closed before: what has changed since the last closing. Its act is 0 where there
 -- was none, and then there is no such line.
 abbrev pub adjustment_lines : (ℕ → List Record) → ℕ → Closing → List Line
 adjustment_lines own count closing =
     if closing.last_close == 0 then []
-    else flat_map (lines_for (known_by own closing.last_close) (known_by own closing.act) count closing) (range_with_len closing.first_month (closing.closed - closing.first_month))
+    else flat_map (lines_for (known_as_of own closing.last_close) (known_as_of own closing.act) count closing) (range_with_len closing.first_month (closing.closed - closing.first_month))
 
 -- The lines of a closing: the adjustments, and then the lines of the closed month, for which nothing was paid before.
 abbrev pub closing_lines : (ℕ → List Record) → ℕ → Closing → List Line
-closing_lines own count closing = adjustment_lines own count closing ++ lines_for (λ h. []) (known_by own closing.act) count closing closing.closed
+closing_lines own count closing = adjustment_lines own count closing ++ lines_for (λ h. []) (known_as_of own closing.act) count closing closing.closed
 
 -- the lines with their places, from this one on
 abbrev pub placed : ℕ → List Line → List Line

@@ -2,6 +2,7 @@
 
 ghost use Rattle.std.specs.Prelude.{◌≡◌, ◌≤◌, ℤ, pos, negsuc, ◌≤ℤ◌, if◌then◌else◌, length};
 ghost use Rattle.voucher_core.specs.Lines.{is_for, paid};
+ghost use Rattle.record_history.specs.Limits.{most_lines};
 
 use crate::Line;
 use days_core::Month;
@@ -20,17 +21,19 @@ pub struct LineBook {
 impl Model for LineBook {
     ghost use Rattle.std.specs.Prelude.{◌-◌, ◌≤◌, length, vec_len, vec_capacity};
     ghost use Rattle.voucher_core.specs.Book.{HeldLines};
+    ghost use Rattle.record_history.specs.Limits.{most_lines};
 
     ghost Value = { HeldLines };
 
     ghost view = { λ book. record { lines = book.lines.items; room = vec_capacity book.lines - vec_len book.lines } };
 
-    ghost invariant = { λ book. length book.lines.items ≤ 4000000 };
+    ghost invariant = { λ book. length book.lines.items ≤ most_lines };
 }
 
 impl LineBook {
     ghost use Rattle.std.specs.Prelude.{◌≡◌, ◌≤◌, ◌<◌, ◌+◌, ◌++◌, ◌∷◌, [], length, IsOk, IfOk, OnOk};
     ghost use Rattle.voucher_core.specs.Lines.{paid};
+    ghost use Rattle.record_history.specs.Limits.{most_lines};
 
     pub fn new(alloc: Global) -> Result<LineBook, NoMemory>
         ensures { IfOk result (λ book. book ≡ record { lines = []; room = 0 }) }
@@ -54,7 +57,7 @@ impl LineBook {
     /// Holds a line more, for which there is room.
     pub fn push(&mut self, line: Line)
         requires room { 1 ≤ self.old.room }
-        requires few { length self.old.lines < 4000000 }
+        requires few { length self.old.lines < most_lines }
         ensures lines { self.new.lines ≡ self.old.lines ++ line ∷ [] }
         ensures room { self.new.room + 1 ≡ self.old.room }
     {
@@ -64,7 +67,7 @@ impl LineBook {
     /// The lines in the order in which they came.
     pub fn lines(&self) -> &[Line]
         ensures lines { result.now ≡ self.now.lines }
-        ensures few { length result.now ≤ 4000000 }
+        ensures few { length result.now ≤ most_lines }
     {
         &self.lines
     }
@@ -78,7 +81,7 @@ impl LineBook {
 }
 
 fn paid_among(lines: &[Line], household: u32, month: Month) -> i64
-    requires { length lines.now ≤ 4000000 }
+    requires { length lines.now ≤ most_lines }
     ensures { result ≡ paid household month lines.now }
 {
     let mut paid = 0;

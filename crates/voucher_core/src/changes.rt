@@ -8,6 +8,7 @@ ghost use Rattle.record_history.specs.Stretch.{with_day};
 ghost use Rattle.voucher_core.specs.Lines.{force_on, change_on, is_same_change, changes};
 ghost use Rattle.voucher_core.specs.Bounds.{IsUsable};
 ghost use Rattle.voucher_core.specs.Walk.{known_before, up_to};
+ghost use Rattle.days_core.specs.Calendar.{last_day};
 
 use crate::starts::next_start;
 use days_core::{Day, Month, first_of, last_of};
@@ -77,7 +78,7 @@ fn add_run(
 }
 
 fn change_on(history: &History, household: u32, day: u32, paid_at: Option<u32>, act: u32) -> Change
-    requires { day ≤ 116877 }
+    requires { day ≤ last_day }
     ensures value { result ≡ change_on (known_before paid_at (records_of history.now.households household)) (as_of act (records_of history.now.households household)) day }
     ensures old { result.old.assistance ≤ most_gross_rent }
     ensures new { result.new.assistance ≤ most_gross_rent }

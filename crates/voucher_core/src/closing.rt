@@ -4,6 +4,7 @@ ghost use Rattle.std.specs.Prelude.{◌≡◌, ◌≤◌, ◌<◌, ◌^◌, leng
 ghost use Rattle.days_core.specs.OfficeDays.{first_office_month, last_office_month};
 ghost use Rattle.record_history.specs.Held.{records_of};
 ghost use Rattle.voucher_core.specs.Lines.{closing_lines, placed};
+ghost use Rattle.record_history.specs.Limits.{most_acts};
 
 use crate::Line;
 use crate::lines::{add_adjustments, add_month, number_lines};
@@ -34,7 +35,7 @@ pub fn close_lines(
     closing: &Closing,
 ) -> Result<Vec<Line>, NoMemory>
     requires last_close { closing.now.last_close ≤ closing.now.act }
-    requires households { length history.now.households ≤ 100000 }
+    requires households { length history.now.households ≤ most_acts }
     requires first_month { first_office_month ≤ closing.now.first_month }
     requires month { closing.now.closed ≤ last_office_month }
     ensures lines { IfOk result (λ lines. lines.items ≡ placed 1 (closing_lines (records_of history.now.households) (length history.now.households) closing.now)) }
@@ -48,7 +49,7 @@ pub fn close_lines(
 /// The lines without their places.
 fn gathered(alloc: Global, history: &History, closing: &Closing) -> Result<Vec<Line>, NoMemory>
     requires last_close { closing.now.last_close ≤ closing.now.act }
-    requires households { length history.now.households ≤ 100000 }
+    requires households { length history.now.households ≤ most_acts }
     ensures { IfOk result (λ lines. lines.items ≡ closing_lines (records_of history.now.households) (length history.now.households) closing.now) }
 {
     let mut lines = Vec::new(alloc);

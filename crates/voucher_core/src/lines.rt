@@ -6,9 +6,10 @@ ghost use Rattle.std.specs.Ordering.{int_eq};
 ghost use Rattle.days_core.specs.Calendar.{days_in};
 ghost use Rattle.record_history.specs.Held.{records_of};
 ghost use Rattle.voucher_core.specs.Certified.{day_at};
-ghost use Rattle.voucher_core.specs.Lines.{line_of, month_lines, known_by, lines_for, adjustment_lines, placed};
+ghost use Rattle.voucher_core.specs.Lines.{line_of, month_lines, known_as_of, lines_for, adjustment_lines, placed};
 ghost use Rattle.voucher_core.specs.Bounds.{IsUsable};
 ghost use Rattle.voucher_core.specs.Walk.{known_before, touched_household, BeginsUntouched};
+ghost use Rattle.record_history.specs.Limits.{most_acts};
 
 use crate::changes::{Change, changes_of_month};
 use crate::touched::{Touched, first_changed, touched_since};
@@ -30,7 +31,7 @@ pub fn add_adjustments(
     closing: &Closing,
 ) -> Result<(), NoMemory>
     requires last_close { closing.now.last_close ≤ closing.now.act }
-    requires households { length history.now.households ≤ 100000 }
+    requires households { length history.now.households ≤ most_acts }
     ensures { OnOk result (lines.new.items ≡ lines.old.items ++ adjustment_lines (records_of history.now.households) (length history.now.households) closing.now) }
 {
     if closing.last_close == 0 {
@@ -56,7 +57,7 @@ fn add_changed(
 ) -> Result<(), NoMemory>
     requires last_close { closing.now.last_close ≤ closing.now.act }
     requires untouched { All (BeginsUntouched closing.now.last_close (records_of history.now.households)) changed.now }
-    ensures { OnOk result (lines.new.items ≡ lines.old.items ++ flat_map (λ h. month_lines closing.now h month (known_by (records_of history.now.households) closing.now.last_close h) (known_by (records_of history.now.households) closing.now.act h)) (map touched_household changed.now)) }
+    ensures { OnOk result (lines.new.items ≡ lines.old.items ++ flat_map (λ h. month_lines closing.now h month (known_as_of (records_of history.now.households) closing.now.last_close h) (known_as_of (records_of history.now.households) closing.now.act h)) (map touched_household changed.now)) }
 {
     let last = last_of(month).number();
     let paid_at = Some(closing.last_close);
@@ -76,8 +77,8 @@ pub fn add_month(
     history: &History,
     closing: &Closing,
 ) -> Result<(), NoMemory>
-    requires { length history.now.households ≤ 100000 }
-    ensures { OnOk result (lines.new.items ≡ lines.old.items ++ lines_for (λ h. []) (known_by (records_of history.now.households) closing.now.act) (length history.now.households) closing.now closing.now.closed) }
+    requires { length history.now.households ≤ most_acts }
+    ensures { OnOk result (lines.new.items ≡ lines.old.items ++ lines_for (λ h. []) (known_as_of (records_of history.now.households) closing.now.act) (length history.now.households) closing.now closing.now.closed) }
 {
     let mut runs = Vec::new(alloc);
     for household in 1..history.households() + 1 {
@@ -104,7 +105,7 @@ fn add_household(
     month: Month,
     paid_at: Option<u32>,
 ) -> Result<(), NoMemory>
-    ensures { OnOk result (lines.new.items ≡ lines.old.items ++ month_lines closing.now household month (known_before paid_at (records_of history.now.households household)) (known_by (records_of history.now.households) closing.now.act household)) }
+    ensures { OnOk result (lines.new.items ≡ lines.old.items ++ month_lines closing.now household month (known_before paid_at (records_of history.now.households household)) (known_as_of (records_of history.now.households) closing.now.act household)) }
 {
     changes_of_month(runs, history, household, month, paid_at, closing.act)?;
     add_lines(lines, closing, household, month, runs)

@@ -2,12 +2,13 @@
 
 ghost use Rattle.std.specs.Prelude.{◌≡◌, ◌≤◌, pos, negsuc, ◌≤ℤ◌, length};
 ghost use Rattle.voucher_core.specs.Lines.{total};
+ghost use Rattle.record_history.specs.Limits.{most_lines};
 
 use crate::Line;
 
 /// The amounts of lines together, in whole dollars; of at most 4,000,000 lines.
 pub fn total(lines: &[Line]) -> i64
-    requires { length lines.now ≤ 4000000 }
+    requires { length lines.now ≤ most_lines }
     ensures { result ≡ total lines.now }
 {
     let mut total = 0;

@@ -3,6 +3,7 @@
 ghost use Rattle.std.specs.Prelude.{◌≡◌, ◌≤◌, ◌<◌, ℕ, max, All, IfOk, map, length};
 ghost use Rattle.record_history.specs.Held.{records_of, ActsRise};
 ghost use Rattle.voucher_core.specs.Walk.{changed_since, made_after, earlier_start, touched_household, BeginsUntouched, TouchesFrom, IsTouchedAfter};
+ghost use Rattle.record_history.specs.Limits.{most_acts};
 
 use crate::Closing;
 use days_core::{Day, month_of};
@@ -23,7 +24,7 @@ pub fn touched_since(
     history: &History,
     last_close: u32,
 ) -> Result<Vec<Touched>, NoMemory>
-    requires { length history.now.households ≤ 100000 }
+    requires { length history.now.households ≤ most_acts }
     ensures households { IfOk result (λ changed. map touched_household changed.items ≡ changed_since last_close (records_of history.now.households) (length history.now.households)) }
     ensures untouched { IfOk result (λ changed. All (BeginsUntouched last_close (records_of history.now.households)) changed.items) }
 {

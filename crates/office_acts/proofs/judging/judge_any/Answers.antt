@@ -8,8 +8,8 @@ use Rattle.office_acts.proofs.judging.judge_any.Goals as goal
 
 pub judge_matter-requires-clause-command : goal.judge_matter-requires-clause-command
 judge_matter-requires-clause-command c = record {
-  asked = c.args.asked.now;
-  is = c.matter_of-about.ensures ∙ ap (λ (known : Known). matter_of known c.args.asked.now) (sym (ap (λ (m : Matter). m.known) c.matter_of-about.ensures));
+  asked = c.args.command.now;
+  is = c.matter_of-about.ensures ∙ ap (λ (known : Known). matter_of known c.args.command.now) (sym (ap (λ (m : Matter). m.known) c.matter_of-about.ensures));
 }
 
 pub returns-clause-judged : goal.returns-clause-judged
@@ -24,5 +24,5 @@ returns-clause-made c =
 
 pub returns-clause-month : goal.returns-clause-month
 returns-clause-month c ok =
-    closes_by c.args.register.now.known c.args.asked.now last_office_month
+    closes_by c.args.register.now.known c.args.command.now last_office_month
     (subst (λ (m : Matter). IfSome m.month (λ month. month ≤ last_office_month)) c.matter_of-about.ensures (c.judge_matter.ensures.month ok))
