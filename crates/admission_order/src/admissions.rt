@@ -3,6 +3,7 @@
 ghost use Rattle.std.specs.Prelude.{◌≡◌, ◌≤◌, ◌&&◌, length, filter, sum_by};
 ghost use Rattle.office_step.specs.Candidates.{fiscal_year, targets_of};
 ghost use Rattle.admission_order.specs.Admissions.{is_admission_of};
+ghost use Rattle.record_history.specs.Limits.{most_acts};
 
 use crate::live::live_in_order;
 use days_core::{Day, Month, month_of};
@@ -19,7 +20,7 @@ pub fn targets(register: &Register, plan: &Plan, day: Day) -> Targets
 }
 
 fn targets_by(history: &History, plan: &Plan, day: Day) -> Targets
-    requires { sum_by length history.now.households ≤ 100000 }
+    requires { sum_by length history.now.households ≤ most_acts }
     ensures { result ≡ targets_of plan.now day history.now.households }
 {
     let year = fiscal_year(plan, month_of(day));
@@ -39,7 +40,7 @@ fn targets_by(history: &History, plan: &Plan, day: Day) -> Targets
 }
 
 fn admitted_among(live: &[Record], plan: &Plan, year: u32) -> u32
-    requires { length live.now ≤ 100000 }
+    requires { length live.now ≤ most_acts }
     ensures { result ≡ length (filter (is_admission_of plan.now year) live.now) }
 {
     live.iter()
@@ -49,7 +50,7 @@ fn admitted_among(live: &[Record], plan: &Plan, year: u32) -> u32
 
 /// How many of the admissions are of a family of extremely low income.
 fn extremely_among(live: &[Record], plan: &Plan, year: u32) -> u32
-    requires { length live.now ≤ 100000 }
+    requires { length live.now ≤ most_acts }
     ensures { result ≡ length (filter (λ r. r.extremely && is_admission_of plan.now year r) live.now) }
 {
     live.iter()

@@ -42,7 +42,6 @@ fn next_if(
     wanted: bool,
 ) -> Option<Candidate>
     requires bedrooms { vacancy.now.unit.now.bedrooms ≤ 5 }
-    requires needing { vacancy.now.unit.now.accessible ≡ false → needing ≡ None }
     ensures { result ≡ next_candidate (record { unit = vacancy.now.unit.now; plan = vacancy.now.plan.now; limits = limits_on register.now.known.limits vacancy.now.day; wanted = wanted; needing = needing; other = other }) register.now.known.waiting }
 {
     register.list().next_for(&Ask {
@@ -79,8 +78,7 @@ fn by_targets(
 #[tactic(auto, using(crate::proofs::Turn::none_in_need))]
 fn needing_mover(vacancy: &Vacancy) -> Option<u32>
     requires { vacancy.now.unit.now.bedrooms ≤ 5 }
-    ensures value { result ≡ first_mover (filter (in_need vacancy.now.unit.now) (movers_of vacancy.now.plan.now vacancy.now.unit.now vacancy.now.day vacancy.now.requests.now vacancy.now.history.now.households)) }
-    ensures none { vacancy.now.unit.now.accessible ≡ false → result ≡ None }
+    ensures { result ≡ first_mover (filter (in_need vacancy.now.unit.now) (movers_of vacancy.now.plan.now vacancy.now.unit.now vacancy.now.day vacancy.now.requests.now vacancy.now.history.now.households)) }
 {
     if vacancy.unit.accessible {
         first_mover(vacancy, true)

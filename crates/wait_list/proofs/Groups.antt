@@ -1,7 +1,7 @@
--- The groups of a unit that has accessible features, and of one that has none.
-use Rattle.wait_list.proofs.Words.{◌≡◌, ◌∙◌, sym, ap, refl, get_or, Bool, true, false, List, Option, Some, None, not, option_map, option_or, cond_both, Applicant, Candidate, Asked, needs, candidates, next_of, next_applicant, mover_of}
+-- The groups of a unit, two by two.
+use Rattle.wait_list.proofs.Words.{◌≡◌, ◌∙◌, sym, ap, refl, get_or, Bool, true, false, List, Option, Some, None, not, option_map, option_or, Applicant, Candidate, Asked, needs, candidates, next_of, next_applicant, mover_of}
 use Rattle.std.specs.Prelude.{is_some}
-use Rattle.list_laws.proofs.Filters.{filter_none, filter_alike}
+use Rattle.list_laws.proofs.Filters.{filter_alike}
 use Rattle.wait_list.specs.{declared.next.Group.Group, Group.is_of, Next.next_candidate}
 
 -- the first who is there of three is that of one and two
@@ -26,42 +26,22 @@ module _ (asked : Asked) (applicants : List Applicant) where
       next_applicant asked is_of applicants ≡ next_applicant asked other applicants
   same_group is_of other same = ap of_group (filter_alike is_of other (candidates asked applicants) (λ k d within. same (get_or (candidates asked applicants) k d)))
 
-  module _ (is : asked.unit.accessible ≡ false) where
-    none_needs : (applicant : Applicant) → needs asked applicant ≡ false
-    none_needs applicant = rw is refl
-
-    nobody_needs : next_applicant asked (needs asked) applicants ≡ None
-    nobody_needs =
-        ap of_group (filter_none (needs asked) (candidates asked applicants) (λ k d within. none_needs (get_or (candidates asked applicants) k d)))
-        ∙ cond_both asked.wanted _ _ (λ next. option_map (λ (applicant : Applicant). Candidate.Applicant applicant.number) next ≡ None) (λ _. refl) (λ _. refl)
-
-    pub without_features : asked.needing ≡ None →
-        option_or (mover_of asked.other) (next_applicant asked (is_of Group.Everyone) applicants) ≡ next_candidate asked applicants
-    without_features none =
-        ap (λ (next : Option Candidate). option_or (mover_of asked.other) next)
-        (same_group (is_of Group.Everyone) (λ applicant. not (needs asked applicant)) (λ applicant. sym (ap not (none_needs applicant))))
-        ∙ sym (ap (λ (first : Option Candidate). option_or (option_or first (mover_of asked.other)) (next_applicant asked (λ applicant. not (needs asked applicant)) applicants))
-        (ap (λ (needing : Option _). option_or (mover_of needing) (next_applicant asked (needs asked) applicants)) none ∙ nobody_needs))
-
-  module _ (is : asked.unit.accessible ≡ true) (needing : Option Candidate)
-      (first : needing ≡ option_or (mover_of asked.needing) (next_applicant asked (is_of Group.Needing) applicants))
+  module _ (needing : Option Candidate)
+      (first : needing ≡ option_or (mover_of asked.needing) (next_applicant asked (is_of asked Group.Needing) applicants))
     where
-      same : (applicant : Applicant) → applicant.accessible ≡ needs asked applicant
-      same applicant = rw is refl
-
       in_need : needing ≡ option_or (mover_of asked.needing) (next_applicant asked (needs asked) applicants)
-      in_need = first ∙ ap (λ (next : Option Candidate). option_or (mover_of asked.needing) next) (same_group (is_of Group.Needing) (needs asked) same)
+      in_need = first ∙ ap (λ (next : Option Candidate). option_or (mover_of asked.needing) next) (same_group (is_of asked Group.Needing) (needs asked) (λ applicant. refl))
 
-      turns : next_candidate asked applicants ≡ option_or needing (option_or (mover_of asked.other) (next_applicant asked (is_of Group.NotNeeding) applicants))
+      turns : next_candidate asked applicants ≡ option_or needing (option_or (mover_of asked.other) (next_applicant asked (is_of asked Group.NotNeeding) applicants))
       turns =
           of_pairs (option_or (mover_of asked.needing) (next_applicant asked (needs asked) applicants)) (mover_of asked.other) (next_applicant asked (λ applicant. not (needs asked applicant)) applicants)
           ∙ ap (λ (one : Option Candidate). option_or one (option_or (mover_of asked.other) (next_applicant asked (λ applicant. not (needs asked applicant)) applicants))) (sym in_need)
           ∙ ap (λ (next : Option Candidate). option_or needing (option_or (mover_of asked.other) next))
-          (same_group (λ applicant. not (needs asked applicant)) (is_of Group.NotNeeding) (λ applicant. ap not (sym (same applicant))))
+          (same_group (λ applicant. not (needs asked applicant)) (is_of asked Group.NotNeeding) (λ applicant. refl))
 
       pub who_needs : is_some needing ≡ true → needing ≡ next_candidate asked applicants
       who_needs there = sym (turns ∙ if_there needing _ there)
 
       pub another : is_some needing ≡ false → (other : Option Candidate) →
-          other ≡ option_or (mover_of asked.other) (next_applicant asked (is_of Group.NotNeeding) applicants) → other ≡ next_candidate asked applicants
+          other ≡ option_or (mover_of asked.other) (next_applicant asked (is_of asked Group.NotNeeding) applicants) → other ≡ next_candidate asked applicants
       another none other is_other = is_other ∙ sym (turns ∙ if_none needing _ none)

@@ -106,7 +106,6 @@ impl WaitList {
     /// Who is next for a unit, and `None` where there is no mover and no applicant could be admitted to it.
     pub fn next_for(&self, ask: &Ask) -> Option<Candidate>
         requires bedrooms { ask.now.unit.now.bedrooms ≤ 5 }
-        requires needing { ask.now.unit.now.accessible ≡ false → ask.now.needing ≡ None }
         ensures { result ≡ next_candidate (asked_by ask.now) self.now.applicants }
     {
         next_among(&self.ranked, ask)

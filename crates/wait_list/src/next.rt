@@ -1,6 +1,6 @@
 //! The one who is next, of applicants in the order in which they stand.
 
-ghost use Rattle.std.specs.Prelude.{◌≡◌, ◌≤◌, ◌&&◌, false, None, filter, find};
+ghost use Rattle.std.specs.Prelude.{◌≡◌, ◌≤◌, ◌&&◌, filter, find};
 ghost use Rattle.std.specs.Option.{option_copied, option_or};
 ghost use Rattle.wait_list.specs.Waiting.{HaveSizes, IsSize};
 ghost use Rattle.wait_list.specs.Next.{asked_by, is_within_limit, is_extremely_low, is_candidate, candidates, stands_behind, first_of, next_of, next_applicant, mover_of, next_candidate};
@@ -13,11 +13,10 @@ use rent_table::{admission_limit, has_extremely_low_income, suits};
 /// Which applicants a scan looks at.
 #[derive(Clone, Copy)]
 pub enum Group {
-    /// Those who need accessible features.
+    /// Those who need accessible features that the unit has.
     Needing,
     /// The others.
     NotNeeding,
-    Everyone,
 }
 
 /// Who is next for a unit, where these applicants wait, each before those that stand behind it.
@@ -25,12 +24,8 @@ pub fn next_among(ranked: &[Applicant], ask: &Ask) -> Option<Candidate>
     requires bedrooms { ask.now.unit.now.bedrooms ≤ 5 }
     requires sizes { HaveSizes ranked.now }
     requires in_order { StandInOrder ranked.now }
-    requires needing { ask.now.unit.now.accessible ≡ false → ask.now.needing ≡ None }
     ensures { result ≡ next_candidate (asked_by ask.now) ranked.now }
 {
-    if !ask.unit.accessible {
-        return mover_or_applicant(ranked, ask, ask.other, Group::Everyone);
-    }
     let needing = mover_or_applicant(ranked, ask, ask.needing, Group::Needing);
     if needing.is_some() {
         needing
@@ -49,7 +44,7 @@ fn mover_or_applicant(
     requires bedrooms { ask.now.unit.now.bedrooms ≤ 5 }
     requires sizes { HaveSizes ranked.now }
     requires in_order { StandInOrder ranked.now }
-    ensures { result ≡ option_or (mover_of mover) (next_applicant (asked_by ask.now) (is_of group) ranked.now) }
+    ensures { result ≡ option_or (mover_of mover) (next_applicant (asked_by ask.now) (is_of (asked_by ask.now) group) ranked.now) }
 {
     match mover {
         Some(household) => Some(Candidate::Household(household)),
@@ -61,7 +56,7 @@ fn next_applicant(ranked: &[Applicant], ask: &Ask, group: Group) -> Option<Candi
     requires bedrooms { ask.now.unit.now.bedrooms ≤ 5 }
     requires sizes { HaveSizes ranked.now }
     requires in_order { StandInOrder ranked.now }
-    ensures { result ≡ next_applicant (asked_by ask.now) (is_of group) ranked.now }
+    ensures { result ≡ next_applicant (asked_by ask.now) (is_of (asked_by ask.now) group) ranked.now }
 {
     next_of(ranked, ask, group).map(|applicant| Candidate::Applicant(applicant.number))
 }
@@ -93,10 +88,10 @@ fn first_of<'a>(ranked: &'a [Applicant], ask: &Ask, group: Group) -> Option<&'a 
 fn find_candidate<'a>(ranked: &'a [Applicant], ask: &Ask, group: Group) -> Option<&'a Applicant>
     requires bedrooms { ask.now.unit.now.bedrooms ≤ 5 }
     requires sizes { HaveSizes ranked.now }
-    ensures { option_copied result ≡ find (λ applicant. is_candidate (asked_by ask.now) applicant && is_of group applicant) ranked.now }
+    ensures { option_copied result ≡ find (λ applicant. is_candidate (asked_by ask.now) applicant && is_of (asked_by ask.now) group applicant) ranked.now }
 {
     for applicant in ranked {
-        if is_candidate(ask, applicant) && group.has(applicant) {
+        if group.has(ask, applicant) && is_candidate(ask, applicant) {
             return Some(applicant);
         }
     }
@@ -121,11 +116,11 @@ fn first_extremely_low<'a>(
 fn find_extremely_low<'a>(ranked: &'a [Applicant], ask: &Ask, group: Group) -> Option<&'a Applicant>
     requires bedrooms { ask.now.unit.now.bedrooms ≤ 5 }
     requires sizes { HaveSizes ranked.now }
-    ensures { option_copied result ≡ find (λ applicant. (is_candidate (asked_by ask.now) applicant && is_of group applicant) && is_extremely_low (asked_by ask.now) applicant) ranked.now }
+    ensures { option_copied result ≡ find (λ applicant. (is_candidate (asked_by ask.now) applicant && is_of (asked_by ask.now) group applicant) && is_extremely_low (asked_by ask.now) applicant) ranked.now }
 {
     for applicant in ranked {
-        if is_candidate(ask, applicant)
-            && group.has(applicant)
+        if group.has(ask, applicant)
+            && is_candidate(ask, applicant)
             && is_extremely_low(ask, applicant)
         {
             return Some(applicant);
@@ -142,13 +137,13 @@ pub fn stands_behind(applicant: &Applicant, other: &Applicant) -> bool
 }
 
 impl Group {
-    fn has(self, applicant: &Applicant) -> bool
-        ensures { result ≡ is_of self applicant.now }
+    fn has(self, ask: &Ask, applicant: &Applicant) -> bool
+        ensures { result ≡ is_of (asked_by ask.now) self applicant.now }
     {
+        let needs = ask.unit.accessible && applicant.accessible;
         match self {
-            Group::Needing => applicant.accessible,
-            Group::NotNeeding => !applicant.accessible,
-            Group::Everyone => true,
+            Group::Needing => needs,
+            Group::NotNeeding => !needs,
         }
     }
 }

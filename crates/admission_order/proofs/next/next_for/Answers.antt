@@ -11,4 +11,4 @@ returns c =
     c.by_targets.ensures
     ∙ next_by (wants_extremely_low (targets_of c.args.plan.now c.args.day known.households)) c.args.unit.now c.args.plan.now (limits_on known.limits c.args.day) _ _ known.waiting _ _
     c.next_if-first.ensures c.next_if-extremely_low.ensures
-    ∙ simp (c.needing_mover-needing.ensures.value, c.first_mover-other.ensures, c.requests.ensures.requests, c.history.ensures.households) refl
+    ∙ simp (c.needing_mover-needing.ensures, c.first_mover-other.ensures, c.requests.ensures.requests, c.history.ensures.households) refl

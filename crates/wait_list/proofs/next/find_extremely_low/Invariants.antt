@@ -5,5 +5,5 @@ use Rattle.wait_list.proofs.next.find_extremely_low.Given as goal
 
 abbrev pub invariant-loop-applicant : goal.invariant-loop-applicant
 invariant-loop-applicant l =
-    let passes : Applicant → Bool = λ applicant. (is_candidate (asked_by l.ask) applicant && is_of l.group applicant) && is_extremely_low (asked_by l.ask) applicant in
+    let passes : Applicant → Bool = λ applicant. (is_candidate (asked_by l.ask) applicant && is_of (asked_by l.ask) l.group applicant) && is_extremely_low (asked_by l.ask) applicant in
     find passes (drop l.applicant-index l.ranked) ≡ find passes l.ranked

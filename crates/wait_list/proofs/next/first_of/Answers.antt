@@ -8,5 +8,5 @@ pub returns : goal.returns
 returns c =
     let asked = asked_by c.args.ask.now in
     c.find_candidate.ensures
-    ∙ found_is_first (λ applicant. is_candidate asked applicant && is_of c.args.group applicant) c.args.ranked.now c.requires.in_order
-    ∙ ap first_of (sym (filter-filter (is_of c.args.group) (is_candidate asked) c.args.ranked.now))
+    ∙ found_is_first (λ applicant. is_candidate asked applicant && is_of asked c.args.group applicant) c.args.ranked.now c.requires.in_order
+    ∙ ap first_of (sym (filter-filter (is_of asked c.args.group) (is_candidate asked) c.args.ranked.now))
