@@ -2,3 +2,4 @@ mod Results
 mod Texts
 mod Asked
 mod Read
+mod Refused

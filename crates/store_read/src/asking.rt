@@ -1,16 +1,18 @@
 //! The rows of all tables are asked for.
 
-ghost use Rattle.std.specs.Prelude.{◌≡◌, ◌++◌, ◌∷◌, [], false, OnOk, IfOk};
+ghost use Rattle.std.specs.Prelude.{◌≡◌, ◌++◌, ◌∷◌, [], false, List, OnOk, IfOk, IfErr};
+ghost use Rattle.sqlite.specs.declared.error.{Error.TheVariants.SqliteFailure, ErrorCode.TheVariants.OutOfMemory};
 ghost use Rattle.sqlite.specs.{State.HasCleanDisk, State.Survives, Held.state};
 ghost use Rattle.store_sql.specs.Schema.{no_schema};
 ghost use Rattle.store_sql.specs.Texts.{select_acts, select_records, select_lines};
-ghost use Rattle.store_read.specs.Asking.{AreActs, AreRecords, AreLines, AreAsked, AreShown, Asks, OnlyReads};
+ghost use Rattle.store_sql.specs.Takes.{IsExcused, IsServing};
+ghost use Rattle.store_read.specs.Asking.{AreActs, AreRecords, AreLines, AreAsked, AreShown, Asks, OnlyReads, ListsActs, ListsRecords, ListsLines, ShowsInTurn, IsRefusedByFault, IsUnreadByFault, AreUnreadByFault};
 ghost use Rattle.store_write.specs.Effects.{Undoes};
 
 use crate::reading::NO_MEMORY;
 use crate::shown::ShownRow;
 use plain_data::NoMemory;
-use sqlite::{Alter, Connection, Error, ErrorCode};
+use sqlite::{Alter, Connection, Error};
 use std::alloc::Global;
 use store_decode::{Narrow, ReadRows};
 use store_sql::{WideAct, WideLine, WideRecord};
@@ -34,7 +36,8 @@ pub enum AskFault {
 
 /// Holds one row more.
 fn hold<T: Narrow>(read: &mut ReadRows<T>, row: T) -> Result<(), Error>
-    ensures { OnOk result (read.new ≡ read.old ++ row ∷ []) }
+    ensures holds { OnOk result (read.new ≡ read.old ++ row ∷ []) }
+    ensures fails { IfErr result (λ e. e ≡ SqliteFailure OutOfMemory) }
 {
     match read.push(row) {
         Ok(()) => Ok(()),
@@ -50,8 +53,10 @@ fn read_rows<S: Alter, T: ShownRow>(
 ) -> Result<ReadRows<T>, Error>
     requires text { sql.now ≡ T.text }
     requires reads { OnlyReads T.text }
+    requires refused { IsRefusedByFault S.Store T.text }
     requires alone { conn.old.in_transaction ≡ false }
     ensures shown { HasCleanDisk (state S.Store conn.new) → IfOk result (λ rows. AreShown S.Store T.values T.text rows conn.old conn.new) }
+    ensures cause { HasCleanDisk (state S.Store conn.new) → IfErr result (λ e. IsServing (state S.Store conn.old) → (known : List T) → ShowsInTurn S.Store T.values T.text known conn.old → IsExcused (state S.Store conn.old) (state S.Store conn.new) e) }
     ensures undone { HasCleanDisk (state S.Store conn.new) → Undoes (state S.Store conn.old) (state S.Store conn.new) }
     ensures alone { conn.new.in_transaction ≡ false }
     ensures survives { Survives (state S.Store conn.old) (state S.Store conn.new) (λ _. ⊥) }
@@ -66,7 +71,8 @@ fn read_rows<S: Alter, T: ShownRow>(
         };
         hold(&mut read, T::of_row(alloc, row)?)?;
     }
-    Err(Error::SqliteFailure(ErrorCode::TooBig))
+    // There is no memory for so many rows.
+    Err(NO_MEMORY)
 }
 
 /// The acts, of a file in which the query on them is understood.
@@ -77,6 +83,7 @@ fn ask_acts<S: Alter>(
     requires alone { conn.old.in_transaction ≡ false }
     ensures known { HasCleanDisk (state S.Store conn.new) → OnOk result ((state S.Store conn.old).now.schema ≡ no_schema → ⊥) }
     ensures shown { HasCleanDisk (state S.Store conn.new) → IfOk result (λ acts. Asks AreActs acts (state S.Store conn.old) (state S.Store conn.new)) }
+    ensures cause { HasCleanDisk (state S.Store conn.new) → IfErr result (IsUnreadByFault ListsActs (state S.Store conn.old) (state S.Store conn.new)) }
     ensures undone { HasCleanDisk (state S.Store conn.new) → Undoes (state S.Store conn.old) (state S.Store conn.new) }
     ensures alone { conn.new.in_transaction ≡ false }
     ensures survives { Survives (state S.Store conn.old) (state S.Store conn.new) (λ _. ⊥) }
@@ -98,6 +105,7 @@ fn ask_records<S: Alter>(
 ) -> Result<ReadRows<WideRecord>, AskFault>
     requires alone { conn.old.in_transaction ≡ false }
     ensures shown { HasCleanDisk (state S.Store conn.new) → IfOk result (λ records. Asks AreRecords records (state S.Store conn.old) (state S.Store conn.new)) }
+    ensures cause { HasCleanDisk (state S.Store conn.new) → IfErr result (IsUnreadByFault ListsRecords (state S.Store conn.old) (state S.Store conn.new)) }
     ensures undone { HasCleanDisk (state S.Store conn.new) → Undoes (state S.Store conn.old) (state S.Store conn.new) }
     ensures alone { conn.new.in_transaction ≡ false }
     ensures survives { Survives (state S.Store conn.old) (state S.Store conn.new) (λ _. ⊥) }
@@ -116,6 +124,7 @@ fn ask_lines<S: Alter>(
 ) -> Result<ReadRows<WideLine>, AskFault>
     requires alone { conn.old.in_transaction ≡ false }
     ensures shown { HasCleanDisk (state S.Store conn.new) → IfOk result (λ lines. Asks AreLines lines (state S.Store conn.old) (state S.Store conn.new)) }
+    ensures cause { HasCleanDisk (state S.Store conn.new) → IfErr result (IsUnreadByFault ListsLines (state S.Store conn.old) (state S.Store conn.new)) }
     ensures undone { HasCleanDisk (state S.Store conn.new) → Undoes (state S.Store conn.old) (state S.Store conn.new) }
     ensures survives { Survives (state S.Store conn.old) (state S.Store conn.new) (λ _. ⊥) }
 {
@@ -131,6 +140,7 @@ fn ask_lines<S: Alter>(
 /// open, so they are of one moment without a transaction.
 pub fn ask_tables<S: Alter>(conn: &mut Connection<S>, alloc: Global) -> Result<AskedRows, AskFault>
     ensures shown { HasCleanDisk (state S.Store conn.new) → IfOk result (λ rows. AreAsked rows (state S.Store conn.old).now) }
+    ensures cause { HasCleanDisk (state S.Store conn.new) → IfErr result (AreUnreadByFault (state S.Store conn.old) (state S.Store conn.new)) }
     ensures undone { HasCleanDisk (state S.Store conn.new) → Undoes (state S.Store conn.old) (state S.Store conn.new) }
     ensures survives { Survives (state S.Store conn.old) (state S.Store conn.new) (λ _. ⊥) }
 {

@@ -1,8 +1,9 @@
 //! A row's columns are read.
 
-ghost use Rattle.std.specs.Prelude.{◌≡◌, ◌<◌, ℕ, ℤ, slice_index_or, IfOk};
+ghost use Rattle.std.specs.Prelude.{◌≡◌, ◌<◌, ◌≤◌, ℕ, ℤ, length, slice_index_or, IfOk, IfErr};
+ghost use Rattle.sqlite.specs.declared.error.{Error.TheVariants.SqliteFailure, ErrorCode.TheVariants.OutOfMemory};
 ghost use Rattle.sqlite.specs.declared.types.Value.TheVariants.{Int, Text as Words};
-ghost use Rattle.sqlite.specs.{Order.column, Values.or_null};
+ghost use Rattle.sqlite.specs.{Order.column, Values.or_null, Values.IsInt};
 ghost use Rattle.store_sql.specs.Rows.{act_values, record_values, line_values};
 
 use plain_data::SharedText;
@@ -15,7 +16,8 @@ pub(crate) const NO_MEMORY: Error = Error::SqliteFailure(ErrorCode::OutOfMemory)
 
 /// The numbers in the first columns of a row.
 fn numbers_of<const N: usize>(row: &Row) -> Result<[i64; N], Error>
-    ensures { IfOk result (λ numbers. (at : ℕ) (d : ℤ) → at < N → column row.now at ≡ Int (slice_index_or numbers at d)) }
+    ensures reads { IfOk result (λ numbers. (at : ℕ) (d : ℤ) → at < N → column row.now at ≡ Int (slice_index_or numbers at d)) }
+    ensures fails { IfErr result (λ e. N ≤ length row.now → ((at : ℕ) → at < N → IsInt (column row.now at)) → e ≡ SqliteFailure OutOfMemory) }
 {
     let mut numbers = [0i64; N];
     for at in 0..N {
@@ -25,7 +27,8 @@ fn numbers_of<const N: usize>(row: &Row) -> Result<[i64; N], Error>
 }
 
 fn number_or_none(row: &Row, at: usize) -> Result<Option<i64>, Error>
-    ensures { IfOk result (λ found. (n : _) → column row.now at ≡ or_null Int n → found ≡ n) }
+    ensures reads { IfOk result (λ found. (n : _) → column row.now at ≡ or_null Int n → found ≡ n) }
+    ensures fails { IfErr result (λ _. at < length row.now → (n : _) → column row.now at ≡ or_null Int n → ⊥) }
 {
     match row.get_ref(at)? {
         ValueRef::Null => Ok(None),
@@ -35,7 +38,8 @@ fn number_or_none(row: &Row, at: usize) -> Result<Option<i64>, Error>
 }
 
 fn text_of(alloc: Global, row: &Row, at: usize) -> Result<SharedText, Error>
-    ensures { IfOk result (λ text. column row.now at ≡ Words text) }
+    ensures reads { IfOk result (λ text. column row.now at ≡ Words text) }
+    ensures fails { IfErr result (λ e. at < length row.now → (t : _) → column row.now at ≡ Words t → e ≡ SqliteFailure OutOfMemory) }
 {
     match row.get_ref(at)? {
         ValueRef::Text(bytes) => {
@@ -48,7 +52,8 @@ fn text_of(alloc: Global, row: &Row, at: usize) -> Result<SharedText, Error>
 
 /// The act that a row shows.
 pub(crate) fn act_of_row(alloc: Global, row: &Row) -> Result<WideAct, Error>
-    ensures { IfOk result (λ read. (act : _) → row.now ≡ act_values act → read ≡ act) }
+    ensures reads { IfOk result (λ read. (act : _) → row.now ≡ act_values act → read ≡ act) }
+    ensures fails { IfErr result (λ e. (act : _) → row.now ≡ act_values act → e ≡ SqliteFailure OutOfMemory) }
 {
     let [n, session, clerk, request, day] = numbers_of::<5>(row)?;
     let body = text_of(alloc, row, 5)?;
@@ -64,7 +69,8 @@ pub(crate) fn act_of_row(alloc: Global, row: &Row) -> Result<WideAct, Error>
 
 /// The record that a row shows.
 pub(crate) fn record_of_row(row: &Row) -> Result<WideRecord, Error>
-    ensures { IfOk result (λ read. (known : _) → row.now ≡ record_values known → read ≡ known) }
+    ensures reads { IfOk result (λ read. (known : _) → row.now ≡ record_values known → read ≡ known) }
+    ensures fails { IfErr result (λ e. (known : _) → row.now ≡ record_values known → e ≡ SqliteFailure OutOfMemory) }
 {
     let numbers = numbers_of::<16>(row)?;
     let event = number_or_none(row, 16)?;
@@ -95,7 +101,8 @@ pub(crate) fn record_of_row(row: &Row) -> Result<WideRecord, Error>
 
 /// The line that a row shows.
 pub(crate) fn line_of_row(row: &Row) -> Result<WideLine, Error>
-    ensures { IfOk result (λ read. (line : _) → row.now ≡ line_values line → read ≡ line) }
+    ensures reads { IfOk result (λ read. (line : _) → row.now ≡ line_values line → read ≡ line) }
+    ensures fails { IfErr result (λ e. (line : _) → row.now ≡ line_values line → e ≡ SqliteFailure OutOfMemory) }
 {
     let numbers = numbers_of::<10>(row)?;
     Ok(WideLine {

@@ -1,6 +1,7 @@
 //! A row as its query shows it.
 
-ghost use Rattle.std.specs.Prelude.{List, ℕ, ◌≡◌, IfOk};
+ghost use Rattle.std.specs.Prelude.{List, ℕ, ◌≡◌, IfOk, IfErr};
+ghost use Rattle.sqlite.specs.declared.error.{Error.TheVariants.SqliteFailure, ErrorCode.TheVariants.OutOfMemory};
 ghost use Rattle.sqlite.specs.Order.{Row as Columns};
 ghost use Rattle.store_sql.specs.Rows.{act_values, record_values, line_values};
 ghost use Rattle.store_sql.specs.Texts.{select_acts, select_records, select_lines};
@@ -21,7 +22,8 @@ pub(crate) trait ShownRow: Narrow {
 
     /// The row that is shown.
     fn of_row(alloc: Global, row: &Row) -> Result<Self, Error>
-        ensures { IfOk result (λ read. (known : Self) → row.now ≡ values known → read ≡ known) };
+        ensures reads { IfOk result (λ read. (known : Self) → row.now ≡ values known → read ≡ known) }
+        ensures fails { IfErr result (λ e. (known : Self) → row.now ≡ values known → e ≡ SqliteFailure OutOfMemory) };
 }
 
 impl ShownRow for WideAct {

@@ -1,5 +1,5 @@
 -- The making of the three tables in an empty file fails only for want of memory or a fault of the store.
-use Rattle.std.proofs.Common.{◌≡◌, ◌<◌, ◌≤◌, ◌+◌, ◌*◌, ◌^◌, ℕ, true, false, List, [], length, codes, IsUtf8, Option, None, Some, Ok, Err, IsTrue, inl, inr, refl, sym, ap, subst, ◌∙◌, arith, true≢false}
+use Rattle.std.proofs.Common.{◌≡◌, ◌<◌, ◌≤◌, ◌+◌, ◌*◌, ◌^◌, ℕ, true, false, List, [], ◌∷◌, length, codes, IsUtf8, Option, None, Some, Ok, Err, IsTrue, inl, inr, refl, sym, ap, subst, ◌∙◌, arith, true≢false}
 use Rattle.sqlite.specs.declared.types.Value.TheVariants.{Text}
 use Rattle.sqlite.specs.declared.error.Error.{Error}
 use Rattle.sqlite.specs.Table.{Table}
@@ -110,29 +110,26 @@ created_by_fault schema sql table is text defined plain fit can uncounted old ne
 
 -- ---- the three tables
 
+-- what holds of the only one holds of each
+of_one : {X : Type 0} (P : X → Type 0) (one : X) → P one → (x : X) → Has (one ∷ []) x → P x
+of_one P one holds x (inl is) = subst P (sym is) holds
+of_one P one holds x (inr none) = absurd none
+
 acts_makeable : IsMakeable no_schema create_acts acts_table
 unfolding everything fits_kind is_free_name begins same_name value_cmp lib.Utf8.encode lib.Ieee.is_nan lib.Ieee.lt
 acts_makeable = record {
   text = (create_acts, (refl, refl));
   name = (acts_table.name, (refl, refl));
   free = refl;
-  unused = one_index;
+  unused = of_one (λ (index : Index). is_used no_schema index.name ≡ false) _ refl;
   own = refl;
   trees = omega arith;
   reals = omega arith;
-  keys = one_key;
+  keys = of_one (λ key. index_reals (table_reals acts_table) key < 2 ^ 64) _ (omega arith);
   formed = refl;
   fit = refl;
   short = omega arith;
 }
-  where
-    one_index : (index : Index) → Has (automatics acts_table 0 0 acts_table.uniques) index → is_used no_schema index.name ≡ false
-    one_index index (inl is) = ap (λ (i : Index). is_used no_schema i.name) is
-    one_index index (inr none) = absurd none
-
-    one_key : (key : List ℕ) → Has acts_table.uniques key → index_reals (table_reals acts_table) key < 2 ^ 64
-    one_key key (inl is) = subst (λ k. index_reals (table_reals acts_table) k < 2 ^ 64) (sym is) (omega arith)
-    one_key key (inr none) = absurd none
 
 records_makeable : IsMakeable acts_schema create_records records_table
 unfolding everything fits_kind is_free_name begins same_name value_cmp lib.Utf8.encode lib.Ieee.is_nan lib.Ieee.lt
@@ -140,23 +137,15 @@ records_makeable = record {
   text = (create_records, (refl, refl));
   name = (records_table.name, (refl, refl));
   free = refl;
-  unused = one_index;
+  unused = of_one (λ (index : Index). is_used acts_schema index.name ≡ false) _ refl;
   own = refl;
   trees = omega arith;
   reals = omega arith;
-  keys = one_key;
+  keys = of_one (λ key. index_reals (table_reals records_table) key < 2 ^ 64) _ (omega arith);
   formed = refl;
   fit = refl;
   short = omega arith;
 }
-  where
-    one_index : (index : Index) → Has (automatics records_table 0 0 records_table.uniques) index → is_used acts_schema index.name ≡ false
-    one_index index (inl is) = ap (λ (i : Index). is_used acts_schema i.name) is
-    one_index index (inr none) = absurd none
-
-    one_key : (key : List ℕ) → Has records_table.uniques key → index_reals (table_reals records_table) key < 2 ^ 64
-    one_key key (inl is) = subst (λ k. index_reals (table_reals records_table) k < 2 ^ 64) (sym is) (omega arith)
-    one_key key (inr none) = absurd none
 
 lines_makeable : IsMakeable records_schema create_lines lines_table
 unfolding everything fits_kind is_free_name begins same_name value_cmp lib.Utf8.encode lib.Ieee.is_nan lib.Ieee.lt
@@ -164,23 +153,15 @@ lines_makeable = record {
   text = (create_lines, (refl, refl));
   name = (lines_table.name, (refl, refl));
   free = refl;
-  unused = one_index;
+  unused = of_one (λ (index : Index). is_used records_schema index.name ≡ false) _ refl;
   own = refl;
   trees = omega arith;
   reals = omega arith;
-  keys = one_key;
+  keys = of_one (λ key. index_reals (table_reals lines_table) key < 2 ^ 64) _ (omega arith);
   formed = refl;
   fit = refl;
   short = omega arith;
 }
-  where
-    one_index : (index : Index) → Has (automatics lines_table 0 0 lines_table.uniques) index → is_used records_schema index.name ≡ false
-    one_index index (inl is) = ap (λ (i : Index). is_used records_schema i.name) is
-    one_index index (inr none) = absurd none
-
-    one_key : (key : List ℕ) → Has lines_table.uniques key → index_reals (table_reals lines_table) key < 2 ^ 64
-    one_key key (inl is) = subst (λ k. index_reals (table_reals lines_table) k < 2 ^ 64) (sym is) (omega arith)
-    one_key key (inr none) = absurd none
 
 -- the first, the second and the third, each after those before it
 module _ (a new : State) (e : Error) (empty : a.now.schema ≡ no_schema) where

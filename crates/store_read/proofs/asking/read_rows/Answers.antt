@@ -1,10 +1,13 @@
-use Rattle.std.proofs.Common.{[], not, refl, sym, ap, subst, ◌∙◌, rules, arith}
-use Rattle.sqlite.specs.State.{HasCleanDisk, IsUnchanged}
+use Rattle.std.proofs.Common.{[], inl, not, refl, sym, ap, subst, ◌∙◌, rules, arith}
+use Rattle.sqlite.specs.State.{HasCleanDisk, IsUnchanged, FailsToQuery}
+use Rattle.std.proofs.lemmas.Result.{err_from_is_err_and}
 use Rattle.sqlite.specs.Held.{state}
 use Rattle.sqlite.specs.Given.{HasBegun}
 use Rattle.sqlite.proofs.StateLemmas.{survives_then}
+use Rattle.sqlite.proofs.Callers.{unchanged_then}
 use Rattle.store_read.specs.Asking.{OnlyReads}
 use Rattle.store_read.proofs.Asked.{fails, ended_undoes, commits_nothing, HasReadAs, begins, reads_more, reads_all}
+use Rattle.store_read.proofs.Refused.{next_by_fault, row_by_want}
 use Rattle.store_read.proofs.asking.read_rows.Goals as goal
 
 pub returns-in_err-rows-clause-undone : goal.returns-in_err-rows-clause-undone
@@ -56,6 +59,50 @@ rows-preserved g c =
           let same : IsUnchanged (state g.S.Store was) (state g.S.Store now) = rw c.in_ok-row.was at (moved.same clean) in
           let on = rw (c.in_ok-row.was, c.in-Some.is) at (moved.ok clean) in
           let one = c.in_ok-of_row in
-          subst (HasReadAs g.S.Store g.T.ShownRow.values g.T.ShownRow.text c.args.conn.now now) (sym c.in_ok-hold.ensures)
-          (reads_more g.S.Store g.T.ShownRow.values g.T.ShownRow.text c.args.conn.now was now c.rows.read c.in-Some.row.now one.field-0 before on same one.ensures),
+          subst (HasReadAs g.S.Store g.T.ShownRow.values g.T.ShownRow.text c.args.conn.now now) (sym c.in_ok-hold.ensures.holds)
+          (reads_more g.S.Store g.T.ShownRow.values g.T.ShownRow.text c.args.conn.now was now c.rows.read c.in-Some.row.now one.field-0 before on same one.ensures.reads),
     )
+
+pub returns-in_err-rows-clause-cause : goal.returns-in_err-rows-clause-cause
+returns-in_err-rows-clause-cause g c clean =
+    let old = c.args.conn.now in
+    let new = c.query.follows.lender-at-none in
+    let e = c.in_err-rows.field-0.0 in
+    let refused = rw c.in_err-rows.was at c.query.follows.holds-at-none in
+    let p = err_from_is_err_and c.from_residual.result c.from_residual.ensures.1 in
+    rw (p.1, p.2) (λ serves known shows. c.requires.refused old new e serves (subst (λ s. FailsToQuery s [] (state g.S.Store old) (state g.S.Store new) e) c.requires.text (refused.err clean)))
+
+pub returns-in_err-row-clause-cause : goal.returns-in_err-row-clause-cause
+returns-in_err-row-clause-cause g c clean =
+    let old = c.args.conn.now in
+    let mid = c.rows.rows.conn.now in
+    let moved = c.next.follows.holds-at-none in
+    let new = c.next.follows.lender-at-none.conn.now in
+    let late : HasCleanDisk (state g.S.Store new) = search rules in
+    let was = c.rows.invariant.3 (omega (arith, moved.survives.clean, late)) in
+    let failed = rw c.in_err-row.was at (moved.err late) in
+    let p = err_from_is_err_and c.from_residual-in_err-row.result c.from_residual-in_err-row.ensures.1 in
+    rw (p.1, p.2) (λ serves known shows.
+    let why = next_by_fault g.S.Store g.T.ShownRow.values g.T.ShownRow.text old mid was.same new was.given c.in_err-row.field-0.0 c.requires.refused was.gave c.rows.invariant.2 failed serves in
+    search rules)
+
+pub returns-in_err-of_row-clause-cause : goal.returns-in_err-of_row-clause-cause
+returns-in_err-of_row-clause-cause g c clean =
+    let old = c.args.conn.now in
+    let mid = c.rows.rows.conn.now in
+    let moved = c.next.follows.holds-at-none in
+    let now = c.next.follows.lender-at-none.conn.now in
+    let late : HasCleanDisk (state g.S.Store now) = search rules in
+    let before = c.rows.invariant.3 (omega (arith, moved.survives.clean, late)) in
+    let same : IsUnchanged (state g.S.Store mid) (state g.S.Store now) = rw c.in_ok-row.was at (moved.same late) in
+    let on = rw (c.in_ok-row.was, c.in-Some.is) at (moved.ok late) in
+    let gave = on g.T.ShownRow.text [] before.given before.gave in
+    let both = unchanged_then (state g.S.Store old) (state g.S.Store mid) (state g.S.Store now) before.same same in
+    let p = err_from_is_err_and c.from_residual-in_err-of_row.result c.from_residual-in_err-of_row.ensures.1 in
+    rw (p.1, p.2) (λ serves known shows.
+    inl (row_by_want g.S.Store g.T.ShownRow.values g.T.ShownRow.text old now both before.given c.in-Some.row.now c.in_err-of_row.field-0.0 known gave shows c.in_err-of_row.ensures.fails))
+
+pub returns-in_err-hold-clause-cause : goal.returns-in_err-hold-clause-cause
+returns-in_err-hold-clause-cause g c clean =
+    let p = err_from_is_err_and c.from_residual-in_err-hold.result c.from_residual-in_err-hold.ensures.1 in
+    rw (p.1, p.2) (λ serves known shows. inl c.in_err-hold.ensures.fails)
