@@ -5,4 +5,5 @@ mod Books
 mod Batches
 mod Calls
 mod Taking
+mod Unloaded
 mod Schemas

@@ -3,6 +3,7 @@ use Rattle.std.specs.Coded.{Coded, code_by, coded×, coded_ℕ, coded_bool}
 use Rattle.std.specs.Prelude.{◌≡◌, ◌≢◌, ◌⊎◌, ◌↔◌, ◌≤◌, ℕ, ⊤, length, All, IfSome, Bool, false, refl, List, map, Option, None, Some, IsTrue}
 use Rattle.sqlite.specs.{Tree.Trees, Effect.Database, Effect.IsDatabase, State.State, State.HasCleanDisk, State.IsLive, Held.Held, Held.held_code}
 use Rattle.sqlite_schema.specs.declared.schema.Schema.{Schema}
+use Rattle.sqlite.specs.declared.error.Error.{Error}
 use Rattle.sqlite_disk.specs.Disk.{MoreFaults}
 use Rattle.book_rows.specs.{declared.rows.Batch.Batch, Book.Book, Book.empty_book, Book.appended, Book.is_request_of}
 use Rattle.keeper_core.specs.{Keeping.BadRow, Keeping.Keeps, declared.keeper.Loaded.Loaded, declared.keeper.Committed.Committed}
@@ -10,7 +11,7 @@ use Rattle.store_sql.specs.declared.wide.{WideAct.WideAct, WideRecord.WideRecord
 use Rattle.store_sql.specs.Wide.{wide_act, wide_record, wide_line}
 use Rattle.store_sql.specs.Schema.{no_schema, book_schema}
 use Rattle.store_sql.specs.Trees.{StandsFor}
-use Rattle.store_sql.specs.Takes.{HasNumbers, longest_body}
+use Rattle.store_sql.specs.Takes.{IsExcused, HasNumbers, longest_body}
 use Rattle.store_decode.specs.Ranges.{first_bad}
 
 -- the three tables hold the rows of the book, and each number is in its range
@@ -126,6 +127,21 @@ pub record TakesBatch (s : State) (book : Book) (batch : Batch) : Type 0 where
 abbrev pub FailsByFault : State → Bool → State → Batch → Committed → Type 0
 FailsByFault old was_beside new batch result =
     HasCleanDisk new → result ≡ Committed.Failed → (book : Book) → Holds old was_beside book → TakesBatch old book batch → MoreFaults old.faults new.faults
+
+-- a book or a bad row is told
+abbrev pub IsTold : State → Bool → Type 0
+IsTold s is_beside = ((book : Book) × Holds s is_beside book) ⊎ ((row : BadRow) × HoldsBad s is_beside row)
+
+-- While the disk is clean and the steps of a query have no limit: where what was told couldn't be loaded, memory ran out
+-- or the store counted a fault.
+abbrev pub IsUnloadedByFault : State → Bool → State → Error → Type 0
+IsUnloadedByFault old was_beside new e = HasCleanDisk new → IsTold old was_beside → old.step_limit ≡ None → IsExcused old new e
+
+-- while the disk is clean and the steps of a query have no limit, the load of what was told fails only where the store
+-- counted a fault
+abbrev pub LoadFailsByFault : State → Bool → State → Loaded → Type 0
+LoadFailsByFault old was_beside new result =
+    HasCleanDisk new → result ≡ Loaded.Failed → IsTold old was_beside → old.step_limit ≡ None → MoreFaults old.faults new.faults
 
 -- while the disk is clean and the flag down, whatever a crash now may leave is some book's file
 abbrev pub LeavesBooks : State → Bool → Type 0

@@ -80,7 +80,7 @@ impl<S: Alter> Keeper for SqliteKeeper<S> {
     ghost use Rattle.sqlite.specs.Held.{state};
     ghost use Rattle.book_rows.specs.Book.{Book, IsBatch, IsBefore};
     ghost use Rattle.keeper_core.specs.Keeping.{Keeps, Gives, LoadCause, Commits, CommitsOn as AppendsOn, CommitCause, CommitCrash};
-    ghost use Rattle.keeper_sqlite.specs.Told.{Holds, HoldsBad, IsWell, TellsCrash, CrashLeaves, Notes, GoesOn, CommitsOn, StaysOpen, FailsByFault, LeavesBooks, CommitsBooks};
+    ghost use Rattle.keeper_sqlite.specs.Told.{Holds, HoldsBad, IsWell, TellsCrash, CrashLeaves, Notes, GoesOn, CommitsOn, StaysOpen, LoadFailsByFault, FailsByFault, LeavesBooks, CommitsBooks};
 
     ghost holds = { λ keeper. Holds (state S.Store keeper.file) keeper.is_beside };
 
@@ -95,7 +95,7 @@ impl<S: Alter> Keeper for SqliteKeeper<S> {
     ghost leaves = { λ keeper. CrashLeaves (state S.Store keeper.file) };
 
     // The first eight clauses are the trait's. The others say when the flag is raised, and look forward: what is told is
-    // told on, only a fault shuts the connection, and a crash leaves a book's file.
+    // told on, only a fault shuts the connection or fails the load of what was told, and a crash leaves a book's file.
     fn load(&mut self, alloc: Global) -> Loaded
         ensures gives { Gives (Holds (state S.Store self.new.file) self.new.is_beside) (HoldsBad (state S.Store self.new.file) self.new.is_beside) result }
         ensures kept { Keeps (Holds (state S.Store self.old.file) self.old.is_beside) (Holds (state S.Store self.new.file) self.new.is_beside) }
@@ -108,6 +108,7 @@ impl<S: Alter> Keeper for SqliteKeeper<S> {
         ensures notes { Notes (state S.Store self.old.file).now.schema self.old.is_beside self.new.is_beside }
         ensures goes_on { GoesOn (state S.Store self.old.file) self.old.is_beside (state S.Store self.new.file) self.new.is_beside }
         ensures stays_open { StaysOpen (state S.Store self.old.file) (state S.Store self.new.file) }
+        ensures failed { LoadFailsByFault (state S.Store self.old.file) self.old.is_beside (state S.Store self.new.file) result }
         ensures left { LeavesBooks (state S.Store self.old.file) self.old.is_beside → LeavesBooks (state S.Store self.new.file) self.new.is_beside }
         ensures found { (book : Book) → Holds (state S.Store self.new.file) self.new.is_beside book → LeavesBooks (state S.Store self.new.file) self.new.is_beside }
     {

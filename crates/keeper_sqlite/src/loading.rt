@@ -1,13 +1,14 @@
 //! A book is loaded, or its tables are made.
 
-ghost use Rattle.std.specs.Prelude.{◌≡◌, ◌↔◌, false, Bool, IsTrue, OnOk, IfOk};
+ghost use Rattle.std.specs.Prelude.{◌≡◌, ◌↔◌, false, Bool, IsTrue, OnOk, IfOk, IfErr};
 ghost use Rattle.sqlite.specs.{Held.state, State.Survives};
 ghost use Rattle.sqlite.specs.declared.error.{Error.TheVariants.SqliteFailure, ErrorCode.TheVariants.OutOfMemory};
 ghost use Rattle.store_sql.specs.Schema.{no_schema, book_schema};
+ghost use Rattle.store_read.specs.Asking.{error_of};
 ghost use Rattle.store_decode.specs.Ranges.{Narrows};
 ghost use Rattle.book_rows.specs.Book.{Book, book_of, empty_book};
 ghost use Rattle.keeper_core.specs.{Keeping.Gives, declared.keeper.Loaded.TheVariants.Rows};
-ghost use Rattle.keeper_sqlite.specs.Told.{Holds, HoldsBad, TellsNoMore, GoesOn, StaysOpen, LeavesBooks, IsSettled, IsAnswer, Notes};
+ghost use Rattle.keeper_sqlite.specs.Told.{Holds, HoldsBad, TellsNoMore, GoesOn, StaysOpen, LeavesBooks, IsSettled, IsAnswer, Notes, IsUnloadedByFault};
 
 use crate::own::is_book_schema;
 use book_rows::Tables;
@@ -42,6 +43,7 @@ fn loaded_of(rows: AskedRows) -> Loaded
 fn load_rows<S: Alter>(conn: &mut Connection<S>, alloc: Global) -> Result<Loaded, AskFault>
     ensures gives { IfOk result (λ loaded. (is_beside : Bool) → Gives (Holds (state S.Store conn.new) is_beside) (HoldsBad (state S.Store conn.new) is_beside) loaded) }
     ensures answer { IfOk result IsAnswer }
+    ensures cause { IfErr result (λ fault. (is_beside : Bool) → ((state S.Store conn.old).now.schema ≡ no_schema → ⊥) → IsUnloadedByFault (state S.Store conn.old) is_beside (state S.Store conn.new) (error_of fault)) }
     ensures tells { (is_beside : Bool) → TellsNoMore (state S.Store conn.old) is_beside (state S.Store conn.new) is_beside }
     ensures goes_on { (is_beside : Bool) → GoesOn (state S.Store conn.old) is_beside (state S.Store conn.new) is_beside }
     ensures left { (is_beside : Bool) → LeavesBooks (state S.Store conn.old) is_beside → LeavesBooks (state S.Store conn.new) is_beside }
@@ -88,6 +90,7 @@ fn is_beside<S: Alter>(conn: &Connection<S>, was_beside: bool) -> bool
 fn make<S: Alter>(conn: &mut Connection<S>) -> Result<(), Error>
     requires empty { (state S.Store conn.old).now.schema ≡ no_schema }
     ensures gives { OnOk result ((is_beside : Bool) (tables : Tables) → book_of tables ≡ empty_book → Gives (Holds (state S.Store conn.new) is_beside) (HoldsBad (state S.Store conn.new) is_beside) (Rows tables)) }
+    ensures cause { IfErr result (λ e. (is_beside : Bool) → IsUnloadedByFault (state S.Store conn.old) is_beside (state S.Store conn.new) e) }
     ensures tells { (is_beside : Bool) → TellsNoMore (state S.Store conn.old) is_beside (state S.Store conn.new) is_beside }
     ensures goes_on { (is_beside : Bool) → GoesOn (state S.Store conn.old) is_beside (state S.Store conn.new) is_beside }
     ensures stays_open { StaysOpen (state S.Store conn.old) (state S.Store conn.new) }
@@ -123,6 +126,7 @@ fn load_or_make<S: Alter>(
 ) -> Result<Loaded, Error>
     ensures gives { IfOk result (Gives (Holds (state S.Store conn.new) is_beside) (HoldsBad (state S.Store conn.new) is_beside)) }
     ensures answer { IfOk result IsAnswer }
+    ensures cause { IfErr result (IsUnloadedByFault (state S.Store conn.old) is_beside (state S.Store conn.new)) }
     ensures tells { TellsNoMore (state S.Store conn.old) is_beside (state S.Store conn.new) is_beside }
     ensures goes_on { GoesOn (state S.Store conn.old) is_beside (state S.Store conn.new) is_beside }
     ensures stays_open { StaysOpen (state S.Store conn.old) (state S.Store conn.new) }
@@ -150,6 +154,7 @@ pub(crate) fn load_noting<S: Alter>(
 ) -> Result<Loaded, Error>
     ensures gives { IfOk result (Gives (Holds (state S.Store conn.new) is_beside.new) (HoldsBad (state S.Store conn.new) is_beside.new)) }
     ensures answer { IfOk result IsAnswer }
+    ensures cause { IfErr result (IsUnloadedByFault (state S.Store conn.old) is_beside.old (state S.Store conn.new)) }
     ensures notes { Notes (state S.Store conn.old).now.schema is_beside.old is_beside.new }
     ensures tells { TellsNoMore (state S.Store conn.old) is_beside.old (state S.Store conn.new) is_beside.new }
     ensures goes_on { GoesOn (state S.Store conn.old) is_beside.old (state S.Store conn.new) is_beside.new }
