@@ -1,5 +1,5 @@
 -- The order in which the lines of an office's closings stand, so that those of one month are found without a look at all.
-use Rattle.std.specs.Prelude.{ℕ, ◌+◌, ◌*◌, ◌<◌, ◌≤◌, ◌≡◌, ◌⊎◌, ◌==◌, ◌&&◌, ◌||◌, nat_lt, nat_le, Bool, List, AllPairs}
+use Rattle.std.specs.Prelude.{ℕ, ◌+◌, ◌*◌, ◌<◌, ◌≤◌, ◌≡◌, ◌⊎◌, ◌==◌, ◌&&◌, ◌||◌, nat_lt, Bool, List, AllPairs}
 use Rattle.voucher_core.specs.declared.line.Line.{Line}
 
 -- the place of a month and household among those of one closing: by the month that is paid for, then by the household
@@ -12,9 +12,6 @@ line_turn l = turn_of l.for_month l.household
 -- its closing is earlier, or the same and its turn no later
 abbrev pub ComesNoLater : Line → Line → Type 0
 ComesNoLater a b = (a.month < b.month) ⊎ ((a.month ≡ b.month) × (line_turn a ≤ line_turn b))
-
-abbrev pub is_no_later : Line → Line → Bool
-is_no_later a b = nat_lt a.month b.month || (a.month == b.month && nat_le (line_turn a) (line_turn b))
 
 abbrev pub StandInTurn : List Line → Type 0
 StandInTurn lines = AllPairs ComesNoLater lines

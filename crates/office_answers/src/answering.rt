@@ -3,6 +3,7 @@
 ghost use Rattle.std.specs.Prelude.{◌≡◌, ◌≤◌, length, Result};
 ghost use Rattle.office_answers.specs.Answered.{Answers};
 ghost use Rattle.office_answers.specs.Answering.{answer_by};
+ghost use Rattle.record_history.specs.Limits.{most_lines};
 
 use crate::due::due_answer;
 use crate::fiscal_year::targets_answer;
@@ -21,7 +22,7 @@ pub fn answer_to(
     lines: &BookLines,
     question: &Question,
 ) -> Result<Answer, Asked>
-    requires { length lines.now ≤ 4000000 }
+    requires { length lines.now ≤ most_lines }
     ensures { Answers (answer_by register.now.known lines.now question.now) result }
 {
     match *question {

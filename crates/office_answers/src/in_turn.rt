@@ -1,10 +1,10 @@
 //! Lines in the order of their closings, of the months that they are for, and of their households.
 
-ghost use Rattle.std.specs.Prelude.{◌≡◌, ◌≤◌, ◌<◌, ℕ, true, false, length, filter, slice_index_or, ◌++◌, IfOk};
+ghost use Rattle.std.specs.Prelude.{◌≡◌, ◌≤◌, ◌<◌, ℕ, true, false, length, filter, slice_index_or, IfOk};
 ghost use Rattle.std.specs.List.Sorted.{IsPartitionPoint};
 ghost use Rattle.voucher_core.specs.declared.line.Line.{Line as LineOf};
 ghost use Rattle.voucher_core.specs.Lines.{is_for};
-ghost use Rattle.office_answers.specs.InTurn.{turn_of, is_before, is_no_later, StandInTurn};
+ghost use Rattle.office_answers.specs.InTurn.{turn_of, is_before, StandInTurn};
 ghost use Rattle.office_answers.specs.Vouchers.{lines_of_closing};
 
 use days_core::Month;
@@ -67,38 +67,6 @@ fn next_place(lines: &[Line], at: usize, household: u32, month: Month) -> usize
         line.month.number() + 1
     };
     how_many_before(lines, closing, wanted).max(at + 1)
-}
-
-/// Whether lines stand in turn.
-pub fn are_in_turn(lines: &[Line]) -> bool
-    ensures in_turn { result ≡ true → StandInTurn lines.now }
-    ensures out_of_turn { result ≡ false → StandInTurn lines.now → ⊥ }
-{
-    for at in 1..lines.len() {
-        if !is_no_later(&lines[at - 1], &lines[at]) {
-            return false;
-        }
-    }
-    true
-}
-
-/// Whether lines that stand in turn still do with more behind them.
-pub fn stay_in_turn(lines: &[Line], more: &[Line]) -> bool
-    ensures in_turn { result ≡ true → StandInTurn lines.now → StandInTurn (lines.now ++ more.now) }
-    ensures out_of_turn { result ≡ false → StandInTurn (lines.now ++ more.now) → ⊥ }
-{
-    if lines.len() == 0 || more.len() == 0 {
-        return are_in_turn(more);
-    }
-    is_no_later(&lines[lines.len() - 1], &more[0]) && are_in_turn(more)
-}
-
-fn is_no_later(line: &Line, next: &Line) -> bool
-    ensures { result ≡ is_no_later line.now next.now }
-{
-    let own = turn_of(line.for_month, line.household);
-    let other = turn_of(next.for_month, next.household);
-    line.month < next.month || line.month == next.month && own <= other
 }
 
 /// How many of them come before that turn of that closing.

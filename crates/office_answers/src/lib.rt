@@ -18,7 +18,6 @@ pub use admission_order::{office_register, office_step};
 pub use answer::{Admissions, Answer, Asked, DueDay, HouseholdSummary, Voucher};
 pub use answering::answer_to;
 pub use book_lines::BookLines;
-pub use in_turn::{are_in_turn, stay_in_turn};
 pub use laws::{due_list_is_whole, vouchers_total};
 pub use office_refusals;
 pub use questions::Question;

@@ -4,8 +4,9 @@ ghost use Rattle.std.specs.Prelude.{◌≡◌, ◌≤◌, ◌==◌, not, length,
 ghost use Rattle.voucher_core.specs.Lines.{is_for};
 ghost use Rattle.office_answers.specs.Answered.{Answers};
 ghost use Rattle.office_answers.specs.Vouchers.{is_closed, lines_of_closing, own_lines, adjusting_lines, voucher_of, voucher_answer, paid_answer};
+ghost use Rattle.record_history.specs.Limits.{most_lines};
 
-use crate::in_turn::{closing_in_turn, is_for, paying_in_turn};
+use crate::in_turn::{closing_in_turn, paying_in_turn};
 use crate::{Answer, Asked, BookLines, Voucher};
 use admission_order::office_register::Register;
 use admission_order::office_step::Closed;
@@ -22,7 +23,7 @@ pub fn voucher_answer(
     lines: &BookLines,
     month: Month,
 ) -> Result<Answer, Asked>
-    requires { length lines.now ≤ 4000000 }
+    requires { length lines.now ≤ most_lines }
     ensures { Answers (voucher_answer register.now.known lines.now month) result }
 {
     if !is_closed(register.plan(), register.closing(), month) {
@@ -42,7 +43,7 @@ fn is_closed(plan: Option<&Plan>, closing: Option<Closed>, month: Month) -> bool
 }
 
 fn voucher_of(alloc: Global, lines: &BookLines, month: Month) -> Result<Voucher, NoMemory>
-    requires { length lines.now ≤ 4000000 }
+    requires { length lines.now ≤ most_lines }
     ensures { IfOk result (λ voucher. voucher ≡ voucher_of month lines.now) }
 {
     let lines = lines_of_closing(alloc, lines, month)?;
@@ -64,23 +65,7 @@ fn lines_of_closing(alloc: Global, lines: &BookLines, month: Month) -> Result<Ve
     ensures lines { IfOk result (λ closing. closing.items ≡ lines_of_closing month lines.now) }
     ensures few { IfOk result (λ closing. length closing.items ≤ length lines.now) }
 {
-    if lines.in_turn {
-        let closing = closing_in_turn(lines.lines, month).to_vec(alloc)?;
-        Ok(closing)
-    } else {
-        closing_among(alloc, lines.lines, month)
-    }
-}
-
-fn closing_among(alloc: Global, lines: &[Line], month: Month) -> Result<Vec<Line>, NoMemory>
-    ensures lines { IfOk result (λ closing. closing.items ≡ lines_of_closing month lines.now) }
-    ensures few { IfOk result (λ closing. length closing.items ≤ length lines.now) }
-{
-    let closing = lines
-        .iter()
-        .filter(|line| line.month == month)
-        .copied()
-        .collect(alloc)?;
+    let closing = closing_in_turn(lines.lines, month).to_vec(alloc)?;
     Ok(closing)
 }
 
@@ -117,7 +102,7 @@ pub fn paid_answer(
     household: u32,
     month: Month,
 ) -> Result<Answer, Asked>
-    requires { length lines.now ≤ 4000000 }
+    requires { length lines.now ≤ most_lines }
     ensures { Answers (paid_answer register.now.known lines.now household month) result }
 {
     if let Some(refusal) = no_household(register.households(), household) {
@@ -138,26 +123,5 @@ fn paying_lines(
     ensures lines { IfOk result (λ paying. paying.items ≡ filter (is_for household month) lines.now) }
     ensures few { IfOk result (λ paying. length paying.items ≤ length lines.now) }
 {
-    if lines.in_turn {
-        paying_in_turn(alloc, lines.lines, household, month)
-    } else {
-        paying_among(alloc, lines.lines, household, month)
-    }
-}
-
-fn paying_among(
-    alloc: Global,
-    lines: &[Line],
-    household: u32,
-    month: Month,
-) -> Result<Vec<Line>, NoMemory>
-    ensures lines { IfOk result (λ paying. paying.items ≡ filter (is_for household month) lines.now) }
-    ensures few { IfOk result (λ paying. length paying.items ≤ length lines.now) }
-{
-    let paying = lines
-        .iter()
-        .filter(|line| is_for(line, household, month))
-        .copied()
-        .collect(alloc)?;
-    Ok(paying)
+    paying_in_turn(alloc, lines.lines, household, month)
 }

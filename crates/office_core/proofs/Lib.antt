@@ -1,3 +1,4 @@
+mod Turns
 pub mod Grown
 pub mod Judging
 pub mod Found

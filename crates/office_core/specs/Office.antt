@@ -1,12 +1,12 @@
 -- An office of one clerk: its book, how much that may hold, and for how much more there is room.
-use Rattle.std.specs.Prelude.{ℕ, ◌≡◌, ◌≤◌, true, false, List, All, IfSome}
+use Rattle.std.specs.Prelude.{ℕ, ◌≡◌, ◌≤◌, List, All, IfSome}
 use Rattle.record_history.specs.Held.{IsWithin, room_of as record_room_of}
 use Rattle.book_rows.specs.Book.{Book, Room as TableRoom, HasRoom, book_of}
 use Rattle.row_index.specs.Index.{index_of}
 use Rattle.book_replay.specs.Below.book_search.Requests.{act_key}
 use Rattle.office_answers.specs.Below.office_step.{declared.call.Capacity.Capacity, Known.known_of, Step.IsReached}
-use Rattle.office_answers.specs.InTurn.{StandInTurn}
 use Rattle.office_core.specs.{declared.office.Office.TheInside.Inside, Planned.Planned}
+use Rattle.record_history.specs.Limits.{most_acts, most_lines}
 
 -- for how many more rows there is room: in the tables, and beside them of acts, of records of each household, of requests
 pub record Room : Type 0 where
@@ -29,11 +29,9 @@ pub record HasRoomFor (room : Room) (step : Planned) : Type 0 where
 
 -- The book is one that an office of that capacity comes to, and what is kept beside its tables is what they give.
 pub record IsOffice (office : Inside) : Type 0 where
-  pub acts : office.capacity.acts ≤ 100000
-  pub lines : office.capacity.lines ≤ 4000000
+  pub acts : office.capacity.acts ≤ most_acts
+  pub lines : office.capacity.lines ≤ most_lines
   pub reached : IsReached office.capacity (book_of office.tables)
   pub known : office.register.known ≡ known_of (book_of office.tables)
   pub requests : office.requests.entries ≡ index_of act_key office.tables.acts.items
   pub records : All IsWithin office.tables.records.items
-  pub in_turn : office.in_turn ≡ true → StandInTurn office.tables.lines.items
-  pub out_of_turn : office.in_turn ≡ false → StandInTurn office.tables.lines.items → ⊥

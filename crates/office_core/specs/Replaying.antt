@@ -7,11 +7,12 @@ use Rattle.row_index.specs.Index.{index_of}
 use Rattle.book_replay.specs.Below.book_search.Requests.{act_key}
 use Rattle.office_answers.specs.Below.office_step.{Known.known_of, Step.IsReached, Valid.records_by, Valid.lines_by}
 use Rattle.office_core.specs.{declared.replaying.Replay.Replay, Planned.Planned}
+use Rattle.record_history.specs.Limits.{most_acts, most_lines}
 
 -- it is what an office of that capacity knows whose book this is
 pub record IsReplay (replay : Replay) (book : Book) : Type 0 where
-  pub acts : replay.capacity.acts ≤ 100000
-  pub lines : replay.capacity.lines ≤ 4000000
+  pub acts : replay.capacity.acts ≤ most_acts
+  pub lines : replay.capacity.lines ≤ most_lines
   pub reached : IsReached replay.capacity book
   pub known : replay.register.known ≡ known_of book
   pub requests : replay.requests.entries ≡ index_of act_key book.acts

@@ -8,21 +8,20 @@ use book_replay::office_laws::{
 };
 use book_rows::{ActRow, Command};
 use office_answers::office_step::{Application, Done, Made};
-use office_answers::stay_in_turn;
 use plain_data::NoMemory;
 use record_history::{Dates, Record};
 use row_index::index_grows;
 use voucher_core::Line;
 
 impl Office {
-    ghost use Rattle.std.specs.Prelude.{◌≡◌, ◌≤◌, ◌+◌, ◌++◌, true, false, length, OnOk, IfSome};
+    ghost use Rattle.std.specs.Prelude.{◌≡◌, ◌≤◌, ◌+◌, length, OnOk, IfSome};
     ghost use Rattle.book_rows.specs.Book.{appended};
     ghost use Rattle.office_answers.specs.Below.office_step.Known.{known_of};
     ghost use Rattle.office_answers.specs.Below.office_step.Reply.{done_of};
     ghost use Rattle.book_replay.specs.Below.office_laws.AtHand.{made_now};
-    ghost use Rattle.office_answers.specs.InTurn.{StandInTurn};
     ghost use Rattle.office_core.specs.Planned.{IsPlannedFor};
     ghost use Rattle.office_core.specs.Office.{HasRoomFor};
+    ghost use Rattle.record_history.specs.Limits.{most_lines};
 
     /// Appends the rows of a step that was planned for the office as it is, and replies. It takes no memory.
     pub fn apply(&mut self, step: Step) -> Done
@@ -67,7 +66,7 @@ impl Office {
     fn lines_planned<'s>(&self, step: &'s Step) -> &'s [Line]
         requires { IsPlannedFor self.now.capacity self.now.book step.now }
         ensures lines { result.now ≡ step.now.rows.lines }
-        ensures few { length result.now ≤ 4000000 }
+        ensures few { length result.now ≤ most_lines }
     {
         within_room();
         let _known = &self.capacity;
@@ -87,20 +86,10 @@ impl Office {
         let Step { batch, asked, name } = step;
         let made = batch.made;
         let place = self.acts();
-        let in_turn = self.stays_in_turn(batch.lines.as_slice());
         self.requests
             .insert(act_key(batch.act.clerk, batch.act.request), place);
-        self.in_turn = in_turn;
         self.tables.append(batch);
         self.register.note(asked, name, made);
-    }
-
-    /// Whether the lines stand in turn with these behind them.
-    fn stays_in_turn(&self, more: &[Line]) -> bool
-        ensures in_turn { result ≡ true → StandInTurn (self.now.book.lines ++ more.now) }
-        ensures out_of_turn { result ≡ false → StandInTurn (self.now.book.lines ++ more.now) → ⊥ }
-    {
-        self.in_turn && stay_in_turn(&self.tables.lines, more)
     }
 
     /// How many acts the book holds.

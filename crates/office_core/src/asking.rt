@@ -1,7 +1,7 @@
 //! The office answers questions.
 
 use crate::{Answer, Asked, Office, Question};
-use book_replay::office_laws::within_room;
+use book_replay::office_laws::{lines_stand_in_order, within_room};
 use office_answers::{BookLines, answer_to};
 use std::alloc::Global;
 
@@ -21,9 +21,10 @@ impl Office {
     fn book_lines(&self) -> BookLines<'_>
         ensures { result ≡ self.now.book.lines }
     {
+        lines_stand_in_order();
+        within_room();
         BookLines {
             lines: &self.tables.lines,
-            in_turn: self.in_turn,
         }
     }
 }

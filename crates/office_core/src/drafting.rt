@@ -10,6 +10,7 @@ ghost use Rattle.office_answers.specs.Below.office_step.Step.{step as step_of, a
 ghost use Rattle.office_core.specs.Held.{IsNewTo};
 ghost use Rattle.office_core.specs.Judged.{Judges};
 ghost use Rattle.office_core.specs.Planned.{IsPlannedFor, HoldsRecord, planned_as};
+ghost use Rattle.record_history.specs.Limits.{most_acts};
 
 use crate::{Judgment, Step};
 use book_replay::command_text::body_of_command;
@@ -54,7 +55,7 @@ pub fn new_step(
     at_hand: Option<&SharedText>,
 ) -> Result<Step, Judgment>
     requires fit { is_fit_call call ≡ true }
-    requires most { held.now.capacity.acts ≤ 100000 }
+    requires most { held.now.capacity.acts ≤ most_acts }
     requires lived { held.now.last ≤ last_office_day }
     requires at_hand { IfSome (option_copied at_hand) (IsTextOf call.command) }
     ensures refused { (book : Book) → IsNewTo register.now.known held.now call book →
@@ -88,7 +89,7 @@ fn drafted(
     at_hand: Option<&SharedText>,
 ) -> Result<Draft, Judgment>
     requires fit { is_fit_call call.now ≡ true }
-    requires most { held.now.capacity.acts ≤ 100000 }
+    requires most { held.now.capacity.acts ≤ most_acts }
     requires lived { held.now.last ≤ last_office_day }
     requires at_hand { IfSome (option_copied at_hand) (IsTextOf call.now.command) }
     ensures refused { (book : Book) → IsNewTo register.now.known held.now call.now book →
@@ -144,16 +145,16 @@ fn full_of(held: &BookLimits, lines: &[Line]) -> Option<Refusal>
 /// The text of a fit command: the one at hand, or else one that is written of it.
 fn text_for(
     alloc: Global,
-    asked: &Command,
+    command: &Command,
     at_hand: Option<&SharedText>,
 ) -> Result<SharedText, NoMemory>
-    requires fit { is_fit asked.now ≡ true }
-    requires at_hand { IfSome (option_copied at_hand) (IsTextOf asked.now) }
-    ensures { IfOk result (IsTextOf asked.now) }
+    requires fit { is_fit command.now ≡ true }
+    requires at_hand { IfSome (option_copied at_hand) (IsTextOf command.now) }
+    ensures { IfOk result (IsTextOf command.now) }
 {
     match at_hand {
         Some(body) => body.try_clone(),
-        None => SharedText::new(body_of_command(alloc, asked)?.into_bytes()),
+        None => SharedText::new(body_of_command(alloc, command)?.into_bytes()),
     }
 }
 

@@ -21,8 +21,6 @@ pub struct Office {
     pub(crate) tables: Tables,
     pub(crate) register: Register,
     pub(crate) requests: RowIndex,
-    /// Whether the lines stand in turn, so that those of a month are found without a look at all.
-    pub(crate) in_turn: bool,
 }
 
 impl Model for Office {
@@ -52,11 +50,12 @@ impl Office {
     ghost use Rattle.office_answers.specs.Below.office_step.Acts.{at_number};
     ghost use Rattle.office_answers.specs.Below.office_step.Known.{known_of};
     ghost use Rattle.office_answers.specs.Below.office_step.Step.{IsReached};
+    ghost use Rattle.record_history.specs.Limits.{most_acts, most_lines};
 
     /// An office with an empty book.
     pub fn new(alloc: Global, capacity: Capacity) -> Result<Office, NoMemory>
-        requires acts { capacity.acts ≤ 100000 }
-        requires lines { capacity.lines ≤ 4000000 }
+        requires acts { capacity.acts ≤ most_acts }
+        requires lines { capacity.lines ≤ most_lines }
         ensures book { IfOk result (λ office. office.book ≡ empty_book) }
         ensures capacity { IfOk result (λ office. office.capacity ≡ capacity) }
     {
@@ -65,7 +64,6 @@ impl Office {
             tables: Tables::new(alloc),
             register: Register::new(alloc)?,
             requests: RowIndex::new(alloc),
-            in_turn: true,
         })
     }
 
@@ -80,7 +78,7 @@ impl Office {
         ensures book { book_of result.now ≡ self.now.book }
         ensures reached { IsReached self.now.capacity self.now.book }
         ensures upheld { IsUpheld self.now.capacity self.now.book }
-        ensures few { length self.now.book.acts ≤ 100000 }
+        ensures few { length self.now.book.acts ≤ most_acts }
     {
         books_are_upheld();
         within_room();
@@ -92,7 +90,7 @@ impl Office {
         ensures book { book_of result ≡ self.book }
         ensures reached { IsReached self.capacity self.book }
         ensures upheld { IsUpheld self.capacity self.book }
-        ensures few { length self.book.acts ≤ 100000 }
+        ensures few { length self.book.acts ≤ most_acts }
     {
         books_are_upheld();
         within_room();

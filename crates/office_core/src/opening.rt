@@ -5,13 +5,13 @@ ghost use Rattle.book_rows.specs.Book.{book_of, empty_book};
 ghost use Rattle.office_answers.specs.Below.office_step.Valid.{first_fault};
 ghost use Rattle.office_core.specs.Opening.{IsNamed};
 ghost use Rattle.office_core.specs.Replaying.{IsReplay};
+ghost use Rattle.record_history.specs.Limits.{most_acts, most_lines};
 
 use crate::Office;
 use crate::replaying::Replay;
 use book_replay::office_laws::books_are_upheld;
 use book_replay::{StoredRows, replay_is_kept};
 use book_rows::Tables;
-use office_answers::are_in_turn;
 use office_answers::office_step::{Capacity, Fault};
 use record_history::{Dates, Record};
 use std::alloc::Global;
@@ -30,12 +30,13 @@ impl Office {
     ghost use Rattle.office_answers.specs.Below.office_step.Valid.{first_fault};
     ghost use Rattle.book_replay.specs.Below.office_laws.Upheld.{IsUpheld};
     ghost use Rattle.office_core.specs.Opening.{IsNamed};
+    ghost use Rattle.record_history.specs.Limits.{most_acts, most_lines};
 
     /// The office whose book the tables are: each of their acts is done again, and has to come to just the rows that they
     /// hold of it. The tables are held as they are.
     pub fn open(alloc: Global, tables: Tables, capacity: Capacity) -> Result<Office, OpenFault>
-        requires acts { capacity.acts ≤ 100000 }
-        requires lines { capacity.lines ≤ 4000000 }
+        requires acts { capacity.acts ≤ most_acts }
+        requires lines { capacity.lines ≤ most_lines }
         ensures book { IfOk result (λ office. office.book ≡ book_of tables) }
         ensures capacity { IfOk result (λ office. office.capacity ≡ capacity) }
         ensures valid { IfOk result (λ office. first_fault capacity (book_of tables) ≡ None) }
@@ -46,7 +47,6 @@ impl Office {
         match done_again(alloc, &tables, capacity) {
             Ok(replay) => Ok(Office {
                 capacity,
-                in_turn: are_in_turn(&tables.lines),
                 tables,
                 register: replay.register,
                 requests: replay.requests,
@@ -58,8 +58,8 @@ impl Office {
 
 /// What an office knows by all acts of the tables, unless their rows aren't an office's.
 fn done_again(alloc: Global, tables: &Tables, capacity: Capacity) -> Result<Replay, OpenFault>
-    requires acts { capacity.acts ≤ 100000 }
-    requires lines { capacity.lines ≤ 4000000 }
+    requires acts { capacity.acts ≤ most_acts }
+    requires lines { capacity.lines ≤ most_lines }
     ensures capacity { IfOk result (λ replay. replay.capacity ≡ capacity) }
     ensures known { IfOk result (λ replay. IsReplay replay (book_of tables.now)) }
     ensures valid { IfOk result (λ replay. first_fault capacity (book_of tables.now) ≡ None) }

@@ -18,6 +18,7 @@ impl Office {
     ghost use Rattle.office_answers.specs.Below.office_step.Refusals.{is_request_of};
     ghost use Rattle.office_answers.specs.Below.office_step.Step.{step, last_act_day, is_fit_call};
     ghost use Rattle.office_core.specs.Judged.{Judges, PlansFor};
+    ghost use Rattle.record_history.specs.Limits.{most_acts};
 
     /// What the office does with a call in a session, while the clock shows the day. Nothing is kept of it yet.
     ///
@@ -89,7 +90,7 @@ impl Office {
         ensures capacity { result.capacity ≡ self.now.capacity }
         ensures last { result.last ≡ last_act_day self.now.book.acts }
         ensures lines { result.lines ≡ length self.now.book.lines }
-        ensures most { result.capacity.acts ≤ 100000 }
+        ensures most { result.capacity.acts ≤ most_acts }
         ensures lived { result.last ≤ last_office_day }
     {
         within_room();

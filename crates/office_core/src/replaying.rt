@@ -40,11 +40,12 @@ impl Replay {
     ghost use Rattle.office_core.specs.Opening.{IsNamed};
     ghost use Rattle.office_core.specs.Planned.{IsPlannedFor};
     ghost use Rattle.office_core.specs.Replaying.{IsReplay, HasRoomIn};
+    ghost use Rattle.record_history.specs.Limits.{most_acts, most_lines};
 
     /// What is known before the first act.
     pub fn new(alloc: Global, capacity: Capacity) -> Result<Replay, NoMemory>
-        requires acts { capacity.acts ≤ 100000 }
-        requires lines { capacity.lines ≤ 4000000 }
+        requires acts { capacity.acts ≤ most_acts }
+        requires lines { capacity.lines ≤ most_lines }
         ensures known { IfOk result (λ replay. IsReplay replay empty_book) }
         ensures capacity { IfOk result (λ replay. replay.capacity ≡ capacity) }
     {

@@ -3,6 +3,7 @@
 ghost use Rattle.std.specs.Prelude.{◌≡◌, ◌≤◌, length, nat_le, count_by, option_copied, IfSome};
 ghost use Rattle.std.specs.Option.{option_map_or};
 ghost use Rattle.record_history.specs.Held.{IsWithin};
+ghost use Rattle.record_history.specs.Limits.{most_lines};
 ghost use Rattle.office_answers.specs.Below.office_step.Reply as reply;
 ghost use Rattle.office_answers.specs.Below.office_step.declared.reply.Made.TheVariants as nothing;
 
@@ -29,6 +30,7 @@ impl Office {
     ghost use Rattle.office_answers.specs.Below.office_step.Reply.{acts_up_to, done_of, made_by};
     ghost use Rattle.office_answers.specs.Below.office_step.Step.{step};
     ghost use Rattle.office_core.specs.Judged.{Judges, PlansFor};
+    ghost use Rattle.record_history.specs.Limits.{most_lines};
 
     /// The answer to a call whose clerk and request an act has.
     pub(crate) fn answered(
@@ -53,12 +55,12 @@ impl Office {
     }
 
     /// The reply to an act of the book.
-    fn done(&self, row: &ActRow, asked: &Command) -> Done
+    fn done(&self, row: &ActRow, command: &Command) -> Done
         requires held { Contains self.now.book.acts row.now }
-        requires reads { command_in row.now.body ≡ Some asked.now }
+        requires reads { command_in row.now.body ≡ Some command.now }
         ensures { result ≡ done_of self.now.book row.now }
     {
-        let made = self.made_by(row, asked);
+        let made = self.made_by(row, command);
         Done {
             act: row.n,
             day: row.day,
@@ -66,12 +68,12 @@ impl Office {
         }
     }
 
-    fn made_by(&self, row: &ActRow, asked: &Command) -> Made
+    fn made_by(&self, row: &ActRow, command: &Command) -> Made
         requires held { Contains self.now.book.acts row.now }
-        requires reads { command_in row.now.body ≡ Some asked.now }
-        ensures { result ≡ made_by self.now.book row.now.n asked.now }
+        requires reads { command_in row.now.body ≡ Some command.now }
+        ensures { result ≡ made_by self.now.book row.now.n command.now }
     {
-        match asked {
+        match command {
             Command::Unit(unit) => Made::Unit(self.units_up_to(row, unit)),
             Command::Apply(_) => Made::Applicant(self.applicants_up_to(row.n)),
             Command::Close(close) => closed(self.lines_of(row.n), close.month),
@@ -99,7 +101,7 @@ impl Office {
 
     fn lines_of(&self, n: u32) -> &[Line]
         ensures lines { result.now ≡ filter (λ line. line.act == n) self.now.book.lines }
-        ensures few { length result.now ≤ 4000000 }
+        ensures few { length result.now ≤ most_lines }
     {
         books_are_kept();
         within_room();
@@ -126,7 +128,7 @@ fn applied_by(applications: &[Application], n: u32) -> usize
 
 /// The total of a closing's lines, and how many they are.
 pub fn closed(lines: &[Line], month: Month) -> Made
-    requires { length lines.now ≤ 4000000 }
+    requires { length lines.now ≤ most_lines }
     ensures { result ≡ reply.closed lines.now month }
 {
     Made::Closed {

@@ -18,6 +18,7 @@ pub mod Lived
 pub mod Terms
 pub mod Unit
 pub mod Conserved
+pub mod LineOrder
 pub mod RentsStand
 pub mod RentsDone
 pub mod Replay

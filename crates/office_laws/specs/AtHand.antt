@@ -1,13 +1,15 @@
 -- What an office may answer from what it has at hand, without going over its acts again.
-use Rattle.std.specs.Prelude.{◌≡◌, ◌≤◌, ◌<◌, ℕ, ◌+◌, nat_le, true, false, Some, None, List, length, filter, find, AllPairs, Contains, IfSome, bytes_eq}
+use Rattle.std.specs.Prelude.{◌≡◌, ◌≤◌, ◌<◌, ◌⊎◌, ℕ, ◌+◌, nat_le, true, false, Some, None, List, length, filter, find, All, AllPairs, Contains, IfSome, bytes_eq}
 use Rattle.std.specs.Option.{option_map_or}
 use Rattle.rent_table.specs.Table.{unit_named}
 use Rattle.book_rows.specs.{declared.property.UnitAct.UnitAct, declared.rows.ActRow.ActRow, declared.rows.Batch.Batch, declared.command.Command.Command, Book.Book, Book.appended}
+use Rattle.voucher_core.specs.declared.line.Line.{Line}
 use Rattle.command_forms.specs.Commands.{command_in}
 use Rattle.days_core.specs.OfficeDays.{last_office_day}
 use Rattle.office_step.specs.{declared.call.Capacity.Capacity, declared.reply.Done.Done, declared.reply.Made.Made, Acts.units_of, Acts.applications_of, Known.Known, Known.known_of, Made.record_of, Refusals.is_request_of, Refusals.repeated, Refusals.request_reused, Against.refused_by, declared.refusal.Refusal.Refusal}
 use Rattle.office_step.specs.Reply.{acts_up_to, certified, closed, done_of}
 use Rattle.office_step.specs.Step.{last_act_day, act_day, IsAppended, IsReached}
+use Rattle.record_history.specs.Limits.{most_acts, most_lines}
 
 -- ---- requests
 
@@ -79,6 +81,26 @@ abbrev pub NextDayStays : Type 0
 NextDayStays = (capacity : Capacity) (book : Book) → IsReached capacity book → (clock : ℕ) →
     act_day book.acts (act_day book.acts clock) ≡ act_day book.acts clock
 
+-- ---- lines
+
+-- A line stands before another: its closing is earlier. Or that is the same, and the month for which it pays is earlier. Or
+-- both are the same, and its household has no greater number.
+abbrev pub StandsBefore : Line → Line → Type 0
+StandsBefore line next =
+    (line.month < next.month)
+    ⊎ ((line.month ≡ next.month) × ((line.for_month < next.for_month) ⊎ ((line.for_month ≡ next.for_month) × (line.household ≤ next.household))))
+
+abbrev pub StandInOrder : List Line → Type 0
+StandInOrder lines = AllPairs StandsBefore lines
+
+-- the lines of a book stand by closing, month and household
+abbrev pub LinesStandInOrder : Type 0
+LinesStandInOrder = (capacity : Capacity) (book : Book) → IsReached capacity book → StandInOrder book.lines
+
+-- and their households have no greater numbers than there are acts
+abbrev pub LinesNameHouseholds : Type 0
+LinesNameHouseholds = (capacity : Capacity) (book : Book) → IsReached capacity book → All (λ line. line.household ≤ length book.acts) book.lines
+
 -- ---- what comes next
 
 -- the record of an act that isn't refused is of a household that is there, or of the one that comes next
@@ -90,8 +112,8 @@ NextRecords = (known : Known) (most today : ℕ) (asked : Command) → refused_b
 
 -- within a capacity of 100,000 acts a book has no more
 abbrev pub ActsAreWithinRoom : Type 0
-ActsAreWithinRoom = (capacity : Capacity) (book : Book) → IsReached capacity book → capacity.acts ≤ 100000 → length book.acts ≤ 100000
+ActsAreWithinRoom = (capacity : Capacity) (book : Book) → IsReached capacity book → capacity.acts ≤ most_acts → length book.acts ≤ most_acts
 
 -- and within one of 4,000,000 lines no more of these
 abbrev pub LinesAreWithinRoom : Type 0
-LinesAreWithinRoom = (capacity : Capacity) (book : Book) → IsReached capacity book → capacity.lines ≤ 4000000 → length book.lines ≤ 4000000
+LinesAreWithinRoom = (capacity : Capacity) (book : Book) → IsReached capacity book → capacity.lines ≤ most_lines → length book.lines ≤ most_lines

@@ -4,8 +4,8 @@ use Rattle.record_history.specs.declared.records.Record.{Record}
 use Rattle.voucher_core.specs.declared.line.Line.{Line}
 use Rattle.book_rows.specs.{declared.rows.ActRow.ActRow, declared.rows.Batch.Batch, Book.Book, Book.IsBatch, Book.IsBefore, Fit.is_fit}
 use Rattle.command_forms.specs.Commands.{command_in}
-use Rattle.days_core.specs.OfficeDays.{last_office_day}
-use Rattle.office_step.specs.{declared.call.Capacity.Capacity, Refusals.is_request_of, Step.IsAppended, Step.IsReached, Against.first_day}
+use Rattle.days_core.specs.OfficeDays.{first_office_day, last_office_day}
+use Rattle.office_step.specs.{declared.call.Capacity.Capacity, Refusals.is_request_of, Step.IsAppended, Step.IsReached}
 use Rattle.office_step.specs.Acts.{Act, acts_of, plan_of, applications_of, takes_off_list, household_count, ask_in}
 
 -- the number of one of so many
@@ -15,7 +15,7 @@ pub record IsOneOf (count number : ℕ) : Type 0 where
 
 -- a day of the years 2000 to 2099
 pub record IsOfOffice (day : ℕ) : Type 0 where
-  pub least : first_day ≤ day
+  pub least : first_office_day ≤ day
   pub most : day ≤ last_office_day
 
 -- The acts have the numbers 1, 2 and so on; each is of a fit command; their days are of the years 2000 to 2099 and never

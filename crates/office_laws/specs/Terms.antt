@@ -1,23 +1,24 @@
 -- What each act had to meet before it was accepted, in the facts that it leaves behind.
 use Rattle.std.specs.Prelude.{◌≡◌, ◌≤◌, ◌<◌, ◌++◌, ⊤, ℕ, IfSome, Option, List, [], ◌∷◌, length, Contains}
+use Rattle.days_core.specs.OfficeDays.{first_office_day}
 use Rattle.record_history.specs.declared.records.{Dates.Dates, Record.Record}
 use Rattle.voucher_core.specs.Certified.{assistance_on}
 use Rattle.book_rows.specs.declared.{rows.Batch.Batch, command.Command.Command, household.HouseholdAct.HouseholdAct, household.HouseholdChange.HouseholdChange}
-use Rattle.office_step.specs.{declared.call.Capacity.Capacity, Against.first_day, Known.Known, Known.known_of, Known.own_in, Step.IsAppended, Step.IsReached}
+use Rattle.office_step.specs.{declared.call.Capacity.Capacity, Known.Known, Known.known_of, Known.own_in, Step.IsAppended, Step.IsReached}
 use Rattle.book_rows.specs.Book.{Book}
 
 -- ---- days
 
 -- a change came about, was told and was worked on in that order, none of it after the day of the act
 pub record CameInOrder (today : ℕ) (dates : Dates) : Type 0 where
-  pub event : first_day ≤ dates.event
+  pub event : first_office_day ≤ dates.event
   pub notice : dates.event ≤ dates.notice
   pub done : dates.notice ≤ dates.done
   pub by_today : dates.done ≤ today
 
 abbrev pub IsTold : ℕ → HouseholdChange → Type 0
 IsTold today (HouseholdChange.Interim interim) = CameInOrder today interim.dates
-IsTold today (HouseholdChange.Resume resume) = (first_day ≤ resume.done) × (resume.done ≤ today)
+IsTold today (HouseholdChange.Resume resume) = (first_office_day ≤ resume.done) × (resume.done ≤ today)
 IsTold today _ = ⊤
 
 -- ---- records

@@ -1,6 +1,6 @@
 //! Laws by which the office finds at once what a definition searches for.
 
-ghost use Rattle.office_laws.specs.AtHand.{NewRequests, RepeatedRequests, ReusedRequests, NewReplies, UnitReplies, ApplicantReplies, ApplicationsRise, LastDayIsLived, NextDayIsLived, NextDayStays, NextRecords, ActsAreWithinRoom, LinesAreWithinRoom};
+ghost use Rattle.office_laws.specs.AtHand.{NewRequests, RepeatedRequests, ReusedRequests, NewReplies, UnitReplies, ApplicantReplies, ApplicationsRise, LastDayIsLived, NextDayIsLived, NextDayStays, LinesStandInOrder, LinesNameHouseholds, NextRecords, ActsAreWithinRoom, LinesAreWithinRoom};
 
 /// One act at most is of a clerk and request, so that finding it says whether a call repeats it or uses its request
 /// again. It does nothing.
@@ -31,6 +31,13 @@ pub fn days_are_lived()
     ensures last { LastDayIsLived }
     ensures next { NextDayIsLived }
     ensures stays { NextDayStays }
+{}
+
+/// The lines of a book stand by closing, month and household, whose numbers are no greater than there are acts. It does
+/// nothing.
+pub fn lines_stand_in_order()
+    ensures order { LinesStandInOrder }
+    ensures households { LinesNameHouseholds }
 {}
 
 /// The record of an act that isn't refused is of a household that is there, or of the one that comes next. It does

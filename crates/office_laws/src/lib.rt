@@ -5,8 +5,8 @@ mod at_hand;
 mod laws;
 
 pub use at_hand::{
-    applicant_replies, days_are_lived, new_replies, next_records, requests_are_once, unit_replies,
-    within_room,
+    applicant_replies, days_are_lived, lines_stand_in_order, new_replies, next_records,
+    requests_are_once, unit_replies, within_room,
 };
 pub use laws::{
     acts_are_in_place, acts_give_the_book, acts_meet_their_terms, appended_is_accepted,

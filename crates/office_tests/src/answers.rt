@@ -1,8 +1,9 @@
 //! The answers to questions.
 
-use crate::telling::{Known, told};
+use crate::offices::{let_go, told};
+use office_core::Office;
 use office_core::office_answers::{
-    Admissions, Answer, Asked, BookLines, DueDay, HouseholdSummary, Question, Voucher, answer_to,
+    Admissions, Answer, Asked, DueDay, HouseholdSummary, Question, Voucher,
 };
 use office_core::office_step::{Named, Refusal};
 use plain_data::Listed;
@@ -22,36 +23,22 @@ const MOVE_OUT: &str = "{'household':1,'kind':'move_out','last':'2024-02-10','se
 
 const WITHDRAW: &str = "{'household':1,'kind':'withdraw','record':2,'seen':2}";
 
-fn ask(
-    rt: &impl Abort,
-    alloc: Global,
-    office: &Known,
-    question: Question,
-) -> Result<Answer, Asked> {
-    assert!(rt; office.lines.len() <= 4_000_000);
-    let lines = BookLines {
-        lines: &office.lines,
-        in_turn: false,
-    };
-    answer_to(alloc, &office.register, &lines, &question)
-}
-
 /// Asks, and compares the answer.
 fn expect(
     rt: &impl Abort,
     alloc: Global,
-    office: &Known,
+    office: &Office,
     question: Question,
     wanted: Result<Answer, Asked>,
 ) {
-    let answer = ask(rt, alloc, office, question);
+    let answer = office.ask(alloc, &question);
     assert!(rt; answer == wanted, "{question:?}: {answer:?}");
 }
 
 fn expect_refusal(
     rt: &impl Abort,
     alloc: Global,
-    office: &Known,
+    office: &Office,
     question: Question,
     refusal: Refusal,
 ) {
@@ -62,7 +49,7 @@ fn no_such(what: Named, id: u32) -> Refusal {
     Refusal::NoSuch { what, id }
 }
 
-fn expect_paid(rt: &impl Abort, alloc: Global, office: &Known, text: &str, paid: i64) {
+fn expect_paid(rt: &impl Abort, alloc: Global, office: &Office, text: &str, paid: i64) {
     let question = Question::Paid {
         household: 1,
         month: month(text),
@@ -71,7 +58,7 @@ fn expect_paid(rt: &impl Abort, alloc: Global, office: &Known, text: &str, paid:
 }
 
 /// No closing of the month was made.
-fn expect_open(rt: &impl Abort, alloc: Global, office: &Known, text: &str) {
+fn expect_open(rt: &impl Abort, alloc: Global, office: &Office, text: &str) {
     let question = Question::Voucher { month: month(text) };
     expect(rt, alloc, office, question, Ok(Answer::Voucher(None)));
 }
@@ -80,12 +67,12 @@ fn expect_open(rt: &impl Abort, alloc: Global, office: &Known, text: &str) {
 fn expect_voucher(
     rt: &impl Abort,
     alloc: Global,
-    office: &Known,
+    office: &Office,
     text: &str,
     wanted: (usize, i64, i64, i64),
 ) {
     let question = Question::Voucher { month: month(text) };
-    match &ask(rt, alloc, office, question) {
+    match &office.ask(alloc, &question) {
         Ok(Answer::Voucher(Some(voucher))) => assert!(rt; parts_of(voucher) == wanted),
         _ => panic!(rt; "not closed"),
     }
@@ -107,10 +94,10 @@ fn nothing_is_known_before_the_first_act(rt: HostRuntime) {
     expect_no_plan(&rt, rt.alloc(), &none);
     expect_nobody(&rt, rt.alloc(), &none);
     expect_open(&rt, rt.alloc(), &none, "2024-01");
-    none.let_go();
+    let_go(none);
 }
 
-fn expect_no_plan(rt: &impl Abort, alloc: Global, none: &Known) {
+fn expect_no_plan(rt: &impl Abort, alloc: Global, none: &Office) {
     let day = day("2024-01-01");
     for question in &[
         Question::Next { unit: 1, day },
@@ -121,7 +108,7 @@ fn expect_no_plan(rt: &impl Abort, alloc: Global, none: &Known) {
     }
 }
 
-fn expect_nobody(rt: &impl Abort, alloc: Global, none: &Known) {
+fn expect_nobody(rt: &impl Abort, alloc: Global, none: &Office) {
     let month = month("2024-01");
     let household = 1;
     let target = 1;
@@ -140,10 +127,10 @@ fn expect_nobody(rt: &impl Abort, alloc: Global, none: &Known) {
 fn a_household_is_paid(rt: HostRuntime) {
     let office = told(&rt, rt.alloc(), &[PLAN, UNIT, RENTS, START, CLOSE_JANUARY]);
     expect_january(&rt, rt.alloc(), &office);
-    office.let_go();
+    let_go(office);
 }
 
-fn expect_january(rt: &impl Abort, alloc: Global, office: &Known) {
+fn expect_january(rt: &impl Abort, alloc: Global, office: &Office) {
     expect_voucher(rt, alloc, office, "2024-01", (1, 548, 0, 548));
     expect_paid(rt, alloc, office, "2024-01", 548);
     for text in &["2023-12", "2024-02"] {
@@ -168,7 +155,7 @@ fn a_month_is_set_right(rt: HostRuntime) {
     let office = told(&rt, rt.alloc(), &texts);
     expect_voucher(&rt, rt.alloc(), &office, "2024-03", (1, 0, -359, -359));
     expect_paid(&rt, rt.alloc(), &office, "2024-02", 189);
-    office.let_go();
+    let_go(office);
 }
 
 // The second record is the move-out, from the day after the last. The third withdraws it, so the first alone counts.
@@ -180,10 +167,10 @@ fn a_household_and_its_records(rt: HostRuntime) {
     expect_move_out(&rt, rt.alloc(), &office);
     expect_no_record(&rt, rt.alloc(), &office, 0);
     expect_no_record(&rt, rt.alloc(), &office, 4);
-    office.let_go();
+    let_go(office);
 }
 
-fn expect_household(rt: &impl Abort, alloc: Global, office: &Known) {
+fn expect_household(rt: &impl Abort, alloc: Global, office: &Office) {
     let live = [1u32].to_vec(alloc).expect(rt, "memory");
     let summary = HouseholdSummary {
         household: 1,
@@ -195,12 +182,12 @@ fn expect_household(rt: &impl Abort, alloc: Global, office: &Known) {
     expect(rt, alloc, office, question, Ok(Answer::Household(summary)));
 }
 
-fn expect_move_out(rt: &impl Abort, alloc: Global, office: &Known) {
+fn expect_move_out(rt: &impl Abort, alloc: Global, office: &Office) {
     let question = Question::Record {
         household: 1,
         target: 2,
     };
-    match &ask(rt, alloc, office, question) {
+    match &office.ask(alloc, &question) {
         Ok(Answer::Record(held)) => assert_move_out(rt, held),
         _ => panic!(rt; "no record"),
     }
@@ -211,7 +198,7 @@ fn assert_move_out(rt: &impl Abort, held: &Record) {
     assert!(rt; held.from == day("2024-02-11"));
 }
 
-fn expect_no_record(rt: &impl Abort, alloc: Global, office: &Known, target: u32) {
+fn expect_no_record(rt: &impl Abort, alloc: Global, office: &Office, target: u32) {
     let question = Question::Record {
         household: 1,
         target,
@@ -225,7 +212,7 @@ const JUNE: &str = "{'facts':FACTS,'from':'2024-06-01','kind':'start','name':'Bo
 const THERE: &str = "{'facts':FACTS,'from':'2024-01-01','kind':'start','name':'Ada Reed','unit':2}";
 
 /// Asks who is due, seen from the day.
-fn expect_due(rt: &impl Abort, alloc: Global, office: &Known, seen_from: &str, wanted: &[DueDay]) {
+fn expect_due(rt: &impl Abort, alloc: Global, office: &Office, seen_from: &str, wanted: &[DueDay]) {
     let question = Question::Due {
         day: day(seen_from),
     };
@@ -248,12 +235,12 @@ fn who_is_due(rt: HostRuntime) {
         &[PLAN, UNIT, OTHER_UNIT, RENTS, JUNE, THERE],
     );
     expect_two_due(&rt, rt.alloc(), &office);
-    office.let_go();
+    let_go(office);
 }
 
 // The first household is due on 1 June 2025, 120 days after 1 February, and the second was due on 1 January, 120 days
 // after 3 September.
-fn expect_two_due(rt: &impl Abort, alloc: Global, office: &Known) {
+fn expect_two_due(rt: &impl Abort, alloc: Global, office: &Office) {
     let dues = [due("2025-01-01", 2), due("2025-06-01", 1)];
     expect_due(rt, alloc, office, "2025-02-01", &dues);
     expect_due(rt, alloc, office, "2025-01-31", &dues[..1]);
@@ -265,7 +252,7 @@ fn expect_two_due(rt: &impl Abort, alloc: Global, office: &Known) {
 fn who_moved_out_is_not_due(rt: HostRuntime) {
     let office = told(&rt, rt.alloc(), &[PLAN, UNIT, RENTS, START, MOVE_OUT]);
     expect_due(&rt, rt.alloc(), &office, "2025-01-01", &[]);
-    office.let_go();
+    let_go(office);
 }
 
 const OCTOBER: &str =
@@ -290,10 +277,10 @@ fn admissions_of_a_fiscal_year(rt: HostRuntime) {
         &[OCTOBER, UNIT, RENTS, LIMITS, APPLY, ADMIT],
     );
     expect_years(&rt, rt.alloc(), &office);
-    office.let_go();
+    let_go(office);
 }
 
-fn expect_years(rt: &impl Abort, alloc: Global, office: &Known) {
+fn expect_years(rt: &impl Abort, alloc: Global, office: &Office) {
     for (text, first_day, admitted) in &YEARS {
         let admissions = Admissions {
             first_day: day(*first_day),
@@ -316,7 +303,7 @@ fn who_is_next(rt: HostRuntime) {
     expect_next(&rt, rt.alloc(), &office, "2024-01-01", first);
     let elsewhere = next_for(2, "2024-01-01");
     expect_refusal(&rt, rt.alloc(), &office, elsewhere, no_such(Named::Unit, 2));
-    office.let_go();
+    let_go(office);
 }
 
 fn next_for(unit: u32, text: &str) -> Question {
@@ -329,7 +316,7 @@ fn next_for(unit: u32, text: &str) -> Question {
 fn expect_next(
     rt: &impl Abort,
     alloc: Global,
-    office: &Known,
+    office: &Office,
     text: &str,
     next: Option<Candidate>,
 ) {

@@ -135,6 +135,18 @@ fn after(rt: &impl Abort, alloc: Global, capacity: Capacity, trials: &[Trial]) -
     office
 }
 
+/// An office that was told so much on the first of 2024, each of which was accepted.
+pub fn told(rt: &impl Abort, alloc: Global, texts: &[&str]) -> Office {
+    let mut office = new(rt, alloc, LARGEST);
+    for text in texts {
+        let request = office.tables().acts.len() as u32 + 1;
+        let trial = on_first(request, text, done(request, Made::Nothing));
+        let answer = act(rt, alloc, &mut office, &trial);
+        assert!(rt; answer.is_ok(), "{text}");
+    }
+    office
+}
+
 fn new(rt: &impl Abort, alloc: Global, capacity: Capacity) -> Office {
     assert!(rt; capacity.acts <= 100_000 && capacity.lines <= 4_000_000);
     match Office::new(alloc, capacity) {

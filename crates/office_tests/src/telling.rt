@@ -87,11 +87,10 @@ pub fn command(rt: &impl Abort, alloc: Global, text: &str) -> Command
     }
 }
 
-/// What an office knows, and the lines of its closings.
+/// What an office knows.
 #[derive(Drop)]
 pub struct Known {
     pub register: Register,
-    pub lines: Vec<Line>,
 }
 
 impl Known {
@@ -110,7 +109,7 @@ pub fn act(
     let asked = command(rt, alloc, text);
     match judge(&office.register, 100, office_day(today), &asked) {
         Ok(made) => {
-            let reply = replied(rt, alloc, office, &asked, &made);
+            let reply = replied(rt, alloc, &office.register, &asked, &made);
             note(rt, alloc, &mut office.register, asked, made);
             Ok(reply)
         }
@@ -121,20 +120,18 @@ pub fn act(
     }
 }
 
-/// Holds the lines of an act, and tells what it makes.
+/// What an act makes.
 fn replied(
     rt: &impl Abort,
     alloc: Global,
-    office: &mut Known,
+    register: &Register,
     asked: &Command,
     made: &Option<Record>,
 ) -> Made
     requires within { IfSome made.now IsWithin }
     requires month { ClosesBy last_office_month asked.now }
-    ensures { office.new.register ≡ office.old.register }
 {
-    let lines = lines_made(rt, alloc, &office.register, asked);
-    hold(rt, &mut office.lines, &lines);
+    let lines = lines_made(rt, alloc, register, asked);
     reply_of(made, asked, &lines)
 }
 
@@ -145,12 +142,6 @@ fn lines_made(rt: &impl Abort, alloc: Global, register: &Register, asked: &Comma
     match lines_of(alloc, register, asked) {
         Ok(lines) => lines,
         Err(NoMemory) => panic!(rt; "no memory"),
-    }
-}
-
-fn hold(rt: &impl Abort, held: &mut Vec<Line>, lines: &[Line]) {
-    for line in lines {
-        assert!(rt; held.push(*line).is_ok());
     }
 }
 
@@ -228,10 +219,7 @@ pub fn told(rt: &impl Abort, alloc: Global, texts: &[&str]) -> Known {
     let Ok(register) = Register::new(alloc) else {
         panic!(rt; "no memory");
     };
-    let mut office = Known {
-        register,
-        lines: Vec::new(alloc),
-    };
+    let mut office = Known { register };
     for text in texts {
         accepted(rt, alloc, &mut office, text);
     }

@@ -3,7 +3,6 @@ use Rattle.std.specs.Prelude.{All}
 use Rattle.record_history.specs.Held.{IsWithin}
 use Rattle.book_rows.specs.Book.{Book, book_of}
 use Rattle.office_answers.specs.Below.office_step.Step.{reached_more}
-use Rattle.office_answers.specs.InTurn.{StandInTurn}
 use Rattle.office_core.proofs.Grown.{accepted_next, known_next, records_next, indexed_next}
 use Rattle.office_core.proofs.office.Office.append.Goals as goal
 
@@ -28,12 +27,6 @@ invariant_of-self c =
       requests =
           indexed_next (book_of c.self.inside.tables) (book_of c.append.new.self) c.step.inside.batch c.self.inside.requests.entries c.insert.new.self.entries
           c.act_key.result c.acts-place.result c.self.invariant.requests c.index_grows.ensures c.append.ensures.book c.act_key.ensures (rw (← c.self.view_is) at c.acts-place.ensures) c.insert.ensures.entries;
-      in_turn = λ passes.
-          subst (λ (b : Book). StandInTurn b.lines) (sym c.append.ensures.book)
-          (rw (← c.self.view_is, c.as_slice.ensures) at (c.stays_in_turn-in_turn.ensures.in_turn passes));
-      out_of_turn = λ fails.
-          subst (λ (b : Book). StandInTurn b.lines → ⊥) (sym c.append.ensures.book)
-          (rw (← c.self.view_is, c.as_slice.ensures) at (c.stays_in_turn-in_turn.ensures.out_of_turn fails));
       records = subst (λ (b : Book). All IsWithin b.records) (sym c.append.ensures.book)
           (records_next c.self.inside.tables.records.items c.step.inside.batch.made c.self.invariant.records c.step.invariant.within);
     }

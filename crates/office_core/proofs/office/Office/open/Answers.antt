@@ -11,6 +11,4 @@ invariant_of-result c = record {
   known = c.in-Ok.ensures.known.known;
   requests = c.in-Ok.ensures.known.requests;
   records = c.in-Ok.ensures.known.records;
-  in_turn = rw c.deref.ensures.value at c.are_in_turn.ensures.in_turn;
-  out_of_turn = rw c.deref.ensures.value at c.are_in_turn.ensures.out_of_turn;
 }

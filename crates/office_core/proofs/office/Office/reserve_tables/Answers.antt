@@ -5,7 +5,6 @@ use Rattle.book_rows.specs.Book.{Book}
 use Rattle.row_index.specs.Index.{index_of}
 use Rattle.book_replay.specs.Below.book_search.Requests.{act_key}
 use Rattle.office_answers.specs.Below.office_step.{Known.known_of, Step.IsReached}
-use Rattle.office_answers.specs.InTurn.{StandInTurn}
 use Rattle.office_core.proofs.office.Office.reserve_tables.Goals as goal
 
 pub invariant_of-self : goal.invariant_of-self
@@ -18,6 +17,4 @@ invariant_of-self c =
       known = c.self.invariant.known ∙ ap known_of same;
       requests = c.self.invariant.requests ∙ ap (λ (b : Book). index_of act_key b.acts) same;
       records = subst (λ (b : Book). All IsWithin b.records) same c.self.invariant.records;
-      in_turn = λ passes. subst (λ (b : Book). StandInTurn b.lines) same (c.self.invariant.in_turn passes);
-      out_of_turn = λ fails. subst (λ (b : Book). StandInTurn b.lines → ⊥) same (c.self.invariant.out_of_turn fails);
     }
