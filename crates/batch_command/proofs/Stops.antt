@@ -7,7 +7,7 @@ use Rattle.line_input.specs.Lines.{IsEndless, lines_of}
 use Rattle.book_rows.specs.Book.{Book}
 use Rattle.keeper_core.specs.Keeping.{LeavesTold}
 use Rattle.clerk_desk.specs.Below.office_step.declared.call.Capacity.{Capacity}
-use Rattle.clerk_desk.specs.Serving.{ToldBefore, LeavesOnly, LeavesFurther}
+use Rattle.clerk_desk.specs.{OpenBook.ToldBefore, Serving.LeavesOnly, Serving.LeavesFurther}
 use Rattle.batch_command.specs.{declared.ending.Ending.Ending, Output.Given, Output.told_of, Line.IsMadeBy, Line.LineCrash, Batch.lines_in, Batch.LeavesByLine}
 use Rattle.batch_command.proofs.{SoFar.SoFar, Runs.endless_lines, Ends.next_line, Ends.follows_last}
 

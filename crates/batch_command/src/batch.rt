@@ -1,9 +1,8 @@
 //! The lines of a source, answered one after another.
 
 ghost use Rattle.std.specs.Prelude.{◌≡◌};
-ghost use Rattle.book_rows.specs.Book.{Book};
-ghost use Rattle.keeper_core.specs.Keeping.{Keeps};
-ghost use Rattle.clerk_desk.specs.Serving.{ToldBefore, TellsOn, Outlives};
+ghost use Rattle.clerk_desk.specs.OpenBook.{IsOpen, StaysOpen};
+ghost use Rattle.clerk_desk.specs.Serving.{Outlives};
 ghost use Rattle.batch_command.specs.Answers.{Blames};
 ghost use Rattle.batch_command.specs.Batch.{LinesRan, LeavesByLine, ending_of};
 
@@ -30,14 +29,10 @@ pub fn answer_lines<K: Keeper, S: Source, W: Sink, C: Clock>(
     clock: &C,
     keeper: &mut K,
 ) -> Ending
-    requires { (book : Book) → K.holds keeper.old book → book ≡ office.old.book }
+    requires told { IsOpen K.Keeper office.old keeper.old }
     ensures ran { LinesRan office.old.capacity (C.may_show clock.now) office.old.book office.new.book
         (S.left source.old) (S.left source.new) (W.held sink.old) (W.held sink.new) result }
-    ensures capacity { office.new.capacity ≡ office.old.capacity }
-    ensures kept { (book : Book) → K.holds keeper.new book → book ≡ office.new.book }
-    ensures told_before { ToldBefore (K.holds keeper.old) (K.holds keeper.new) }
-    ensures tells_on { TellsOn (K.is_well keeper.old) (K.is_well keeper.new) (K.holds keeper.old) (K.holds keeper.new) office.new.book }
-    ensures kept_row { Keeps (K.bad keeper.old) (K.bad keeper.new) }
+    ensures stays { StaysOpen K.Keeper office.old keeper.old office.new keeper.new }
     ensures blames { Blames
         (record { source = S.faults source.old; sink = W.faults sink.old; keeper = K.faults keeper.old })
         (record { source = S.faults source.new; sink = W.faults sink.new; keeper = K.faults keeper.new }) result }

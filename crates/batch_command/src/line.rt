@@ -1,13 +1,12 @@
 //! One line is answered.
 
 ghost use Rattle.std.specs.Prelude.{◌≡◌, ◌++◌, ℕ, true, IfOk};
-ghost use Rattle.book_rows.specs.Book.{Book};
 ghost use Rattle.clerk_desk.specs.Below.office_step.Step.{step, is_fit_call};
 ghost use Rattle.clerk_desk.specs.Below.office_answers.Answering.{answer_to};
 ghost use Rattle.json_front.specs.Lines.{line_from};
 ghost use Rattle.reply_text.specs.Replies.{bad_form_text};
-ghost use Rattle.keeper_core.specs.Keeping.{Keeps};
-ghost use Rattle.clerk_desk.specs.Serving.{ToldBefore, TellsOn, IsFurther};
+ghost use Rattle.clerk_desk.specs.OpenBook.{IsOpen, StaysOpen};
+ghost use Rattle.clerk_desk.specs.Serving.{IsFurther};
 ghost use Rattle.batch_command.specs.Output.{session, is_passed_over, line_end, told_of, told_by, told_of_call, answered_text};
 ghost use Rattle.batch_command.specs.Line.{TellsLine, IsText, WritesText, AnswersLine, LineBlames, SinkBlames, TellBlames, IsMadeBy, TellCrash, LineCrash};
 
@@ -36,16 +35,11 @@ pub fn answer_line<K: Keeper, W: Sink, C: Clock>(
     clock: &C,
     keeper: &mut K,
 ) -> Option<Ending>
-    requires { (book : Book) → K.holds keeper.old book → book ≡ office.old.book }
+    requires told { IsOpen K.Keeper office.old keeper.old }
     ensures answered { (day : ℕ) × C.may_show clock.now day × AnswersLine (told_of office.old.capacity office.old.book (record { line = line.now; day = day }))
         office.old.book office.new.book (W.held sink.old) (W.held sink.new) result }
-    ensures capacity { office.new.capacity ≡ office.old.capacity }
-    ensures kept { (book : Book) → K.holds keeper.new book → book ≡ office.new.book }
-    ensures told_before { ToldBefore (K.holds keeper.old) (K.holds keeper.new) }
-    ensures tells_on { TellsOn (K.is_well keeper.old) (K.is_well keeper.new) (K.holds keeper.old) (K.holds keeper.new) office.new.book }
-    ensures kept_row { Keeps (K.bad keeper.old) (K.bad keeper.new) }
+    ensures stays { StaysOpen K.Keeper office.old keeper.old office.new keeper.new }
     ensures blames { LineBlames (W.faults sink.old) (W.faults sink.new) (K.faults keeper.old) (K.faults keeper.new) result }
-    ensures crash_told { K.tells_crash keeper.new → K.tells_crash keeper.old }
     ensures crash { K.tells_crash keeper.new → LineCrash (IsMadeBy (C.may_show clock.now) office.old.capacity office.old.book
         (λ day. told_of office.old.capacity office.old.book (record { line = line.now; day = day })))
         office.old.book office.new.book (K.holds keeper.new) (K.leaves keeper.old) (K.leaves keeper.new) result }
@@ -64,15 +58,10 @@ pub fn answer_of_line<K: Keeper>(
     today: Day,
     line: &[u8],
 ) -> Result<Text, Ending>
-    requires { (book : Book) → K.holds keeper.old book → book ≡ office.old.book }
+    requires told { IsOpen K.Keeper office.old keeper.old }
     ensures told { TellsLine (told_of office.old.capacity office.old.book (record { line = line.now; day = today })) office.old.book office.new.book result }
-    ensures capacity { office.new.capacity ≡ office.old.capacity }
-    ensures kept { (book : Book) → K.holds keeper.new book → book ≡ office.new.book }
-    ensures told_before { ToldBefore (K.holds keeper.old) (K.holds keeper.new) }
-    ensures tells_on { TellsOn (K.is_well keeper.old) (K.is_well keeper.new) (K.holds keeper.old) (K.holds keeper.new) office.new.book }
-    ensures kept_row { Keeps (K.bad keeper.old) (K.bad keeper.new) }
+    ensures stays { StaysOpen K.Keeper office.old keeper.old office.new keeper.new }
     ensures blames { TellBlames (K.faults keeper.old) (K.faults keeper.new) result }
-    ensures crash_told { K.tells_crash keeper.new → K.tells_crash keeper.old }
     ensures crash { K.tells_crash keeper.new → TellCrash (IsFurther office.old.capacity office.old.book
         (told_of office.old.capacity office.old.book (record { line = line.now; day = today })).book)
         office.old.book office.new.book (K.holds keeper.new) (K.leaves keeper.old) (K.leaves keeper.new) result }
@@ -109,15 +98,10 @@ fn told<K: Keeper>(
     today: Day,
     line: &[u8],
 ) -> Result<Text, Ending>
-    requires { (book : Book) → K.holds keeper.old book → book ≡ office.old.book }
+    requires told { IsOpen K.Keeper office.old keeper.old }
     ensures told { TellsLine (told_by office.old.capacity office.old.book today (line_from line.now)) office.old.book office.new.book result }
-    ensures capacity { office.new.capacity ≡ office.old.capacity }
-    ensures kept { (book : Book) → K.holds keeper.new book → book ≡ office.new.book }
-    ensures told_before { ToldBefore (K.holds keeper.old) (K.holds keeper.new) }
-    ensures tells_on { TellsOn (K.is_well keeper.old) (K.is_well keeper.new) (K.holds keeper.old) (K.holds keeper.new) office.new.book }
-    ensures kept_row { Keeps (K.bad keeper.old) (K.bad keeper.new) }
+    ensures stays { StaysOpen K.Keeper office.old keeper.old office.new keeper.new }
     ensures blames { TellBlames (K.faults keeper.old) (K.faults keeper.new) result }
-    ensures crash_told { K.tells_crash keeper.new → K.tells_crash keeper.old }
     ensures crash { K.tells_crash keeper.new → TellCrash (IsFurther office.old.capacity office.old.book
         (told_by office.old.capacity office.old.book today (line_from line.now)).book)
         office.old.book office.new.book (K.holds keeper.new) (K.leaves keeper.old) (K.leaves keeper.new) result }
@@ -141,15 +125,10 @@ pub fn answer_call<K: Keeper>(
     call: Call,
 ) -> Result<Text, Ending>
     requires fit { is_fit_call call ≡ true }
-    requires told { (book : Book) → K.holds keeper.old book → book ≡ office.old.book }
+    requires told { IsOpen K.Keeper office.old keeper.old }
     ensures told { TellsLine (told_of_call office.old.book (step office.old.book office.old.capacity session day call)) office.old.book office.new.book result }
-    ensures capacity { office.new.capacity ≡ office.old.capacity }
-    ensures kept { (book : Book) → K.holds keeper.new book → book ≡ office.new.book }
-    ensures told_before { ToldBefore (K.holds keeper.old) (K.holds keeper.new) }
-    ensures tells_on { TellsOn (K.is_well keeper.old) (K.is_well keeper.new) (K.holds keeper.old) (K.holds keeper.new) office.new.book }
-    ensures kept_row { Keeps (K.bad keeper.old) (K.bad keeper.new) }
+    ensures stays { StaysOpen K.Keeper office.old keeper.old office.new keeper.new }
     ensures blames { TellBlames (K.faults keeper.old) (K.faults keeper.new) result }
-    ensures crash_told { K.tells_crash keeper.new → K.tells_crash keeper.old }
     ensures crash { K.tells_crash keeper.new → TellCrash (IsFurther office.old.capacity office.old.book
         (told_of_call office.old.book (step office.old.book office.old.capacity session day call)).book)
         office.old.book office.new.book (K.holds keeper.new) (K.leaves keeper.old) (K.leaves keeper.new) result }

@@ -1,3 +1,4 @@
 pub mod Below
 pub mod Opening
+pub mod OpenBook
 pub mod Serving

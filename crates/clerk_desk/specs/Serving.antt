@@ -1,9 +1,12 @@
 -- What a clerk is told of a call, and the book after it.
-use Rattle.std.specs.Prelude.{◌≡◌, ◌⊎◌, ℕ, Option, Some}
+use Rattle.std.specs.Prelude.{◌≡◌, ◌⊎◌, ⊤, ℕ, Option, Some}
 use Rattle.office_io.specs.Outside.{Faulted}
 use Rattle.book_rows.specs.{declared.rows.Batch.Batch, Book.Book, Book.appended}
+use Rattle.keeper_core.specs.declared.keeper.Keeper as keeper
 use Rattle.keeper_core.specs.Keeping.{LeavesTold}
+use Rattle.office_core.specs.Office.{Holding}
 use Rattle.office_core.specs.Below.{office_answers.declared.reply.Reply.Reply, office_step.declared.call.Capacity.Capacity, office_step.Reply.done_of, office_step.Step.Outcome, office_step.Step.again, office_step.Step.refused, office_step.Step.appends, office_step.Step.IsAppended}
+use Rattle.clerk_desk.specs.declared.serving.Booking.{Booking}
 
 -- the reply to a call of which the office does this
 abbrev pub reply_of : Book → Outcome → Reply
@@ -28,14 +31,6 @@ abbrev pub ReplyCause : ℕ → ℕ → Reply → Type 0
 ReplyCause before now Reply.StoreFault = Faulted before now
 ReplyCause before now _ = now ≡ before
 
--- what the keeper tells now it told before, perhaps of another book
-abbrev pub ToldBefore : (Book → Type 0) → (Book → Type 0) → Type 0
-ToldBefore holds holds_now = (book : Book) → holds_now book → (was : Book) × holds was
-
--- a keeper that is well was well before, and tells the book now where it told one
-abbrev pub TellsOn : (was_well well : Type 0) → (Book → Type 0) → (Book → Type 0) → Book → Type 0
-TellsOn was_well well holds holds_now now = well → was_well × ((told : Book) → holds told → holds_now now)
-
 -- ---- what a crash leaves
 
 -- it left this book, which the office would have made of the one that it has by the rows of an act
@@ -59,6 +54,39 @@ abbrev pub ServeCrash : Capacity → (made old new : Book) → (Book → Type 0)
 ServeCrash capacity made old new holds left leaves (Reply.Accepted done) = LeavesOnly old new holds left leaves
 ServeCrash capacity made old new holds left leaves (Reply.Refused refusal) = LeavesOnly old new holds left leaves
 ServeCrash capacity made old new holds left leaves _ = LeavesFurther (IsFurther capacity old made) old new holds left leaves
+
+-- ---- what came of a call
+
+abbrev pub reply_to : Booking → Reply
+reply_to (Booking.Booked done) = Reply.Accepted done
+reply_to (Booking.Unsent reply) = reply
+reply_to (Booking.Unkept step reply) = reply
+
+-- the rows are what the office appends
+pub record IsNewAct (outcome : Outcome) (office : Holding) (rows : Batch) : Type 0 where
+  pub appends_them : outcome ≡ appends rows
+  pub by_office : IsAppended office.capacity office.book rows
+
+-- the first reply again, or the office's refusal, or that memory ran out
+abbrev pub IsUnsentReply : Outcome → Reply → Type 0
+IsUnsentReply outcome (Reply.Accepted done) = outcome ≡ again done
+IsUnsentReply outcome (Reply.Refused refusal) = outcome ≡ refused refusal
+IsUnsentReply outcome Reply.StoreFault = ⊥
+IsUnsentReply outcome Reply.NoMemory = ⊤
+
+-- that the keeper failed or memory ran out
+abbrev pub IsUnkeptReply : Reply → Type 0
+IsUnkeptReply (Reply.Accepted done) = ⊥
+IsUnkeptReply (Reply.Refused refusal) = ⊥
+IsUnkeptReply _ = ⊤
+
+-- A new act was booked; or the keeper was sent nothing, and is as it was; or it was sent the rows of a new act and did not say it
+-- kept them. In the last two cases the book is as before, and in the last a crash may leave it with the rows.
+abbrev pub ComesTo : {K : Type 0} → keeper.Ghosts K → Outcome → Holding → K → Holding → K → Booking → Type 0
+ComesTo tells outcome office was office_now now (Booking.Booked done) = (rows : Batch) × IsNewAct outcome office rows × (office_now.book ≡ appended office.book rows)
+ComesTo tells outcome office was office_now now (Booking.Unsent reply) = IsUnsentReply outcome reply × (office_now.book ≡ office.book) × (now ≡ was)
+ComesTo tells outcome office was office_now now (Booking.Unkept step reply) = IsUnkeptReply reply × IsNewAct outcome office step.rows × (office_now.book ≡ office.book)
+    × (tells.tells_crash now → LeavesFurther (IsFurther office.capacity office.book (appended office.book step.rows)) office.book office_now.book (tells.holds now) (tells.leaves was) (tells.leaves now))
 
 -- the book that the office has, or this and the rows of one further act that it would append
 abbrev pub IsLeft : Capacity → Book → Option Book → Type 0

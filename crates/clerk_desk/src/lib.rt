@@ -7,4 +7,4 @@ mod serving;
 pub use office_core;
 pub use office_core::office_answers;
 pub use opening::{DeskFault, open_office};
-pub use serving::serve;
+pub use serving::{Booking, book_call, serve};

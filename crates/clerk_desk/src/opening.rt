@@ -4,6 +4,7 @@ ghost use Rattle.std.specs.Prelude.{◌≡◌, ◌≤◌, None, IfOk, IfErr};
 ghost use Rattle.keeper_core.specs.Keeping.{Keeps, Gives, LoadCause};
 ghost use Rattle.office_core.specs.Below.office_step.Valid.{first_fault};
 ghost use Rattle.clerk_desk.specs.Opening.{TellsOnly, Opens, IsUnopened, BlamesKeeper};
+ghost use Rattle.record_history.specs.Limits.{most_acts, most_lines};
 
 use keeper_core::{Keeper, Loaded};
 use office_core::{Capacity, Fault, Office, OpenFault};
@@ -25,8 +26,8 @@ pub fn open_office<K: Keeper>(
     keeper: &mut K,
     capacity: Capacity,
 ) -> Result<Office, DeskFault>
-    requires acts { capacity.acts ≤ 100000 }
-    requires lines { capacity.lines ≤ 4000000 }
+    requires acts { capacity.acts ≤ most_acts }
+    requires lines { capacity.lines ≤ most_lines }
     // It is what comes of the load's answer.
     ensures opened { (loaded : Loaded) × Gives (K.holds keeper.new) (K.bad keeper.new) loaded
         × LoadCause (K.faults keeper.old) (K.faults keeper.new) loaded × Opens capacity loaded result }
@@ -48,8 +49,8 @@ pub fn open_office<K: Keeper>(
 }
 
 fn opened(alloc: Global, loaded: Loaded, capacity: Capacity) -> Result<Office, DeskFault>
-    requires acts { capacity.acts ≤ 100000 }
-    requires lines { capacity.lines ≤ 4000000 }
+    requires acts { capacity.acts ≤ most_acts }
+    requires lines { capacity.lines ≤ most_lines }
     ensures { Opens capacity loaded result }
 {
     match loaded {

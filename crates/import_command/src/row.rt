@@ -1,10 +1,9 @@
 //! One row is answered.
 
 ghost use Rattle.std.specs.Prelude.{◌≡◌, ℕ, true};
-ghost use Rattle.book_rows.specs.Book.{Book};
-ghost use Rattle.keeper_core.specs.Keeping.{Keeps};
 ghost use Rattle.applicant_rows.specs.Applicants.{is_fit_row};
-ghost use Rattle.batch_command.specs.Below.clerk_desk.Serving.{ToldBefore, TellsOn, IsFurther};
+ghost use Rattle.batch_command.specs.Below.clerk_desk.OpenBook.{IsOpen, StaysOpen};
+ghost use Rattle.batch_command.specs.Below.clerk_desk.Serving.{IsFurther};
 ghost use Rattle.batch_command.specs.Output.{told_by};
 ghost use Rattle.batch_command.specs.Line.{TellsLine, AnswersLine, LineBlames, TellBlames, IsMadeBy, TellCrash, LineCrash};
 ghost use Rattle.import_command.specs.Rows.{line_of_row, told_of_row};
@@ -27,17 +26,12 @@ pub fn answer_row<K: Keeper, W: Sink, C: Clock>(
     clock: &C,
     keeper: &mut K,
 ) -> Option<Ending>
-    requires told { (book : Book) → K.holds keeper.old book → book ≡ office.old.book }
+    requires told { IsOpen K.Keeper office.old keeper.old }
     requires fit { is_fit_row row ≡ true }
     ensures answered { (day : ℕ) × C.may_show clock.now day × AnswersLine (told_of_row office.old.capacity office.old.book (record { row = row; day = day }))
         office.old.book office.new.book (W.held sink.old) (W.held sink.new) result }
-    ensures capacity { office.new.capacity ≡ office.old.capacity }
-    ensures kept { (book : Book) → K.holds keeper.new book → book ≡ office.new.book }
-    ensures told_before { ToldBefore (K.holds keeper.old) (K.holds keeper.new) }
-    ensures tells_on { TellsOn (K.is_well keeper.old) (K.is_well keeper.new) (K.holds keeper.old) (K.holds keeper.new) office.new.book }
-    ensures kept_row { Keeps (K.bad keeper.old) (K.bad keeper.new) }
+    ensures stays { StaysOpen K.Keeper office.old keeper.old office.new keeper.new }
     ensures blames { LineBlames (W.faults sink.old) (W.faults sink.new) (K.faults keeper.old) (K.faults keeper.new) result }
-    ensures crash_told { K.tells_crash keeper.new → K.tells_crash keeper.old }
     ensures crash { K.tells_crash keeper.new → LineCrash (IsMadeBy (C.may_show clock.now) office.old.capacity office.old.book
         (λ day. told_of_row office.old.capacity office.old.book (record { row = row; day = day })))
         office.old.book office.new.book (K.holds keeper.new) (K.leaves keeper.old) (K.leaves keeper.new) result }
@@ -57,16 +51,11 @@ fn told<K: Keeper>(
     today: Day,
     row: ImportRow,
 ) -> Result<Text, Ending>
-    requires told { (book : Book) → K.holds keeper.old book → book ≡ office.old.book }
+    requires told { IsOpen K.Keeper office.old keeper.old }
     requires fit { is_fit_row row ≡ true }
     ensures told { TellsLine (told_by office.old.capacity office.old.book today (line_of_row row)) office.old.book office.new.book result }
-    ensures capacity { office.new.capacity ≡ office.old.capacity }
-    ensures kept { (book : Book) → K.holds keeper.new book → book ≡ office.new.book }
-    ensures told_before { ToldBefore (K.holds keeper.old) (K.holds keeper.new) }
-    ensures tells_on { TellsOn (K.is_well keeper.old) (K.is_well keeper.new) (K.holds keeper.old) (K.holds keeper.new) office.new.book }
-    ensures kept_row { Keeps (K.bad keeper.old) (K.bad keeper.new) }
+    ensures stays { StaysOpen K.Keeper office.old keeper.old office.new keeper.new }
     ensures blames { TellBlames (K.faults keeper.old) (K.faults keeper.new) result }
-    ensures crash_told { K.tells_crash keeper.new → K.tells_crash keeper.old }
     ensures crash { K.tells_crash keeper.new → TellCrash (IsFurther office.old.capacity office.old.book
         (told_by office.old.capacity office.old.book today (line_of_row row)).book)
         office.old.book office.new.book (K.holds keeper.new) (K.leaves keeper.old) (K.leaves keeper.new) result }

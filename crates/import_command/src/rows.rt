@@ -1,10 +1,9 @@
 //! The rows of an import, answered one after another.
 
 ghost use Rattle.std.specs.Prelude.{◌≡◌, true, Some, All};
-ghost use Rattle.book_rows.specs.Book.{Book};
-ghost use Rattle.keeper_core.specs.Keeping.{Keeps};
 ghost use Rattle.applicant_rows.specs.Applicants.{is_fit_row};
-ghost use Rattle.batch_command.specs.Below.clerk_desk.Serving.{ToldBefore, TellsOn, Outlives};
+ghost use Rattle.batch_command.specs.Below.clerk_desk.OpenBook.{IsOpen, StaysOpen};
+ghost use Rattle.batch_command.specs.Below.clerk_desk.Serving.{Outlives};
 ghost use Rattle.batch_command.specs.Line.{LineBlames};
 ghost use Rattle.import_command.specs.Rows.{RowsRan, LeavesByRow};
 
@@ -25,15 +24,11 @@ pub fn answer_rows<K: Keeper, W: Sink, C: Clock>(
     clock: &C,
     keeper: &mut K,
 ) -> Ending
-    requires told { (book : Book) → K.holds keeper.old book → book ≡ office.old.book }
+    requires told { IsOpen K.Keeper office.old keeper.old }
     requires fit { All (λ row. is_fit_row row ≡ true) rows.items }
     ensures ran { RowsRan office.old.capacity (C.may_show clock.now) rows.items office.old.book office.new.book
         (W.held sink.old) (W.held sink.new) result }
-    ensures capacity { office.new.capacity ≡ office.old.capacity }
-    ensures kept { (book : Book) → K.holds keeper.new book → book ≡ office.new.book }
-    ensures told_before { ToldBefore (K.holds keeper.old) (K.holds keeper.new) }
-    ensures tells_on { TellsOn (K.is_well keeper.old) (K.is_well keeper.new) (K.holds keeper.old) (K.holds keeper.new) office.new.book }
-    ensures kept_row { Keeps (K.bad keeper.old) (K.bad keeper.new) }
+    ensures stays { StaysOpen K.Keeper office.old keeper.old office.new keeper.new }
     ensures blames { LineBlames (W.faults sink.old) (W.faults sink.new) (K.faults keeper.old) (K.faults keeper.new) (Some result) }
     ensures stopped { Outlives (LeavesByRow office.old.capacity (C.may_show clock.now) rows.items)
         (K.holds keeper.old) (K.leaves keeper.old) (K.tells_crash keeper.old) (K.holds keeper.new) (K.leaves keeper.new) (K.tells_crash keeper.new) }

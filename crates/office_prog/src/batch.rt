@@ -1,9 +1,8 @@
 //! The command `batch`.
 
 ghost use Rattle.std.specs.Prelude.{◌≡◌};
-ghost use Rattle.book_rows.specs.Book.{Book};
-ghost use Rattle.keeper_core.specs.Keeping.{Keeps};
-ghost use Rattle.batch_command.specs.Below.clerk_desk.Serving.{ToldBefore, TellsOn, Outlives};
+ghost use Rattle.batch_command.specs.Below.clerk_desk.OpenBook.{IsOpen, StaysOpen};
+ghost use Rattle.batch_command.specs.Below.clerk_desk.Serving.{Outlives};
 ghost use Rattle.batch_command.specs.Batch.{LeavesByLine};
 ghost use Rattle.program_answers.specs.Keeping.{StillTells};
 ghost use Rattle.office_prog.specs.Batch.{Batched, status_of};
@@ -51,16 +50,12 @@ fn answer_batch<K: Keeper, S: Source, W: Sink, C: Clock>(
     clock: &C,
     keeper: &mut K,
 ) -> ExitStatus
-    requires told { (book : Book) → K.holds keeper.old book → book ≡ office.old.book }
+    requires told { IsOpen K.Keeper office.old keeper.old }
     requires capacity { office.old.capacity ≡ largest }
     ensures batched { Batched (C.may_show clock.now) office.old.book office.new.book
         (door (S.left source.old) (W.held sink.old) (S.faults source.old) (W.faults sink.old) (K.faults keeper.old))
         (door (S.left source.new) (W.held sink.new) (S.faults source.new) (W.faults sink.new) (K.faults keeper.new)) result }
-    ensures capacity { office.new.capacity ≡ office.old.capacity }
-    ensures kept { (book : Book) → K.holds keeper.new book → book ≡ office.new.book }
-    ensures told_before { ToldBefore (K.holds keeper.old) (K.holds keeper.new) }
-    ensures kept_row { Keeps (K.bad keeper.old) (K.bad keeper.new) }
-    ensures tells_on { TellsOn (K.is_well keeper.old) (K.is_well keeper.new) (K.holds keeper.old) (K.holds keeper.new) office.new.book }
+    ensures stays { StaysOpen K.Keeper office.old keeper.old office.new keeper.new }
     ensures stopped { Outlives (LeavesByLine largest (C.may_show clock.now) (S.left source.old))
         (K.holds keeper.old) (K.leaves keeper.old) (K.tells_crash keeper.old) (K.holds keeper.new) (K.leaves keeper.new) (K.tells_crash keeper.new) }
 {

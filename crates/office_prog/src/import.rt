@@ -1,9 +1,8 @@
 //! The command `import`.
 
 ghost use Rattle.std.specs.Prelude.{◌≡◌, ◌≤◌, ℕ, Option, Some, List};
-ghost use Rattle.book_rows.specs.Book.{Book};
-ghost use Rattle.keeper_core.specs.Keeping.{Keeps};
-ghost use Rattle.batch_command.specs.Below.clerk_desk.Serving.{ToldBefore, TellsOn, Outlives};
+ghost use Rattle.batch_command.specs.Below.clerk_desk.OpenBook.{IsOpen, StaysOpen};
+ghost use Rattle.batch_command.specs.Below.clerk_desk.Serving.{Outlives};
 ghost use Rattle.program_answers.specs.Keeping.{StillTells};
 ghost use Rattle.office_prog.specs.Import.{AnswersInput, Imported, LeavesByInput};
 ghost use Rattle.program_answers.specs.Opening.{ComesOfBook, door, largest};
@@ -64,16 +63,12 @@ fn import<K: Keeper, S: Source, W: Sink, C: Clock>(
 ) -> ExitStatus
     requires least { 1 ≤ clerk }
     requires most { clerk ≤ 9999 }
-    requires told { (book : Book) → K.holds keeper.old book → book ≡ office.old.book }
+    requires told { IsOpen K.Keeper office.old keeper.old }
     requires capacity { office.old.capacity ≡ largest }
     ensures imported { Imported clerk (C.may_show clock.now) office.old.book office.new.book
         (door (S.left source.old) (W.held sink.old) (S.faults source.old) (W.faults sink.old) (K.faults keeper.old))
         (door (S.left source.new) (W.held sink.new) (S.faults source.new) (W.faults sink.new) (K.faults keeper.new)) result }
-    ensures capacity { office.new.capacity ≡ office.old.capacity }
-    ensures kept { (book : Book) → K.holds keeper.new book → book ≡ office.new.book }
-    ensures told_before { ToldBefore (K.holds keeper.old) (K.holds keeper.new) }
-    ensures kept_row { Keeps (K.bad keeper.old) (K.bad keeper.new) }
-    ensures tells_on { TellsOn (K.is_well keeper.old) (K.is_well keeper.new) (K.holds keeper.old) (K.holds keeper.new) office.new.book }
+    ensures stays { StaysOpen K.Keeper office.old keeper.old office.new keeper.new }
     ensures stopped { Outlives (LeavesByInput clerk (C.may_show clock.now) (S.left source.old))
         (K.holds keeper.old) (K.leaves keeper.old) (K.tells_crash keeper.old) (K.holds keeper.new) (K.leaves keeper.new) (K.tells_crash keeper.new) }
 {
@@ -97,17 +92,13 @@ fn answer_input<K: Keeper, W: Sink, C: Clock>(
 ) -> ExitStatus
     requires least { 1 ≤ clerk }
     requires most { clerk ≤ 9999 }
-    requires told { (book : Book) → K.holds keeper.old book → book ≡ office.old.book }
+    requires told { IsOpen K.Keeper office.old keeper.old }
     requires capacity { office.old.capacity ≡ largest }
     ensures answered { (left left_now : Option (List ℕ)) (source source_now : ℕ) → source_now ≡ source →
         AnswersInput clerk (C.may_show clock.now) input.now office.old.book office.new.book
         (door left (W.held sink.old) source (W.faults sink.old) (K.faults keeper.old))
         (door left_now (W.held sink.new) source_now (W.faults sink.new) (K.faults keeper.new)) result }
-    ensures capacity { office.new.capacity ≡ office.old.capacity }
-    ensures kept { (book : Book) → K.holds keeper.new book → book ≡ office.new.book }
-    ensures told_before { ToldBefore (K.holds keeper.old) (K.holds keeper.new) }
-    ensures kept_row { Keeps (K.bad keeper.old) (K.bad keeper.new) }
-    ensures tells_on { TellsOn (K.is_well keeper.old) (K.is_well keeper.new) (K.holds keeper.old) (K.holds keeper.new) office.new.book }
+    ensures stays { StaysOpen K.Keeper office.old keeper.old office.new keeper.new }
     ensures stopped { Outlives (LeavesByInput clerk (C.may_show clock.now) (Some input.now))
         (K.holds keeper.old) (K.leaves keeper.old) (K.tells_crash keeper.old) (K.holds keeper.new) (K.leaves keeper.new) (K.tells_crash keeper.new) }
 {

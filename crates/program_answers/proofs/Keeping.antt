@@ -2,7 +2,7 @@
 use Rattle.std.proofs.Common.{◌≡◌, Option, Some}
 use Rattle.book_rows.specs.Book.{Book}
 use Rattle.keeper_core.specs.Keeping.{Keeps, LeavesTold}
-use Rattle.batch_command.specs.Below.clerk_desk.Serving.{TellsOn, Outlives}
+use Rattle.batch_command.specs.Below.clerk_desk.{OpenBook.TellsOn, Serving.Outlives}
 use Rattle.program_answers.specs.Keeping.{StillTells}
 
 -- what was told before the opening is told on after what was done then

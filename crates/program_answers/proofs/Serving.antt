@@ -6,7 +6,7 @@ use Rattle.book_rows.specs.Book.{Book}
 use Rattle.keeper_core.specs.Keeping.{BadRow, Keeps}
 use Rattle.batch_command.specs.Below.office_step.{declared.call.Capacity.Capacity, Step.IsReached, Valid.first_fault}
 use Rattle.batch_command.specs.Below.office_laws.Upheld.{IsUpheld}
-use Rattle.batch_command.specs.Below.clerk_desk.{declared.opening.DeskFault.DeskFault, Opening.BlamesKeeper, Opening.TellsOnly, Serving.ToldBefore}
+use Rattle.batch_command.specs.Below.clerk_desk.{declared.opening.DeskFault.DeskFault, Opening.BlamesKeeper, Opening.TellsOnly, OpenBook.ToldBefore}
 use Rattle.program_answers.specs.Answer.{Answer}
 use Rattle.program_answers.specs.Opening.{ComesOfBook, Door, Says, Serves, TellsFault, door, largest}
 

@@ -1,25 +1,16 @@
 -- What is decided of a call while its pass is held, and what is so whenever no pass is.
-use Rattle.std.specs.Prelude.{◌≡◌, ⊤, ◌⊎◌, ℕ, Option, Some, List, [], ◌∷◌, ◌++◌, Contains}
+use Rattle.std.specs.Prelude.{◌≡◌, ⊤, ◌⊎◌, Option, Some, List, [], ◌∷◌, ◌++◌, Contains}
 use Rattle.book_rows.specs.{declared.rows.Batch.Batch, Book.Book, Book.appended}
 use Rattle.office_core.specs.Below.office_answers.declared.reply.Reply.{Reply}
 use Rattle.office_core.specs.Below.office_step.{declared.call.Capacity.Capacity, Step.Outcome, Step.again, Step.refused, Step.appends, Step.IsAppended}
-use Rattle.clerk_desk.specs.Serving.{reply_of}
+use Rattle.keeper_core.specs.declared.keeper.Keeper as keeper
+use Rattle.office_core.specs.Office.{Holding}
+use Rattle.clerk_desk.specs.{OpenBook.IsOpen, Serving.reply_of}
 use Rattle.desk_history.specs.declared.views.{BookView.BookView, HoldingView.HoldingView}
+use Rattle.shared_desk.specs.declared.naming.Naming as naming
 use Rattle.shared_desk.specs.History.{book_in, capacity_of, tables_at, IsLegalHistory}
 
 -- ---- what the lock keeps
-
--- The office's tables are those after the book's history, which is legal; the keeper tells these tables and no others, and
--- told the opening ones when the desk was opened; and its faults are those of the book's view. A keeper that is well tells
--- the tables, if it told a book when the desk was opened.
-pub record IsBetweenCalls (capacity : Capacity) (held : Book) (told holds : Book → Type 0) (well : Type 0) (faults : ℕ) (book : BookView) : Type 0 where
-  pub tables : held ≡ tables_at book.start book.list
-  pub capacity_is : capacity ≡ capacity_of book.start
-  pub legal : IsLegalHistory book.start book.list
-  pub kept : (now : Book) → holds now → now ≡ held
-  pub first : (now : Book) → holds now → told (book_in book.start.opening)
-  pub on : well → (was : Book) → told was → holds held
-  pub faults_are : faults ≡ book.faults
 
 -- the tables with rows that were tried, and that the office would append to them
 pub record IsTriedOn (capacity : Capacity) (held : Book) (tried : List Batch) (after : Option Book) : Type 0 where
@@ -32,11 +23,19 @@ pub record IsTriedOn (capacity : Capacity) (held : Book) (tried : List Batch) (a
 abbrev pub IsLeftBy : Capacity → Book → List Batch → Option Book → Type 0
 IsLeftBy capacity held tried after = (after ≡ Some held) ⊎ IsTriedOn capacity held tried after
 
--- A stop leaves the tables, or these and the rows of one act that was tried, where the keeper tells what one may leave, and
--- what one would have left was known when the desk was opened.
-abbrev pub Survives : Type 0 → Capacity → Book → List Batch → (Book → Type 0) → Type 0 → (Option Book → Type 0) → Type 0
-Survives sound capacity held tried holds tells leaves =
-    sound → tells → (now : Book) → holds now → (after : Option Book) → leaves after → IsLeftBy capacity held tried after
+-- The office's tables are those after the book's history, which is legal; the keeper tells these tables and no others, and
+-- told the opening ones when the desk was opened; and its faults are those of the book's view. A keeper that is well tells
+-- the tables, if it told a book when the desk was opened. A stop leaves the tables, or these and the rows of one act that was
+-- tried, where the keeper tells what one may leave, and what one would have left was known when the desk was opened.
+pub record IsBetweenCalls {B K : Type 0} (desk : naming.Ghosts B) (tells : keeper.Ghosts K) (office : Holding) (its : K) (book : BookView) : Type 0 where
+  pub tables : office.book ≡ tables_at book.start book.list
+  pub capacity_is : office.capacity ≡ capacity_of book.start
+  pub legal : IsLegalHistory book.start book.list
+  pub kept : IsOpen tells office its
+  pub first : (now : Book) → tells.holds its now → desk.told (book_in book.start.opening)
+  pub on : tells.is_well its → (was : Book) → desk.told was → tells.holds its office.book
+  pub faults_are : tells.faults its ≡ book.faults
+  pub survives : desk.sound → tells.tells_crash its → (now : Book) → tells.holds its now → (after : Option Book) → tells.leaves its after → IsLeftBy office.capacity office.book book.tried after
 
 -- ---- what is decided
 

@@ -44,14 +44,14 @@ impl<K: Keeper + Drop, B: Naming> Model for Locked<K, B> {
     ghost use Rattle.std.specs.Prelude.{◌≡◌, []};
     ghost use Rattle.desk_history.specs.declared.views.View.TheVariants.{Free};
     ghost use Rattle.desk_history.specs.Seen.{book_of};
-    ghost use Rattle.shared_desk.specs.Deciding.{IsBetweenCalls, Survives};
+    ghost use Rattle.shared_desk.specs.Deciding.{IsBetweenCalls};
     ghost use Rattle.shared_desk.specs.Calls.{Locking};
 
     ghost Value = { Locking K };
 
     ghost view = { λ locked. record { book = book_of locked.book.me.0; keeper = locked.keeper } };
 
-    ghost invariant = { λ locked. (locked.book.table_id ≡ B.table) × (locked.book.me ≡ (Free (book_of locked.book.me.0), [])) × IsBetweenCalls locked.office.capacity locked.office.book B.told (K.holds locked.keeper) (K.is_well locked.keeper) (K.faults locked.keeper) (book_of locked.book.me.0) × Survives B.sound locked.office.capacity locked.office.book (book_of locked.book.me.0).tried (K.holds locked.keeper) (K.tells_crash locked.keeper) (K.leaves locked.keeper) × (B.table.words ≡ 1) × ((book_of locked.book.me.0).next ≡ 33) };
+    ghost invariant = { λ locked. (locked.book.table_id ≡ B.table) × (locked.book.me ≡ (Free (book_of locked.book.me.0), [])) × IsBetweenCalls B.Naming K.Keeper locked.office locked.keeper (book_of locked.book.me.0) × (B.table.words ≡ 1) × ((book_of locked.book.me.0).next ≡ 33) };
 }
 
 /// What a session is told of a call.

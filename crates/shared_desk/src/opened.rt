@@ -75,6 +75,8 @@ pub struct Finished<K> {
 }
 
 impl<K: Keeper + Drop, B: Naming> Desk<K, B> {
+    ghost use Rattle.record_history.specs.Limits.{most_acts, most_lines};
+
     /// Opens a desk over a new history, on the book that the keeper keeps.
     pub fn open(
         alloc: Global,
@@ -82,8 +84,8 @@ impl<K: Keeper + Drop, B: Naming> Desk<K, B> {
         keeper: K,
         capacity: Capacity,
     ) -> Result<Desk<K, B>, Unopened<K>>
-        requires acts { capacity.acts ≤ 100000 }
-        requires lines { capacity.lines ≤ 4000000 }
+        requires acts { capacity.acts ≤ most_acts }
+        requires lines { capacity.lines ≤ most_lines }
         requires table { (history.table.shared.table_id ≡ B.table) × (history.book.table_id ≡ B.table) × (B.table.words ≡ 1) }
         requires blank { history.book.me ≡ (Blank, []) }
         requires told { (book : Book) → K.holds keeper book → B.told book }

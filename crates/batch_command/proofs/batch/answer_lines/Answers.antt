@@ -1,7 +1,7 @@
-use Rattle.std.proofs.Common.{[], Some, inl, refl, subst, arith, rules}
+use Rattle.std.proofs.Common.{[], Some, inl, refl, arith, rules}
 use Rattle.book_rows.specs.Book.{Book}
 use Rattle.batch_command.proofs.{Ends.none_behind, SoFar.so_far_start, Runs.ran_without, Steps.goes_on, Steps.ends_within, Steps.ends_with}
-use Rattle.clerk_desk.proofs.Following.{tells_then}
+use Rattle.clerk_desk.proofs.Staying.{stays, stays_then}
 use Rattle.batch_command.specs.{Line.IsMadeBy, Output.told_of}
 use Rattle.batch_command.proofs.Stops.{leaves_told, leaves_further, line_leaves, line_of_input, last_of_input, by_line}
 use Rattle.line_input.specs.declared.reader.Next.{Next}
@@ -10,12 +10,8 @@ use Rattle.batch_command.proofs.batch.answer_lines.Goals as goal
 pub loop-init : goal.loop-init
 loop-init g c = record {
   answered = ([], refl, so_far_start _ _ _ _ _ _ c.in-Ok.ensures);
-  capacity = refl;
-  kept = c.requires;
-  told_before = λ book told. (book, told);
-  tells_on = λ well. (well, λ told holding. subst (g.K.Keeper.holds c.args.keeper.now) (c.requires told holding) holding);
+  stays = stays g.K.Keeper c.args.office.now c.args.keeper.now c.requires.told;
   sound = λ sound. sound;
-  kept_row = λ row told. told;
   source = refl;
   sink = refl;
   keeper = refl;
@@ -23,19 +19,13 @@ loop-init g c = record {
 
 pub loop-preserved : goal.loop-preserved
 loop-preserved g c = record {
-  answered = goes_on _ _ _ _ _ _ _ _ _ _ _ _ c.loop.invariant.answered.0 c.next.new.self _ c.loop.counter c.loop.invariant.capacity c.line.ensures
+  answered = goes_on _ _ _ _ _ _ _ _ _ _ _ _ c.loop.invariant.answered.0 c.next.new.self _ c.loop.counter c.loop.invariant.stays.capacity c.line.ensures
       c.loop.invariant.answered.1 c.loop.invariant.answered.2 c.in-Line.ensures.comes c.in_default-answer_line.ensures.answered;
-  capacity = search rules;
-  kept = search rules;
-  told_before = λ book told.
-      let was = c.in_default-answer_line.ensures.told_before book told in c.loop.invariant.told_before was.0 was.1;
-  tells_on = tells_then (g.K.Keeper.holds c.args.keeper.now) (g.K.Keeper.holds c.loop.keeper) (g.K.Keeper.holds c.answer_line.new.keeper) c.loop.office.book c.answer_line.new.office.book
-      c.loop.invariant.tells_on c.in_default-answer_line.ensures.tells_on;
+  stays = stays_then g.K.Keeper _ c.loop.office _ _ c.loop.keeper _ c.loop.invariant.stays c.in_default-answer_line.ensures.stays;
   sound = λ sound telling.
       leaves_told (g.K.Keeper.holds c.loop.keeper) (g.K.Keeper.holds c.answer_line.new.keeper) (g.K.Keeper.leaves c.loop.keeper) c.loop.office.book c.answer_line.new.office.book
-      c.in_default-answer_line.ensures.told_before c.loop.invariant.kept c.in_default-answer_line.ensures.kept
-      (c.loop.invariant.sound sound (c.in_default-answer_line.ensures.crash_told telling)) (g.K.Keeper.leaves c.answer_line.new.keeper) (c.in_default-answer_line.ensures.crash telling);
-  kept_row = λ row told. c.loop.invariant.kept_row row (c.in_default-answer_line.ensures.kept_row row told);
+      c.in_default-answer_line.ensures.stays.told_before c.loop.invariant.stays.kept c.in_default-answer_line.ensures.stays.kept
+      (c.loop.invariant.sound sound (c.in_default-answer_line.ensures.stays.crash_told telling)) (g.K.Keeper.leaves c.answer_line.new.keeper) (c.in_default-answer_line.ensures.crash telling);
   source = search rules;
   sink = search rules;
   keeper = search rules;
@@ -43,12 +33,12 @@ loop-preserved g c = record {
 
 pub returns-in-Some-clause-ran : goal.returns-in-Some-clause-ran
 returns-in-Some-clause-ran g c =
-    ends_within _ _ _ _ _ _ _ _ _ _ _ _ c.loop.invariant.answered.0 c.next.new.self _ c.loop.counter c.loop.invariant.capacity c.line.ensures
+    ends_within _ _ _ _ _ _ _ _ _ _ _ _ c.loop.invariant.answered.0 c.next.new.self _ c.loop.counter c.loop.invariant.stays.capacity c.line.ensures
     c.loop.invariant.answered.1 c.loop.invariant.answered.2 _ _ (search rules) c.in-Line.ensures.comes c.in-Some.ensures.answered
 
 pub returns-in-Last-clause-ran : goal.returns-in-Last-clause-ran
 returns-in-Last-clause-ran g c =
-    ends_with _ _ _ _ _ _ _ _ _ _ _ _ c.loop.invariant.answered.0 c.next.new.self _ c.loop.counter c.loop.invariant.capacity c.line-in-Last.ensures
+    ends_with _ _ _ _ _ _ _ _ _ _ _ _ c.loop.invariant.answered.0 c.next.new.self _ c.loop.counter c.loop.invariant.stays.capacity c.line-in-Last.ensures
     c.loop.invariant.answered.1 c.loop.invariant.answered.2 _ _ _ (search rules) c.in-Last.ensures.comes
     (none_behind _ _ c.in-Last.ensures.comes.4) c.answer_line-in-Last.ensures.answered c.unwrap_or.ensures
 
@@ -79,11 +69,11 @@ returns-in-Some-clause-stopped g c =
     let own = c.loop.office.capacity in
     let shows = g.C.Clock.may_show c.args.clock.now in
     let Is = λ (book : Book). IsMadeBy shows own book (λ day. told_of own book (record { line = c.line.result.now; day = day })) in
-    by_line c.args.office.now.capacity own shows (g.S.Source.left c.args.source.now) c.line.result.now c.next.new.self.line now after c.loop.invariant.capacity c.line.ensures
+    by_line c.args.office.now.capacity own shows (g.S.Source.left c.args.source.now) c.line.result.now c.next.new.self.line now after c.loop.invariant.stays.capacity c.line.ensures
     (line_of_input c.loop.invariant.answered.2 _ c.next.new.self.line c.in-Line.ensures.comes.0 c.in-Line.ensures.comes.2)
     (leaves_further (g.K.Keeper.holds c.loop.keeper) (g.K.Keeper.holds c.answer_line.new.keeper) (g.K.Keeper.leaves c.loop.keeper) c.loop.office.book c.answer_line.new.office.book
-    c.in-Some.ensures.told_before c.loop.invariant.kept c.in-Some.ensures.kept
-    (c.loop.invariant.sound sound (c.in-Some.ensures.crash_told telling)) (g.K.Keeper.leaves c.answer_line.new.keeper) Is
+    c.in-Some.ensures.stays.told_before c.loop.invariant.stays.kept c.in-Some.ensures.stays.kept
+    (c.loop.invariant.sound sound (c.in-Some.ensures.stays.crash_told telling)) (g.K.Keeper.leaves c.answer_line.new.keeper) Is
     (line_leaves (Is c.loop.office.book) c.loop.office.book c.answer_line.new.office.book (g.K.Keeper.holds c.answer_line.new.keeper) (g.K.Keeper.leaves c.loop.keeper) (g.K.Keeper.leaves c.answer_line.new.keeper)
     (Some c.in-Some.ending) (c.in-Some.ensures.crash telling)) now holding after left)
 
@@ -93,11 +83,11 @@ returns-in-Last-clause-stopped g c =
     let own = c.loop.office.capacity in
     let shows = g.C.Clock.may_show c.args.clock.now in
     let Is = λ (book : Book). IsMadeBy shows own book (λ day. told_of own book (record { line = c.line-in-Last.result.now; day = day })) in
-    by_line c.args.office.now.capacity own shows (g.S.Source.left c.args.source.now) c.line-in-Last.result.now c.next.new.self.line now after c.loop.invariant.capacity c.line-in-Last.ensures
+    by_line c.args.office.now.capacity own shows (g.S.Source.left c.args.source.now) c.line-in-Last.result.now c.next.new.self.line now after c.loop.invariant.stays.capacity c.line-in-Last.ensures
     (last_of_input c.loop.invariant.answered.2 _ c.next.new.self.line c.in-Last.ensures.comes.0 c.in-Last.ensures.comes.2 c.in-Last.ensures.comes.3 c.in-Last.ensures.comes.4)
     (leaves_further (g.K.Keeper.holds c.loop.keeper) (g.K.Keeper.holds c.answer_line-in-Last.new.keeper) (g.K.Keeper.leaves c.loop.keeper) c.loop.office.book c.answer_line-in-Last.new.office.book
-    c.answer_line-in-Last.ensures.told_before c.loop.invariant.kept c.answer_line-in-Last.ensures.kept
-    (c.loop.invariant.sound sound (c.answer_line-in-Last.ensures.crash_told telling)) (g.K.Keeper.leaves c.answer_line-in-Last.new.keeper) Is
+    c.answer_line-in-Last.ensures.stays.told_before c.loop.invariant.stays.kept c.answer_line-in-Last.ensures.stays.kept
+    (c.loop.invariant.sound sound (c.answer_line-in-Last.ensures.stays.crash_told telling)) (g.K.Keeper.leaves c.answer_line-in-Last.new.keeper) Is
     (line_leaves (Is c.loop.office.book) c.loop.office.book c.answer_line-in-Last.new.office.book (g.K.Keeper.holds c.answer_line-in-Last.new.keeper) (g.K.Keeper.leaves c.loop.keeper) (g.K.Keeper.leaves c.answer_line-in-Last.new.keeper)
     c.answer_line-in-Last.result (c.answer_line-in-Last.ensures.crash telling)) now holding after left)
 

@@ -8,9 +8,9 @@ use Rattle.office_prog.proofs.batch.run_batch.Goals as goal
 
 pub returns-in-Ok-clause-comes : goal.returns-in-Ok-clause-comes
 returns-in-Ok-clause-comes g c =
-    inl (served (Batched (g.C.Clock.may_show c.args.clock.now)) _ _ _ _ _ _ _ _ _ _ _ _ _ _ _ _ c.in-Ok.ensures.valid (c.answer_batch-status.ensures.capacity ∙ c.in-Ok.ensures.capacity)
+    inl (served (Batched (g.C.Clock.may_show c.args.clock.now)) _ _ _ _ _ _ _ _ _ _ _ _ _ _ _ _ c.in-Ok.ensures.valid (c.answer_batch-status.ensures.stays.capacity ∙ c.in-Ok.ensures.capacity)
     c.tables-of_an_office.ensures.reached c.tables-of_an_office.ensures.upheld c.in-Ok.ensures.told c.in-Ok.ensures.kept c.in-Ok.ensures.no_fault
-    c.answer_batch-status.ensures.kept c.answer_batch-status.ensures.told_before c.answer_batch-status.ensures.kept_row c.answer_batch-status.ensures.batched)
+    c.answer_batch-status.ensures.stays.kept c.answer_batch-status.ensures.stays.told_before c.answer_batch-status.ensures.stays.kept_row c.answer_batch-status.ensures.batched)
 
 pub returns-in-Err-clause-comes : goal.returns-in-Err-clause-comes
 returns-in-Err-clause-comes g c = inr (record {
@@ -23,7 +23,7 @@ returns-in-Err-clause-comes g c = inr (record {
 })
 
 pub returns-in-Ok-clause-tells_on : goal.returns-in-Ok-clause-tells_on
-returns-in-Ok-clause-tells_on g c = opened_tells (g.K.Keeper.holds c.args.keeper.now) (g.K.Keeper.holds c.open_office.new.keeper) (g.K.Keeper.holds c.answer_batch-status.new.keeper) c.answer_batch-status.new.office.book c.in-Ok.ensures.goes_on c.answer_batch-status.ensures.tells_on
+returns-in-Ok-clause-tells_on g c = opened_tells (g.K.Keeper.holds c.args.keeper.now) (g.K.Keeper.holds c.open_office.new.keeper) (g.K.Keeper.holds c.answer_batch-status.new.keeper) c.answer_batch-status.new.office.book c.in-Ok.ensures.goes_on c.answer_batch-status.ensures.stays.tells_on
 
 pub returns-in-Ok-clause-stopped : goal.returns-in-Ok-clause-stopped
 returns-in-Ok-clause-stopped g c =

@@ -1,10 +1,10 @@
-use Rattle.std.proofs.Common.{◌≡◌, ◌≤◌, ◌∙◌, ℕ, Some, List, length, inl, refl, subst}
+use Rattle.std.proofs.Common.{◌≡◌, ◌≤◌, ◌∙◌, ℕ, Some, List, length, inl, subst}
 use Rattle.std.proofs.lemmas.Option.{IfSome_then}
 use Rattle.office_io.specs.declared.status.ExitStatus.{ExitStatus}
 use Rattle.office_io.specs.Transfer.{Takes}
 use Rattle.book_rows.specs.Book.{Book}
 use Rattle.office_prog.specs.Import.{AnswersInput, Imported, LeavesByInput, import_limit}
-use Rattle.clerk_desk.proofs.Following.{tells_still}
+use Rattle.clerk_desk.proofs.Staying.{stays}
 use Rattle.office_prog.proofs.Stops.{input_of_source, outlives_as, outlives_still}
 use Rattle.program_answers.specs.Opening.{Door, door}
 use Rattle.office_prog.proofs.import.import.Goals as goal
@@ -33,20 +33,20 @@ returns-in-Whole-clause-stopped g c =
     (input_of_source c.args.clerk (g.C.Clock.may_show c.args.clock.now) (g.S.Source.left c.args.source.now) c.deref.result.now
     (IfSome_then (g.S.Source.left c.args.source.now) c.in-Whole.ensures.told (λ told is. c.deref.ensures.value ∙ is.1))) c.answer_input.ensures.stopped
 
-pub returns-in-TooLong-clause-tells_on : goal.returns-in-TooLong-clause-tells_on
-returns-in-TooLong-clause-tells_on g c = tells_still _ _ c.requires.told refl (λ well. well) (λ well book told. told)
+pub returns-in-TooLong-clause-stays : goal.returns-in-TooLong-clause-stays
+returns-in-TooLong-clause-stays g c = stays g.K.Keeper _ _ c.requires.told
 
 pub returns-in-TooLong-clause-stopped : goal.returns-in-TooLong-clause-stopped
 returns-in-TooLong-clause-stopped g c = outlives_still (LeavesByInput c.args.clerk (g.C.Clock.may_show c.args.clock.now) (g.S.Source.left c.args.source.now)) (g.K.Keeper.holds c.args.keeper.now) (g.K.Keeper.leaves c.args.keeper.now) (λ held after same. inl same)
 
-pub returns-in-Failed-clause-tells_on : goal.returns-in-Failed-clause-tells_on
-returns-in-Failed-clause-tells_on g c = tells_still _ _ c.requires.told refl (λ well. well) (λ well book told. told)
+pub returns-in-Failed-clause-stays : goal.returns-in-Failed-clause-stays
+returns-in-Failed-clause-stays g c = stays g.K.Keeper _ _ c.requires.told
 
 pub returns-in-Failed-clause-stopped : goal.returns-in-Failed-clause-stopped
 returns-in-Failed-clause-stopped g c = outlives_still (LeavesByInput c.args.clerk (g.C.Clock.may_show c.args.clock.now) (g.S.Source.left c.args.source.now)) (g.K.Keeper.holds c.args.keeper.now) (g.K.Keeper.leaves c.args.keeper.now) (λ held after same. inl same)
 
-pub returns-in-NoMemory-clause-tells_on : goal.returns-in-NoMemory-clause-tells_on
-returns-in-NoMemory-clause-tells_on g c = tells_still _ _ c.requires.told refl (λ well. well) (λ well book told. told)
+pub returns-in-NoMemory-clause-stays : goal.returns-in-NoMemory-clause-stays
+returns-in-NoMemory-clause-stays g c = stays g.K.Keeper _ _ c.requires.told
 
 pub returns-in-NoMemory-clause-stopped : goal.returns-in-NoMemory-clause-stopped
 returns-in-NoMemory-clause-stopped g c = outlives_still (LeavesByInput c.args.clerk (g.C.Clock.may_show c.args.clock.now) (g.S.Source.left c.args.source.now)) (g.K.Keeper.holds c.args.keeper.now) (g.K.Keeper.leaves c.args.keeper.now) (λ held after same. inl same)

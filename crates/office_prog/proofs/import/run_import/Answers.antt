@@ -6,9 +6,9 @@ use Rattle.office_prog.proofs.import.run_import.Goals as goal
 
 pub returns-in-Ok-clause-comes : goal.returns-in-Ok-clause-comes
 returns-in-Ok-clause-comes g c =
-    inl (served (Imported c.args.clerk (g.C.Clock.may_show c.args.clock.now)) _ _ _ _ _ _ _ _ _ _ _ _ _ _ _ _ c.in-Ok.ensures.valid (c.import-status.ensures.capacity ∙ c.in-Ok.ensures.capacity)
+    inl (served (Imported c.args.clerk (g.C.Clock.may_show c.args.clock.now)) _ _ _ _ _ _ _ _ _ _ _ _ _ _ _ _ c.in-Ok.ensures.valid (c.import-status.ensures.stays.capacity ∙ c.in-Ok.ensures.capacity)
     c.tables-of_an_office.ensures.reached c.tables-of_an_office.ensures.upheld c.in-Ok.ensures.told c.in-Ok.ensures.kept c.in-Ok.ensures.no_fault
-    c.import-status.ensures.kept c.import-status.ensures.told_before c.import-status.ensures.kept_row c.import-status.ensures.imported)
+    c.import-status.ensures.stays.kept c.import-status.ensures.stays.told_before c.import-status.ensures.stays.kept_row c.import-status.ensures.imported)
 
 pub returns-in-Err-clause-comes : goal.returns-in-Err-clause-comes
 returns-in-Err-clause-comes g c = inr (record {
@@ -21,7 +21,7 @@ returns-in-Err-clause-comes g c = inr (record {
 })
 
 pub returns-in-Ok-clause-tells_on : goal.returns-in-Ok-clause-tells_on
-returns-in-Ok-clause-tells_on g c = opened_tells (g.K.Keeper.holds c.args.keeper.now) (g.K.Keeper.holds c.open_office.new.keeper) (g.K.Keeper.holds c.import-status.new.keeper) c.import-status.new.office.book c.in-Ok.ensures.goes_on c.import-status.ensures.tells_on
+returns-in-Ok-clause-tells_on g c = opened_tells (g.K.Keeper.holds c.args.keeper.now) (g.K.Keeper.holds c.open_office.new.keeper) (g.K.Keeper.holds c.import-status.new.keeper) c.import-status.new.office.book c.in-Ok.ensures.goes_on c.import-status.ensures.stays.tells_on
 
 pub returns-in-Ok-clause-stopped : goal.returns-in-Ok-clause-stopped
 returns-in-Ok-clause-stopped g c =

@@ -1,7 +1,7 @@
 use Rattle.std.proofs.Common.{◌∙◌, ap, sym}
 use Rattle.book_rows.specs.Book.{book_of as rows_of}
 use Rattle.desk_history.specs.Seen.{book_of, start_on}
-use Rattle.shared_desk.proofs.Beginning.{book_opened, legal_first, settled_first, survives_first}
+use Rattle.shared_desk.proofs.Beginning.{book_opened, legal_first, settled_first}
 use Rattle.shared_desk.proofs.opened.desk_of.Goals as goal
 
 pub invariant_of-locked : goal.invariant_of-locked
@@ -13,12 +13,9 @@ invariant_of-locked g c =
     (g.K.Keeper.faults c.args.keeper) c.open_book.ensures.view in (
       passes.table ∙ (c.open_book.ensures.same ∙ c.requires.table.1),
       passes.free,
-      settled_first c.args.office.capacity c.args.office.book g.B.Naming.told (g.K.Keeper.holds c.args.keeper) (g.K.Keeper.is_well c.args.keeper) (g.K.Keeper.faults c.args.keeper)
-          (book_of c.all_passes-waiting.new.book.me.0)
+      settled_first g.B.Naming g.K.Keeper c.args.office c.args.keeper (book_of c.all_passes-waiting.new.book.me.0)
           (passes.start ∙ (opened.start ∙ (λ i. start_on (rows i) (limits i).acts (limits i).lines)))
-          passes.list (sym (passes.faults ∙ opened.faults)) c.tables-tables.ensures.reached c.requires.kept c.requires.told c.requires.on,
-      survives_first g.B.Naming.sound c.args.office.capacity c.args.office.book (book_of c.all_passes-waiting.new.book.me.0).tried (g.K.Keeper.holds c.args.keeper) (g.K.Keeper.tells_crash c.args.keeper)
-          (g.K.Keeper.leaves c.args.keeper) c.requires.kept c.requires.sound,
+          passes.list (sym (passes.faults ∙ opened.faults)) c.tables-tables.ensures.reached c.requires.kept c.requires.told c.requires.on c.requires.sound,
       c.requires.table.2,
       passes.next,
     )

@@ -23,12 +23,12 @@ returns g c = λ start made fresh all.
         tried = (book_of c.self.inside.book.me.0).tried;
         own_tries = search rules;
         of_passes = of_those_handed_out c.entries_are_those_of_the_number.ensures start made _ _ _ fresh all
-            (subst (λ (next : ℕ). AreOfPasses next (book_of c.self.inside.book.me.0).tried) c.self.invariant.5 c.finish.ensures.passes)
+            (subst (λ (next : ℕ). AreOfPasses next (book_of c.self.inside.book.me.0).tried) c.self.invariant.4 c.finish.ensures.passes)
             (subst (λ (book : BookView). All (HasItsOwn book.list book.tried) c.args.waiting.items) there c.retire_each.ensures.own);
         stopped = λ sure telling now holding after left.
             subst₂ (λ (most : Capacity) (tables : Book). IsLeftBy most tables (book_of c.self.inside.book.me.0).tried after)
             (c.self.invariant.2.capacity_is ∙ ap capacity_of (sym c.finish.ensures.start ∙ ap (λ (pass : PassView). pass.start) c.pass.view_is))
-            (sym c.into_tables.ensures.book) (c.self.invariant.3 sure telling now holding after left);
+            (sym c.into_tables.ensures.book) (c.self.invariant.2.survives sure telling now holding after left);
       },
       ap (λ (book : BookView). book.list) (sym there),
       ap (λ (book : BookView). book.tried) (sym there),

@@ -1,7 +1,6 @@
 use Rattle.std.proofs.Common.{◌≡◌, ◌∙◌, [], sym, subst, rules}
 use Rattle.std.specs.Prelude.{All}
 use Rattle.std.proofs.lemmas.List.Elements.{All-cons, All-nil}
-use Rattle.desk_history.specs.declared.views.PassView.{PassView}
 use Rattle.shared_desk.specs.{Calls.Locking, Desk.HasItsOwn}
 use Rattle.shared_desk.proofs.locked.Locked.retire_each.Goals as goal
 
