@@ -1,10 +1,10 @@
 -- What the two files of a book hold, what a stop may leave of them, and what an open then finds.
 use Rattle.std.specs.Prelude.{◌≡◌, ◌⊎◌, ℕ, ⊤, false}
-use Rattle.sqlite.specs.{Tree.Trees, Recovery.Image, State.State, declared.error.Error.Error}
+use Rattle.sqlite.specs.{Tree.Trees, Recovery.Image, State.State, State.HasCleanDisk, WalReads.AreClean, declared.error.Error.Error}
 use Rattle.sqlite.specs.declared.error.{Error.TheVariants.SqliteFailure, ErrorCode.TheVariants.OutOfMemory, ErrorCode.TheVariants.DiskFull}
-use Rattle.sqlite.specs.Files.{HoldsDatabase, IsFullLeft, file_state, faults_left}
+use Rattle.sqlite.specs.Files.{HoldsDatabase, IsFullLeft, LeavesFiles, file_state, faults_left, faults_of, image_of}
 use Rattle.sqlite.specs.declared.file.Leftover.{Leftover}
-use Rattle.sqlite_disk.specs.{declared.Disk.Ghosts, Disk.MoreFaults}
+use Rattle.sqlite_disk.specs.{declared.Disk.Ghosts, declared.Files.Files, Disk.MoreFaults}
 use Rattle.sqlite_store.specs.declared.store.FileStore.{FileStore}
 use Rattle.book_rows.specs.{declared.rows.Batch.Batch, Book.Book, Book.book_of, Book.appended}
 use Rattle.keeper_core.specs.declared.keeper.{Loaded.Loaded, Committed.Committed}
@@ -15,6 +15,9 @@ pub record HoldsBook (image : Image) (book : Book) : Type 0 where
   pub trees : Trees
   pub held : ∥ HoldsDatabase image trees ∥₁
   pub file : IsFileOf trees book
+
+abbrev pub HoldsABook : Image → Type 0
+HoldsABook image = (book : Book) × HoldsBook image book
 
 -- the file and its log hold a book that a stop may leave
 pub record HoldsLeft (s : State) (image : Image) : Type 0 where
@@ -47,6 +50,12 @@ GivesAfter Committed.Done book batch loaded = GivesBook (appended book batch) lo
 GivesAfter Committed.Failed book batch loaded = GivesBook book loaded ⊎ GivesBook (appended book batch) loaded
 GivesAfter Committed.NoMemory book batch loaded = GivesBook book loaded ⊎ GivesBook (appended book batch) loaded
 
+-- after Done files hold the book with the rows of that act, and after another answer the book, or that with the rows
+abbrev pub HoldsAfter : Committed → Book → Batch → Image → Type 0
+HoldsAfter Committed.Done book batch image = HoldsBook image (appended book batch)
+HoldsAfter Committed.Failed book batch image = HoldsBook image book ⊎ HoldsBook image (appended book batch)
+HoldsAfter Committed.NoMemory book batch image = HoldsBook image book ⊎ HoldsBook image (appended book batch)
+
 module _ {D : Type 0} {g : Ghosts D} where
   -- nothing from outside has stopped it for good
   abbrev pub IsWell : Kept (FileStore D g) → Type 0
@@ -77,3 +86,32 @@ module _ {D : Type 0} {g : Ghosts D} where
   abbrev pub IsUnopened : ℕ → Leftover D g → Error → Type 0
   IsUnopened faults left error =
       (error ≡ SqliteFailure OutOfMemory) ⊎ (MoreFaults faults (faults_left left) ⊎ ((error ≡ SqliteFailure DiskFull) × IsFullLeft left))
+
+  -- it tells a book, or a stop leaves one
+  abbrev pub HasABook : Kept (FileStore D g) → Type 0
+  HasABook keeper = ((book : Book) × Holds (file_state keeper.file) keeper.is_beside book) ⊎ LeavesABook keeper
+
+  -- These files are what a stop left of a keeper. While their disks are clean, so was the keeper's. They hold the book
+  -- that it told, or where it told none, one that a stop might leave.
+  pub record IsLeftBy (keeper : Kept (FileStore D g)) (files : Files D) : Type 0 where
+    pub honest : AreClean g files.log files.db → HasCleanDisk (file_state keeper.file)
+    pub told : AreClean g files.log files.db → (book : Book) → Holds (file_state keeper.file) keeper.is_beside book → HoldsBook (image_of g files) book
+    pub left : AreClean g files.log files.db → LeavesABook keeper → ∥ HoldsLeft (file_state keeper.file) (image_of g files) ∥₁
+
+  -- An open refused these files: where they hold a book, for want of memory, a fault that it counted, or their length. It
+  -- left of them what the SQL library says.
+  pub record IsRefused (files : Files D) (left : Leftover D g) (error : Error) : Type 0 where
+    pub cause : ∥ HoldsABook (image_of g files) ∥₁ → IsUnopened (faults_of g files) left error
+    pub unharmed : LeavesFiles files left
+
+  -- the files were refused that a stop of this keeper left
+  pub record IsUnopenedAgain (keeper : Kept (FileStore D g)) (left : Leftover D g) (error : Error) : Type 0 where
+    pub files : Files D
+    pub stopped : IsLeftBy keeper files
+    pub refused : IsRefused files left error
+
+  -- the files were refused that a stop left after a commit, and that hold the book after it while their disks are clean
+  pub record IsUnopenedAfter (answer : Committed) (book : Book) (batch : Batch) (left : Leftover D g) (error : Error) : Type 0 where
+    pub files : Files D
+    pub held : AreClean g files.log files.db → ∥ HoldsAfter answer book batch (image_of g files) ∥₁
+    pub refused : IsRefused files left error
