@@ -7,7 +7,8 @@ use crate::Day;
 use crate::civil::{day_with, days_in_month};
 use crate::day::LAST_DAY;
 
-/// The day so many days later, or earlier for a negative count; None outside 1880-01-01 to 2199-12-31.
+/// The day so many days later, or earlier for a negative count; None outside 1880-01-01 to 2199-12-31. It is for callers
+/// outside.
 pub fn plus_days(day: Day, count: i32) -> Option<Day>
     ensures { result ≡ moved last_day day count }
 {

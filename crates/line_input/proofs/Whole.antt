@@ -1,7 +1,7 @@
 -- The lines of bytes, joined again, are the bytes.
-use Rattle.std.proofs.Common.{◌≡◌, ℕ, Bool, true, false, List, [], ◌∷◌, ◌++◌, refl, ap, arith, ◌==◌, All}
-use Rattle.std.proofs.lemmas.{Bool.Decides.nat_tests, Grind.common_steps, Bool.eqb-true, List.Elements.All-nil, List.Elements.All-cons, List.Elements.All-head, List.Elements.All-tail}
-use Rattle.line_input.specs.{Lines.has_end, Lines.IsEndless, Lines.lines_of, Lines.ended_lines, Lines.into_first, Lines.onto_first, Lines.joined, Law.last_line, Law.AreLinesOf, Law.LinesAreTheBytes}
+use Rattle.std.proofs.Common.{◌≡◌, ℕ, Bool, true, false, List, [], ◌∷◌, ◌++◌, refl, ap, ◌==◌, All}
+use Rattle.std.proofs.lemmas.{Bool.eqb-true, List.Elements.All-nil, List.Elements.All-cons, List.Elements.All-head, List.Elements.All-tail}
+use Rattle.line_input.specs.{Lines.has_end, Lines.IsEndless, Lines.ended_lines, Lines.into_first, Lines.onto_first, Lines.joined, Law.last_line, Law.AreLinesOf, Law.LinesAreTheBytes}
 
 -- one byte more in front, within the first line
 within_first : (b : ℕ) (bytes : List ℕ) (ended : List (List ℕ)) (rest : List ℕ) → (b == 10) ≡ false → joined ended ++ rest ≡ bytes → All IsEndless ended →

@@ -1,35 +1,35 @@
 -- The stretches of days are the longest runs.
-use Rattle.record_history.proofs.Words.{◌≡◌, ℕ, suc, ◌+◌, ◌-◌, ◌≤◌, List, [], ◌∷◌, map, reverse, arith, nat_eq, All, All-weaker, Stretch, with_day, newest_first, stretches, run_of, IsOther, CoverLongest, IsBy, Decides-eqb, Run}
-use Rattle.record_history.proofs.EachDay.{IsOfItsDays, Cover, IsOther as IsOtherKey, of_their_days, stretches_cover}
-
--- stretches that cover their days make runs that do
-next_other : (key : ℕ) (rest : List (Stretch ℕ)) → IsOtherKey key rest → IsOther key (map run_of rest)
-next_other key rest other = grind arith
+use Rattle.record_history.proofs.Words.{◌≡◌, ◌⊎◌, inl, inr, ℕ, ◌+◌, ◌-◌, ◌<◌, ◌≤◌, List, [], ◌∷◌, ◌++◌, length, get_or, take, map, max, refl, sym, ap, ◌∙◌, arith, nat_eq, cases_lt, All, All-nil, All-weaker, map_push, take_more, Stretch, stretches, stretch_of, CoverLongest, IsBy, Decides-eqb, Run}
+use Rattle.record_history.proofs.EachDay.{IsOfItsDays, of_their_days, stretches_cover}
 
 module _ (key_on : ℕ → ℕ) where
-  as_runs : (first next : ℕ) (xs : List (Stretch ℕ)) → Cover key_on first next xs → CoverLongest key_on first next (map run_of xs)
-  as_runs first next [] covers = covers
-  as_runs first next (s ∷ rest) covers = (covers.0, covers.1, covers.2, next_other s.key rest covers.3, as_runs (s.last + 1) next rest covers.4)
+  -- before the first day there is none
+  pub none_yet : (first next : ℕ) → next ≤ first → stretches nat_eq key_on first next ≡ []
+  none_yet first next order = let none : next - first ≡ 0 = omega (arith, order) in rw none refl
 
-  pub stretches_by : (first day count : ℕ) → first + count ≤ day + 1 → All (IsBy day) (stretches nat_eq key_on first count)
-  stretches_by first day count by =
-      All-weaker (IsOfItsDays key_on first (first + count)) (IsBy day)
-      (λ s of_days. (let order = of_days.in_order in let to = of_days.to in record { first = omega arith; last = omega arith }))
-      (stretches nat_eq key_on first count)
-      (of_their_days key_on nat_eq Decides-eqb first count)
+  pub all_days : (first day last : ℕ) → last + 1 ≤ day → day ≤ max first (last + 1) → stretches nat_eq key_on first day ≡ stretches nat_eq key_on first (last + 1)
+  all_days first day last from to = by_order (cases_lt (last + 1) first)
+    where
+      by_order : (last + 1 < first) ⊎ (first ≤ last + 1) → stretches nat_eq key_on first day ≡ stretches nat_eq key_on first (last + 1)
+      by_order (inl past) = none_yet first day (omega (arith, past, to)) ∙ sym (none_yet first (last + 1) (omega (arith, past)))
+      by_order (inr low) = let same : day ≡ last + 1 = omega (arith, from, to, low) in rw same refl
 
-  -- a day more
-  pub one_more : (first day key : ℕ) → first ≤ day → key ≡ key_on day →
-      reverse (with_day nat_eq (newest_first nat_eq key_on first (day - first)) day key) ≡ stretches nat_eq key_on first (day + 1 - first)
-  one_more first day key low is =
-      let at : day ≡ first + (day - first) = omega arith in
-      let count : day + 1 - first ≡ suc (day - first) = omega arith in
-      rw count (cc)
+  pub covered : (first next : ℕ) → first ≤ next → CoverLongest key_on first next (stretches nat_eq key_on first next)
+  covered first next order = stretches_cover key_on nat_eq Decides-eqb next first order
 
-  -- the runs that the stretches make
-  pub are_longest : (low high first last : ℕ) (days : List (Stretch ℕ)) (runs : List Run) → low ≡ first → high ≡ last →
-      days ≡ stretches nat_eq key_on low (high + 1 - low) → runs ≡ map run_of days → first ≤ last + 1 → CoverLongest key_on first (last + 1) runs
-  are_longest low high first last days runs from to found made within =
-      let all : runs ≡ map run_of (stretches nat_eq key_on first (last + 1 - first)) = cc in
-      let next : first + (last + 1 - first) ≡ last + 1 = omega arith in
-      rw all (rw next at (as_runs first (first + (last + 1 - first)) _ (stretches_cover key_on nat_eq Decides-eqb first (last + 1 - first))))
+  pub stretches_by : (first next day : ℕ) → next ≤ day + 1 → All (IsBy day) (stretches nat_eq key_on first next)
+  stretches_by first next day by = by_order (cases_lt next first)
+    where
+      by_order : (next < first) ⊎ (first ≤ next) → All (IsBy day) (stretches nat_eq key_on first next)
+      by_order (inl past) = rw (none_yet first next (omega (arith, past))) (All-nil (IsBy day))
+      by_order (inr low) =
+          All-weaker (IsOfItsDays key_on first next) (IsBy day)
+          (λ s of_days. (let order = of_days.in_order in let to = of_days.to in record { first = omega (arith, order, to, by); last = omega (arith, to, by) }))
+          (stretches nat_eq key_on first next) (of_their_days key_on first next _ (covered first next low))
+
+-- a run more
+pub run_more : (days : List (Stretch ℕ)) (i : ℕ) (runs : List Run) (run : Run) (s : Stretch ℕ) → i < length days → s ≡ get_or days i s → stretch_of run ≡ s →
+    map stretch_of runs ≡ take i days → map stretch_of (runs ++ run ∷ []) ≡ take (i + 1) days
+run_more days i runs run s within at is so_far =
+    map_push stretch_of runs run ∙ ap (λ (xs : List (Stretch ℕ)). xs ++ stretch_of run ∷ []) so_far
+    ∙ ap (λ (t : Stretch ℕ). take i days ++ t ∷ []) (is ∙ at) ∙ sym (take_more days i s within)

@@ -1,19 +1,35 @@
--- Days one after another, joined where they have one key.
-use Rattle.std.specs.Prelude.{ℕ, zero, suc, ◌+◌, Bool, if◌then◌else◌, List, [], ◌∷◌, reverse}
+-- Days in their order, and neighbours that have one key together.
+use Rattle.std.specs.Prelude.{ℕ, ◌+◌, ◌-◌, ◌≤◌, ◌≡◌, ◌≢◌, ◌==◌, ◌||◌, not, Bool, List, [], ◌∷◌, map, filter, zip}
+use Rattle.std.specs.List.{range_with_len}
 use Rattle.record_history.specs.declared.stretch.Stretch.{Stretch}
 
--- the day after those of the stretches, of which the newest is the first
-abbrev pub with_day : {K : Type 0} → (K → K → Bool) → List (Stretch K) → ℕ → K → List (Stretch K)
-with_day same [] day key = record { first = day; last = day; key = key } ∷ []
-with_day same (newest ∷ earlier) day key =
-    if same newest.key key then record newest { last = day } ∷ earlier
-    else record { first = day; last = day; key = key } ∷ newest ∷ earlier
+-- the days from the first to the one before the next
+abbrev pub days : ℕ → ℕ → List ℕ
+days first next = range_with_len first (next - first)
 
--- so many days from the first on, each with its key, as stretches of which the newest is the first
-abbrev pub newest_first : {K : Type 0} → (K → K → Bool) → (ℕ → K) → ℕ → ℕ → List (Stretch K)
-newest_first same key_on first zero = []
-newest_first same key_on first (suc count) = with_day same (newest_first same key_on first count) (first + count) (key_on (first + count))
+-- a stretch begins on the day: it is the first of all, or the day before it has another key
+abbrev pub begins : {K : Type 0} → (K → K → Bool) → (ℕ → K) → ℕ → ℕ → Bool
+begins same key_on first day = day == first || not (same (key_on (day - 1)) (key_on day))
 
--- the same in the order of the days
+-- a stretch ends on the day: it is the last of all, or the day after it has another key
+abbrev pub ends : {K : Type 0} → (K → K → Bool) → (ℕ → K) → ℕ → ℕ → Bool
+ends same key_on next day = day + 1 == next || not (same (key_on day) (key_on (day + 1)))
+
+-- the longest stretches of these days with one key: the days on which one begins, each with the day on which it ends
 abbrev pub stretches : {K : Type 0} → (K → K → Bool) → (ℕ → K) → ℕ → ℕ → List (Stretch K)
-stretches same key_on first count = reverse (newest_first same key_on first count)
+stretches same key_on first next =
+    map (λ stretch. record { first = stretch.0; last = stretch.1; key = key_on stretch.0 })
+    (zip (filter (begins same key_on first) (days first next)) (filter (ends same key_on next) (days first next)))
+
+-- the next stretch, if any, has another key
+abbrev pub IsOther : {K : Type 0} → K → List (Stretch K) → Type 0
+IsOther key [] = Unit {0}
+IsOther key (next ∷ rest) = key ≢ next.key
+
+-- The stretches go from the first day to the one before the next, each from the day after the one before it; each has the
+-- key of each of its days, and none the key of its neighbour.
+abbrev pub CoverLongest : {K : Type 0} → (ℕ → K) → ℕ → ℕ → List (Stretch K) → Type 0
+CoverLongest key_on first next [] = first ≡ next
+CoverLongest key_on first next (s ∷ rest) =
+    (s.first ≡ first) × (first ≤ s.last) × ((day : ℕ) → first ≤ day → day ≤ s.last → s.key ≡ key_on day)
+    × IsOther s.key rest × CoverLongest key_on (s.last + 1) next rest

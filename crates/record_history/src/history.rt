@@ -42,8 +42,8 @@ impl History {
     ghost use Rattle.record_history.specs.Held.{records_of, room_of, room_after, with_place, with_record, IsWithin, AreNumbered, ActsRise, NameEarlier};
     ghost use Rattle.record_history.specs.Ordered.{AreInOrder};
     ghost use Rattle.record_history.specs.Households.{IsIndexed};
-    ghost use Rattle.record_history.specs.Stretch.{stretches};
-    ghost use Rattle.record_history.specs.Runs.{number_on, run_of, CoverLongest};
+    ghost use Rattle.record_history.specs.Stretch.{stretches, CoverLongest};
+    ghost use Rattle.record_history.specs.Runs.{number_on, stretch_of};
 
     pub fn new(alloc: Global) -> Result<History, NoMemory>
         ensures { IfOk result (λ history. history ≡ record { households = []; room = 0 ∷ [] }) }
@@ -133,7 +133,9 @@ impl History {
 
     /// The household's record of that number.
     pub fn record_at(&self, household: u32, number: u32) -> Option<&Record>
-        ensures { option_copied result ≡ find (λ r. r.number == number) (records_of self.now.households household) }
+        ensures value { option_copied result ≡ find (λ r. r.number == number) (records_of self.now.households household) }
+        ensures within { IfSome (option_copied result) IsWithin }
+        ensures numbered { AreNumbered (records_of self.now.households household) }
     {
         record_among(self.of(household), number)
     }
@@ -170,8 +172,8 @@ impl History {
         last: Day,
         act: u32,
     ) -> Result<Vec<Run>, NoMemory>
-        ensures runs { IfOk result (λ runs. runs.items ≡ map run_of (stretches nat_eq (number_on (as_of act (records_of self.now.households household))) first (last + 1 - first))) }
-        ensures longest { IfOk result (λ runs. first ≤ last + 1 → CoverLongest (number_on (as_of act (records_of self.now.households household))) first (last + 1) runs.items) }
+        ensures runs { IfOk result (λ runs. map stretch_of runs.items ≡ stretches nat_eq (number_on (as_of act (records_of self.now.households household))) first (last + 1)) }
+        ensures longest { IfOk result (λ runs. first ≤ last + 1 → CoverLongest (number_on (as_of act (records_of self.now.households household))) first (last + 1) (map stretch_of runs.items)) }
     {
         runs_among(alloc, self.of(household), first, last, act)
     }

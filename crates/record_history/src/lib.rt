@@ -21,4 +21,4 @@ pub use live::is_live;
 pub use order::{comes_before, later};
 pub use records::{Dates, Kind, Record};
 pub use runs::Run;
-pub use stretch::{Stretch, add_day};
+pub use stretch::{Stretch, add_days};

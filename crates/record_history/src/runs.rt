@@ -1,16 +1,16 @@
 //! Runs of days with one record in force.
 
-ghost use Rattle.std.specs.Prelude.{◌≡◌, ◌≤◌, ◌+◌, ◌-◌, nat_eq, map, All, IfOk};
+ghost use Rattle.std.specs.Prelude.{◌≡◌, ◌≤◌, ◌+◌, nat_eq, map, All, IfOk};
 ghost use Rattle.record_history.specs.Records.{as_of};
 ghost use Rattle.record_history.specs.Households.{IsIndexed};
-ghost use Rattle.record_history.specs.Stretch.{stretches};
-ghost use Rattle.record_history.specs.Runs.{number_on, run_of, CoverLongest, IsBy};
+ghost use Rattle.record_history.specs.Stretch.{stretches, CoverLongest};
+ghost use Rattle.record_history.specs.Runs.{number_on, stretch_of, IsBy};
 ghost use Rattle.days_core.specs.Calendar.{last_day};
 
 use crate::Stretch;
 use crate::force::in_force_at;
 use crate::household::Household;
-use crate::stretch::add_day;
+use crate::stretch::add_days;
 use days_core::Day;
 use plain_data::NoMemory;
 use std::alloc::Global;
@@ -32,8 +32,8 @@ pub fn runs_among(
     act: u32,
 ) -> Result<Vec<Run>, NoMemory>
     requires { IsIndexed own.now }
-    ensures runs { IfOk result (λ runs. runs.items ≡ map run_of (stretches nat_eq (number_on (as_of act own.now.records.items)) first (last + 1 - first))) }
-    ensures longest { IfOk result (λ runs. first ≤ last + 1 → CoverLongest (number_on (as_of act own.now.records.items)) first (last + 1) runs.items) }
+    ensures runs { IfOk result (λ runs. map stretch_of runs.items ≡ stretches nat_eq (number_on (as_of act own.now.records.items)) first (last + 1)) }
+    ensures longest { IfOk result (λ runs. first ≤ last + 1 → CoverLongest (number_on (as_of act own.now.records.items)) first (last + 1) (map stretch_of runs.items)) }
 {
     let days = stretches_among(alloc, own, first.number(), last.number(), act)?;
     runs_of(alloc, &days)
@@ -48,11 +48,11 @@ fn stretches_among(
 ) -> Result<Vec<Stretch<u32>>, NoMemory>
     requires indexed { IsIndexed own.now }
     requires last { last ≤ last_day }
-    ensures { IfOk result (λ days. days.items ≡ stretches nat_eq (number_on (as_of act own.now.records.items)) first (last + 1 - first)) }
+    ensures { IfOk result (λ days. days.items ≡ stretches nat_eq (number_on (as_of act own.now.records.items)) first (last + 1)) }
 {
     let mut days = Vec::new(alloc);
     for day in first..last + 1 {
-        add_day(&mut days, day, number_on(own, day, act))?;
+        add_days(&mut days, day, day, number_on(own, day, act))?;
     }
     Ok(days)
 }
@@ -70,7 +70,7 @@ fn number_on(own: &Household, day: u32, act: u32) -> u32
 
 fn runs_of(alloc: Global, days: &[Stretch<u32>]) -> Result<Vec<Run>, NoMemory>
     requires { All (IsBy last_day) days.now }
-    ensures { IfOk result (λ runs. runs.items ≡ map run_of days.now) }
+    ensures { IfOk result (λ runs. map stretch_of runs.items ≡ days.now) }
 {
     let mut runs = Vec::new(alloc);
     for stretch in days {
@@ -81,7 +81,7 @@ fn runs_of(alloc: Global, days: &[Stretch<u32>]) -> Result<Vec<Run>, NoMemory>
 
 fn run_of(stretch: &Stretch<u32>) -> Run
     requires { IsBy last_day stretch.now }
-    ensures { result ≡ run_of stretch.now }
+    ensures { stretch_of result ≡ stretch.now }
 {
     Run {
         first: Day::from_number(stretch.first).unwrap(),

@@ -1,7 +1,7 @@
 //! Stretches of days with one key.
 
-ghost use Rattle.std.specs.Prelude.{◌≡◌, List, reverse, OnOk, OnErr};
-ghost use Rattle.record_history.specs.Stretch.{with_day};
+ghost use Rattle.std.specs.Prelude.{◌≡◌, ◌≤◌, ◌+◌, ℕ, Decides, OnOk, OnErr};
+ghost use Rattle.record_history.specs.Stretch.{stretches};
 
 use plain_data::NoMemory;
 
@@ -13,25 +13,24 @@ pub struct Stretch<K> {
     pub key: K,
 }
 
-/// Adds the day after those of the stretches: to the last stretch where it has the same key, and else as a new one.
-pub fn add_day<K: PartialEq + Copy>(
+/// Adds the days from the first to the last, which have one key and follow those of the stretches: to the last stretch where
+/// it has the same key, and else as a new one.
+pub fn add_days<K: PartialEq + Copy>(
     days: &mut Vec<Stretch<K>>,
-    day: u32,
+    first: u32,
+    last: u32,
     key: K,
 ) -> Result<(), NoMemory>
-    ensures ok { OnOk result ((earlier : List (Stretch K)) → days.old.items ≡ reverse earlier → days.new.items ≡ reverse (with_day K.eq earlier day key)) }
+    requires { first ≤ last }
+    ensures ok { OnOk result ((key_on : ℕ → K) (start : ℕ) → ((a b : K) → Decides (K.eq a b) (a ≡ b)) → start ≤ first → ((day : ℕ) → first ≤ day → day ≤ last → key_on day ≡ key) → days.old.items ≡ stretches K.eq key_on start first → days.new.items ≡ stretches K.eq key_on start (last + 1)) }
     ensures err { OnErr result (days.new.items ≡ days.old.items) }
 {
     if let Some(newest) = days.last_mut() {
         if newest.key == key {
-            newest.last = day;
+            newest.last = last;
             return Ok(());
         }
     }
-    days.push(Stretch {
-        first: day,
-        last: day,
-        key,
-    })?;
+    days.push(Stretch { first, last, key })?;
     Ok(())
 }

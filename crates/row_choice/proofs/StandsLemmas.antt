@@ -5,7 +5,6 @@ use Rattle.std.proofs.lemmas.{Bool.Decides.nat_tests}
 use Rattle.std.proofs.lemmas.List.Elements.{All-contains}
 use Rattle.row_choice.specs.Latest.{comes_before, latest, IsLatest}
 use Rattle.row_choice.proofs.LatestLemmas.{latest-is, pairs_order}
-use Rattle.list_laws.proofs.Filters.{Contains-filter, filter-contains}
 
 -- The row counts, none that counts has a greater first number, and none with the same one a greater second number.
 pub record IsLast {Row : Type 0} (first second : Row → ℕ) (Counts : Row → Type 0) (row : Row) : Type 0 where

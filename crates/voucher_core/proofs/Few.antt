@@ -1,7 +1,7 @@
 -- How many lines a closing has at most.
 use Rattle.days_core.specs.OfficeDays.{first_office_month, last_office_month}
-use Rattle.voucher_core.proofs.Words.{ℕ, ◌+◌, ◌-◌, ◌*◌, ◌<◌, ◌≤◌, List, length, pos, arith, length-append, map, not, ◌==◌, range_with_len, flat_map, int_eq, length-map, sum_by-le, days_in, days_in_bounds, Record, as_of, Closing, Line, changes, line_of, month_lines, known_as_of, lines_for, adjustment_lines, closing_lines, filter_few, cond_both, length-flat_map, length-range_with_len, cover_few}
-use Rattle.voucher_core.proofs.{Covered.change_at, Covered.month_covered, Settled.nothing}
+use Rattle.voucher_core.proofs.Words.{ℕ, ◌+◌, ◌-◌, ◌*◌, ◌<◌, ◌≤◌, List, length, pos, arith, length-append, map, not, ◌==◌, range_with_len, flat_map, int_eq, length-map, sum_by-le, days_in_bounds, first_of, last_of, first_of-suc, Record, as_of, Closing, Line, change_on, changes, line_of, month_lines, known_as_of, lines_for, adjustment_lines, closing_lines, filter_few, cond_both, length-flat_map, length-range_with_len, cover_few}
+use Rattle.voucher_core.proofs.{Covered.month_covered, Settled.nothing}
 
 -- pieces of at most so many lines
 few_pieces : (f : ℕ → List Line) (a n most : ℕ) → ((k : ℕ) → length (f k) ≤ most) → length (flat_map f (range_with_len a n)) ≤ n * most
@@ -10,9 +10,9 @@ few_pieces f a n most each =
 
 few_of_month : (closing : Closing) (household month : ℕ) (old new : List Record) → length (month_lines closing household month old new) ≤ 31
 few_of_month closing household month old new =
-    let passing = filter_few (λ (l : Line). not (int_eq l.amount (pos 0))) (map (line_of closing household month) (changes old new month)) in
-    let few = cover_few (change_at old new month) 1 (1 + days_in month) (changes old new month) (month_covered old new month) in
-    omega (arith, length-map (changes old new month) (line_of closing household month), (days_in_bounds month).1)
+    let passing = filter_few (λ (l : Line). not (int_eq l.amount (pos 0))) (map (line_of closing household month old new) (changes old new month)) in
+    let few = cover_few (change_on old new) (first_of month) (last_of month + 1) (changes old new month) (month_covered old new month) in
+    omega (arith, length-map (changes old new month) (line_of closing household month old new), first_of-suc month, (days_in_bounds month).1)
 
 few_for : (own : ℕ → List Record) (count : ℕ) (closing : Closing) (before : ℕ → List Record) (month : ℕ) → count ≤ 100000 →
     length (lines_for before (known_as_of own closing.act) count closing month) ≤ 3100000

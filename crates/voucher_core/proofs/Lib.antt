@@ -5,9 +5,7 @@ pub mod DayShares
 pub mod Paid
 pub mod Settled
 pub mod Named
-pub mod Walk
 pub mod Alike
-pub mod Usable
 pub mod Unchanged
 pub mod Untouched
 pub mod Newer

@@ -47,30 +47,30 @@ pays_its_own : (household month : ℕ) (l : Line) (lines : List Line) → is_for
 pays_its_own household month l lines own = grind (arith, ints, common_steps, Decides-int_eq l.amount (pos 0))
 
 -- the lines of a household and month pay its changes there
-of_runs : (closing : Closing) (household month : ℕ) (runs : List (Stretch Change)) →
-    paid household month (filter (λ l. not (int_eq l.amount (pos 0))) (map (line_of closing household month) runs)) ≡ differences month runs
-of_runs closing household month [] = refl
-of_runs closing household month (run ∷ runs) =
-    pays_its_own household month (line_of closing household month run) _ (rw (eq-eqb household household refl, eq-eqb month month refl))
-    ∙ ap (λ rest. difference month run +ℤ rest) (of_runs closing household month runs)
+of_runs : (closing : Closing) (household month : ℕ) (old new : List Record) (runs : List (Stretch Change)) →
+    paid household month (filter (λ l. not (int_eq l.amount (pos 0))) (map (line_of closing household month old new) runs)) ≡ differences old new month runs
+of_runs closing household month old new [] = refl
+of_runs closing household month old new (run ∷ runs) =
+    pays_its_own household month (line_of closing household month old new run) _ (rw (eq-eqb household household refl, eq-eqb month month refl))
+    ∙ ap (λ rest. difference old new month run +ℤ rest) (of_runs closing household month old new runs)
 
 -- the lines of a month for a household
 pub paid_month : (closing : Closing) (household month : ℕ) (old new : List Record) →
     paid household month (month_lines closing household month old new) ≡ pos (certified_amount new month) -ℤ pos (certified_amount old month)
-paid_month closing household month old new = of_runs closing household month (changes old new month) ∙ changes_come_to old new month
+paid_month closing household month old new = of_runs closing household month old new (changes old new month) ∙ changes_come_to old new month
 
 module _ (P : Line → Type 0) where
   -- what is true of each line of a month, where it need be true only of those that aren't for 0
   pub each_passing : (closing : Closing) (household month : ℕ) (old new : List Record) →
-      All (λ run. not (int_eq (difference month run) (pos 0)) ≡ true → P (line_of closing household month run)) (changes old new month) →
+      All (λ run. not (int_eq (difference old new month run) (pos 0)) ≡ true → P (line_of closing household month old new run)) (changes old new month) →
       All P (month_lines closing household month old new)
   each_passing closing household month old new each = λ k d within.
       (All-filter (λ (l : Line). not (int_eq l.amount (pos 0))) (λ (l : Line). not (int_eq l.amount (pos 0)) ≡ true → P l)
-      (map (line_of closing household month) (changes old new month))
-      (All-map (λ (l : Line). not (int_eq l.amount (pos 0)) ≡ true → P l) (line_of closing household month) (changes old new month) each) k d within
-      (filter_passes (λ (l : Line). not (int_eq l.amount (pos 0))) (map (line_of closing household month) (changes old new month)) k d within))
+      (map (line_of closing household month old new) (changes old new month))
+      (All-map (λ (l : Line). not (int_eq l.amount (pos 0)) ≡ true → P l) (line_of closing household month old new) (changes old new month) each) k d within
+      (filter_passes (λ (l : Line). not (int_eq l.amount (pos 0))) (map (line_of closing household month old new) (changes old new month)) k d within))
 
-  pub each_line : (closing : Closing) (household month : ℕ) (old new : List Record) → ((run : Stretch Change) → P (line_of closing household month run)) →
+  pub each_line : (closing : Closing) (household month : ℕ) (old new : List Record) → ((run : Stretch Change) → P (line_of closing household month old new run)) →
       All P (month_lines closing household month old new)
   each_line closing household month old new each = each_passing closing household month old new (λ k d within passes. each (get_or (changes old new month) k d))
 

@@ -1,7 +1,6 @@
 -- The law of one closing.
-use Rattle.voucher_core.proofs.Words.{◌≡◌, ◌≢◌, ◌⊎◌, inl, inr, ℕ, ◌+◌, ◌-◌, ◌<◌, ◌≤◌, List, [], ◌++◌, pos, ◌+ℤ◌, ◌-ℤ◌, false, ap, refl, ◌∙◌, arith, All, nat_le, nat_lt, ◌&&◌, true, ◌==◌, range_with_len, ints, nat_tests, cases_lt, eqb-true, lt-leb, All-append, All-nil, filter-append, append-nil, sum_by-le, days_in, Record, as_of, day_share, Closing, Line, certified_amount, month_lines, known_as_of, lines_for, adjustment_lines, closing_lines, placed, paid, filter_none, cond_both, ClosingSettles, NothingIsSettled, SettledPaysNoOther, CertifiedStays, SettledStays}
+use Rattle.voucher_core.proofs.Words.{◌≡◌, ◌≢◌, ◌⊎◌, inl, inr, ℕ, ◌+◌, ◌-◌, ◌<◌, ◌≤◌, List, [], ◌++◌, pos, ◌+ℤ◌, ◌-ℤ◌, false, ap, refl, ◌∙◌, arith, All, nat_le, nat_lt, ◌&&◌, true, ints, nat_tests, cases_lt, lt-leb, All-append, All-nil, filter-append, append-nil, sum_by-le, days_in, first_of, last_of, days, Record, as_of, day_share, share_on, is_first, Closing, Line, certified_amount, month_lines, known_as_of, lines_for, adjustment_lines, closing_lines, placed, paid, filter_none, cond_both, ClosingSettles, NothingIsSettled, SettledPaysNoOther, CertifiedStays, SettledStays}
 use Rattle.list_laws.proofs.Pieces.{all_pieces}
-use Rattle.voucher_core.proofs.DayShares.{share_at}
 use Rattle.voucher_core.proofs.Paid.{paid-append, paid-placed, paid_elsewhere, paid_by_one, paid_month, paid_other, each_line, all_placed}
 
 no_share : (place days : ℕ) → day_share 0 place days ≤ 0
@@ -10,7 +9,7 @@ no_share place days = grind arith
 -- where nothing is known, nothing is certified
 none_certified : (month : ℕ) → certified_amount [] month ≡ 0
 none_certified month =
-    omega (arith, sum_by-le (share_at [] month) 0 (range_with_len 1 (days_in month)) (λ k d within. no_share _ (days_in month)))
+    omega (arith, sum_by-le (share_on [] month) 0 (days (first_of month) (last_of month + 1)) (λ k d within. no_share _ (days_in month)))
 
 -- the records of each household before it has any
 abbrev pub nothing : ℕ → List Record
@@ -56,13 +55,13 @@ module _ (own : ℕ → List Record) (count : ℕ) (closing : Closing) where
   -- what is true of the lines of each month
   pub all_earlier : (P : Line → Type 0) → ((month : ℕ) → closing.first_month ≤ month → month < closing.closed → All P (lines_for (known_as_of own closing.last_close) (known_as_of own closing.act) count closing month)) → All P (adjustment_lines own count closing)
   all_earlier P each =
-      cond_both (closing.last_close == 0) _ _ (All P) (λ _. All-nil P)
+      cond_both (is_first closing) _ _ (All P) (λ _. All-nil P)
       (λ _. all_pieces P (lines_for (known_as_of own closing.last_close) (known_as_of own closing.act) count closing) closing.first_month (closing.closed - closing.first_month) (λ month low high. each month low (omega (arith, high))))
 
   pub all_months : (P : ℕ → Type 0) → ((month : ℕ) → closing.first_month ≤ month → month < closing.closed → P month) → All (λ l. P l.for_month) (adjustment_lines own count closing)
   all_months P each = all_earlier (λ (l : Line). P l.for_month) (λ month low high. all_for (known_as_of own closing.last_close) month P (each month low high))
 
-  paid_earlier : ((household : ℕ) → count < household → own household ≡ []) → (closing.last_close ≡ 0 → closing.closed ≡ closing.first_month) →
+  paid_earlier : ((household : ℕ) → count < household → own household ≡ []) → (is_first closing ≡ true → closing.closed ≡ closing.first_month) →
       (household month : ℕ) → 1 ≤ household → closing.first_month ≤ month → month < closing.closed →
       paid household month (adjustment_lines own count closing)
       ≡ pos (certified_amount (as_of closing.act (own household)) month) -ℤ pos (certified_amount (as_of closing.last_close (own household)) month)
@@ -71,9 +70,9 @@ module _ (own : ℕ → List Record) (count : ℕ) (closing : Closing) where
       let by_one =
       paid_by_one household month (lines_for (known_as_of own closing.last_close) (known_as_of own closing.act) count closing) closing.first_month (closing.closed - closing.first_month) month
       (λ m apart. paid_for_other (known_as_of own closing.last_close) household m month apart) in
-      cond_both (closing.last_close == 0) _ _ (λ lines. paid household month lines
+      cond_both (is_first closing) _ _ (λ lines. paid household month lines
       ≡ pos (certified_amount (as_of closing.act (own household)) month) -ℤ pos (certified_amount (as_of closing.last_close (own household)) month))
-      (λ is. absurd (omega (arith, first (eqb-true closing.last_close 0 is)))) (λ _. grind (arith, nat_tests))
+      (λ is. absurd (omega (arith, first is))) (λ _. grind (arith, nat_tests))
 
   -- what is true of all lines of a closing, whatever their places
   pub all_closing : (P : Line → Type 0) → ((l : Line) (place : ℕ) → P l → P (record l { place = place })) → (place : ℕ) →

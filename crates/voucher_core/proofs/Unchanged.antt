@@ -1,6 +1,5 @@
 -- A household with no new record has no changes, so it adds no lines.
-use Rattle.voucher_core.proofs.Words.{◌≡◌, ℕ, suc, ◌+◌, ◌-◌, ◌≤◌, List, [], ◌∷◌, ◌++◌, Bool, true, false, pos, refl, ap, ◌∙◌, arith, ints, All, All-nil, All-cons, All-head, All-tail, filter, map, not, max, fold, nat_le, nat_lt, if◌then◌else◌, flat_map, range_with_len, int_eq, ltb-false, le-leb, Decides-int_eq, filter-append, filter_all, common_steps, Record, Stretch, as_of, newest_act, Change, Closing, Line, changes, difference, line_of, month_lines, known_as_of, lines_for, changed_since, range_more}
-use Rattle.voucher_core.proofs.Named.{changes_of_days}
+use Rattle.voucher_core.proofs.Words.{◌≡◌, ℕ, suc, ◌+◌, ◌-◌, ◌≤◌, List, [], ◌∷◌, ◌++◌, Bool, true, false, pos, refl, ap, ◌∙◌, arith, ints, All, All-nil, All-cons, All-head, All-tail, filter, map, not, max, fold, nat_le, nat_lt, if◌then◌else◌, flat_map, range_with_len, int_eq, ltb-false, le-leb, Decides-int_eq, filter-append, filter_all, common_steps, Record, Stretch, as_of, newest_act, Change, Closing, Line, certified_on, changes, difference, line_of, month_lines, known_as_of, lines_for, changed_since, range_more}
 
 -- items that give nothing can be left out
 flat_map-filter : {X A : Type 0} (f : X → List A) (p : X → Bool) (xs : List X) → ((x : X) → p x ≡ false → f x ≡ []) → flat_map f (filter p xs) ≡ flat_map f xs
@@ -23,27 +22,22 @@ pub all_known : (act : ℕ) (records : List Record) → newest_act records ≤ a
 all_known act records newest =
     filter_all (λ (r : Record). nat_le r.act act) records (λ k d within. le-leb _ act ((by_greatest act 0 records newest).1 k d within))
 
--- the same by the old records and by the new ones
-abbrev pub IsUnchanged : Stretch Change → Type 0
-IsUnchanged run = run.key.old ≡ run.key.new
-
-unchanged : (records : List Record) (month : ℕ) → All IsUnchanged (changes records records month)
-unchanged records month k d within =
-    let is = changes_of_days records records month k d within in
-    let key = is.key _ (omega arith) is.in_order in
-    cc
+-- what is certified for the run is the same by the old records as by the new ones
+abbrev pub IsUnchanged : List Record → List Record → ℕ → Stretch Change → Type 0
+IsUnchanged old new month run = certified_on old month run.first run.last ≡ certified_on new month run.first run.last
 
 module _ (closing : Closing) (household month : ℕ) where
-  pub no_line : (runs : List (Stretch Change)) → All IsUnchanged runs → filter (λ l. not (int_eq l.amount (pos 0))) (map (line_of closing household month) runs) ≡ []
-  no_line [] all = refl
-  no_line (run ∷ runs) all =
-      let same : run.key.old ≡ run.key.new = All-head IsUnchanged run runs all in
-      let none : difference month run ≡ pos 0 = rw same (omega (arith, ints)) in
-      let zero : int_eq (difference month run) (pos 0) ≡ true = (Decides-int_eq (difference month run) (pos 0)).1 none in
-      rw zero (no_line runs (All-tail IsUnchanged run runs all))
+  pub no_line : (old new : List Record) (runs : List (Stretch Change)) → All (IsUnchanged old new month) runs →
+      filter (λ l. not (int_eq l.amount (pos 0))) (map (line_of closing household month old new) runs) ≡ []
+  no_line old new [] all = refl
+  no_line old new (run ∷ runs) all =
+      let same : IsUnchanged old new month run = All-head (IsUnchanged old new month) run runs all in
+      let none : difference old new month run ≡ pos 0 = omega (arith, ints, same) in
+      let zero : int_eq (difference old new month run) (pos 0) ≡ true = (Decides-int_eq (difference old new month run) (pos 0)).1 none in
+      rw zero (no_line old new runs (All-tail (IsUnchanged old new month) run runs all))
 
   none_of_same : (records : List Record) → month_lines closing household month records records ≡ []
-  none_of_same records = no_line (changes records records month) (unchanged records month)
+  none_of_same records = no_line records records (changes records records month) (λ k d within. refl)
 
 -- so the households with new records have all lines
 pub all_of_changed : (own : ℕ → List Record) (count : ℕ) (closing : Closing) (month : ℕ) → closing.last_close ≤ closing.act →

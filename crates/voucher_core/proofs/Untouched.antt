@@ -1,6 +1,6 @@
 -- Before the first day that new records touch, nothing has changed.
-use Rattle.voucher_core.proofs.Words.{◌≡◌, ℕ, ◌<◌, ◌≤◌, List, [], ◌∷◌, Bool, true, false, refl, ap, sym, ◌∙◌, arith, nat_tests, common_steps, All, filter, nat_le, nat_lt, ◌==◌, ◌&&◌, get_or, list_any, or_parts, ltb-false, le-leb, lt-leb, last_of, first_of-suc, filter_alike, filter-filter, Record, Stretch, as_of, is_live, latest, in_force, Change, Closing, day_at, force_on, changes, lines_for, month_lines, known_as_of, changed_since, touched_household, is_newly_corrected, is_touched, TouchesFrom, BeginsUntouched, IsTouchedAfter, Touched, Line, map, flat_map, All-head, All-tail}
-use Rattle.voucher_core.proofs.{Alike.force_of, Alike.force_is, Named.changes_of_days, Unchanged.IsUnchanged, Unchanged.no_line, Unchanged.all_of_changed}
+use Rattle.voucher_core.proofs.Words.{◌≡◌, ℕ, ◌<◌, ◌≤◌, List, [], ◌∷◌, Bool, true, false, refl, ap, sym, ◌∙◌, arith, nat_tests, common_steps, All, filter, nat_le, nat_lt, ◌==◌, ◌&&◌, get_or, Option, option_map_or, list_any, or_parts, ltb-false, le-leb, lt-leb, last_of, filter_alike, filter-filter, Record, Stretch, as_of, is_live, latest, in_force, Change, Closing, changes, lines_for, month_lines, known_as_of, changed_since, touched_household, is_newly_corrected, is_touched, TouchesFrom, BeginsUntouched, IsTouchedAfter, Touched, Line, map, flat_map, All-head, All-tail}
+use Rattle.voucher_core.proofs.{Covered.changes_of_days, DayShares.certified_alike, Unchanged.IsUnchanged, Unchanged.no_line, Unchanged.all_of_changed}
 
 never : (a b : Bool) → (a && (b && false)) ≡ false
 never a b = grind (arith, common_steps)
@@ -41,26 +41,25 @@ module _ (last act : ℕ) (order : last ≤ act) where
         (filter-filter (λ (r : Record). nat_le r.from day) (is_live (as_of known own)) (as_of known own)
         ∙ filter-filter (λ (r : Record). is_live (as_of known own) r && nat_le r.from day) (λ (r : Record). nat_le r.act known) own)
 
-    pub same_force : force_on (as_of last own) day ≡ force_on (as_of act own) day
-    same_force =
-        force_is (as_of last own) day ∙ ap force_of (counted last ∙ ap latest (filter_alike (counts last) (counts act) own counts_alike) ∙ sym (counted act))
-        ∙ sym (force_is (as_of act own) day)
+    pub same_force : in_force (as_of last own) day ≡ in_force (as_of act own) day
+    same_force = counted last ∙ ap latest (filter_alike (counts last) (counts act) own counts_alike) ∙ sym (counted act)
 
 -- so a month that ends before it has no lines
 pub none_before : (own : ℕ → List Record) (closing : Closing) → closing.last_close ≤ closing.act → (household month first : ℕ) →
     TouchesFrom closing.last_close (own household) first → last_of month < first → month_lines closing household month (known_as_of own closing.last_close household) (known_as_of own closing.act household) ≡ []
-none_before own closing order household month first touches before = no_line closing household month (changes (known closing.last_close) (known closing.act) month) unchanged
+none_before own closing order household month first touches before =
+    no_line closing household month (known closing.last_close) (known closing.act) (changes (known closing.last_close) (known closing.act) month) unchanged
   where
     known : ℕ → List Record
     known last = as_of last (own household)
 
-    unchanged : All IsUnchanged (changes (known closing.last_close) (known closing.act) month)
+    unchanged : All (IsUnchanged (known closing.last_close) (known closing.act) month) (changes (known closing.last_close) (known closing.act) month)
     unchanged k d within =
         let run : Stretch Change = get_or (changes (known closing.last_close) (known closing.act) month) k d in
         let is = changes_of_days (known closing.last_close) (known closing.act) month k d within in
-        let key = is.key run.first (omega arith) is.in_order in
-        let earlier : day_at month run.first < first = omega (arith, first_of-suc month, is.to, is.from, is.in_order) in
-        cc (same_force closing.last_close closing.act order (own household) first (day_at month run.first) touches earlier)
+        certified_alike (known closing.last_close) (known closing.act) month run.first run.last
+        (λ day low high. ap (λ (o : Option Record). option_map_or (λ r. r.assistance) o 0)
+        (same_force closing.last_close closing.act order (own household) first day touches (omega (arith, high, before, is.to))))
 
 -- and one that ends before each of their first days has none at all
 pub month_untouched : (own : ℕ → List Record) (count : ℕ) (closing : Closing) (changed : List Touched) → closing.last_close ≤ closing.act →

@@ -9,11 +9,11 @@ pub use Rattle.std.specs.Prelude.{Any, AllPairs, Contains, fold, vec_items, ◌|
 pub use Rattle.days_core.proofs.Bridge.{days_in_bounds, first_of-suc}
 pub use Rattle.days_core.specs.Calendar.{days_in, first_of, last_of}
 pub use Rattle.list_laws.proofs.{Elements.AllPairs-append, Elements.Contains-map, Filters.filter_few, Filters.filter_none, Filters.filter_all, Filters.filter_alike, Filters.filter-filter, Filters.All-passing, Ranges.range_more, Ranges.range-more, Ranges.sum_by-range_more, Finds.find_first, Finds.find_fails}
-pub use Rattle.record_history.proofs.{EachDay.IsOfItsDays, EachDay.Cover, EachDay.IsOther, EachDay.of_their_days, EachDay.stretches_cover, EachDay.cover_few, Days.joins, Latest.in_force_among}
-pub use Rattle.record_history.specs.{Held.AreNumbered, Held.ActsRise, Held.records_of, Records.as_of, Records.newest_act, Records.is_live, Records.live_records, Records.is_withdrawal, Records.latest, Records.in_force, Stretch.with_day, Stretch.newest_first, Stretch.stretches, declared.records.Record.Record, declared.stretch.Stretch.Stretch, Runs.number_on}
+pub use Rattle.record_history.proofs.{EachDay.IsOfItsDays, EachDay.of_their_days, EachDay.stretches_cover, EachDay.cover_few, Latest.in_force_among}
+pub use Rattle.record_history.specs.{Held.AreNumbered, Held.ActsRise, Held.records_of, Records.as_of, Records.newest_act, Records.is_live, Records.live_records, Records.is_withdrawal, Records.latest, Records.in_force, Stretch.days, Stretch.stretches, Stretch.IsOther, Stretch.CoverLongest, declared.records.Record.Record, declared.stretch.Stretch.Stretch, Runs.number_on}
 pub use Rattle.share_rules.specs.Shares.{day_share, run_share}
-pub use Rattle.voucher_core.specs.{Certified.assistance_on, Certified.day_at, Certified.certified_amount, declared.changes.InForce.InForce, declared.changes.Change.Change, declared.closing.Closing.Closing, declared.line.Line.Line, declared.touched.Touched.Touched, Naming.assistance_of, Naming.shares_of, Naming.NamesItsPair, Naming.AreOfOne, Naming.NameTheirPairs, Naming.LinesNameTheirPairs, Naming.IsOtherPair, Naming.CoverByPairs, Naming.ChangesAreLongest, Naming.NumberTellsAssistance, Naming.is_same_pair, Naming.NumbersMakeTheRuns, Law.PaidIsTheSum, Law.Span, Law.IsSettled, Law.ClosingSettles, Law.NothingIsSettled, Law.SettledPaysNoOther, Law.CertifiedStays, Law.SettledStays}
-pub use Rattle.voucher_core.specs.Lines.{force_on, change_on, is_same_change, changes, difference, line_of, month_lines, known_as_of, lines_for, adjustment_lines, closing_lines, placed, is_for, total, paid}
-pub use Rattle.voucher_core.specs.Walk.{known_before, changed_since, is_newly_corrected, is_touched, made_after, earlier_start, TouchesFrom, touched_household, BeginsUntouched, IsTouchedAfter, BeginsNotWithin, CorrectsNotWithin, up_to}
+pub use Rattle.voucher_core.specs.{Certified.assistance_on, Certified.share_on, Certified.certified_on, Certified.certified_amount, declared.changes.Change.Change, declared.closing.Closing.Closing, declared.line.Line.Line, declared.touched.Touched.Touched, Naming.assistance_of, Naming.shares_of, Naming.NamesItsPair, Naming.AreOfOne, Naming.NameTheirPairs, Naming.LinesNameTheirPairs, Naming.ChangesAreLongest, Naming.NumberTellsAssistance, Law.PaidIsTheSum, Law.Span, Law.IsSettled, Law.ClosingSettles, Law.NothingIsSettled, Law.SettledPaysNoOther, Law.CertifiedStays, Law.SettledStays}
+pub use Rattle.voucher_core.specs.Lines.{change_on, is_same_change, changes, difference, line_of, month_lines, known_as_of, lines_for, is_first, adjustment_lines, closing_lines, placed, is_for, total, paid}
+pub use Rattle.voucher_core.specs.Walk.{known_before, changed_since, is_newly_corrected, is_touched, made_after, earlier_start, TouchesFrom, touched_household, BeginsUntouched, IsTouchedAfter, BeginsNotWithin, CorrectsNotWithin}
 pub use Rattle.std.proofs.lemmas.List.Kept.{AllPairs-cons, AllPairs-filter}
 pub use Rattle.voucher_core.specs.EachRun.{HasPair, IsLongestRun, old_on, new_on, IsPaidFor, TellsRun, ComesBefore, TellEachRun, LinesTellEachRun}

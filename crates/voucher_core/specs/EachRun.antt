@@ -1,10 +1,10 @@
 -- The lines of a closing, told by the days that they pay for.
 --
 -- A run is some days one after another of one household and month. Nothing of how runs are found occurs here.
-use Rattle.std.specs.Prelude.{ℕ, ◌+◌, ◌-◌, ◌⊎◌, ◌<◌, ◌≤◌, ◌≡◌, ◌≢◌, ◌==◌, pos, ◌-ℤ◌, if◌then◌else◌, List, length, All, Any, AllPairs, slice_index_or}
+use Rattle.std.specs.Prelude.{ℕ, ◌+◌, ◌-◌, ◌⊎◌, ◌<◌, ◌≤◌, ◌≡◌, ◌≢◌, ◌==◌, false, pos, ◌-ℤ◌, if◌then◌else◌, List, length, All, Any, AllPairs, slice_index_or}
 use Rattle.days_core.specs.Calendar.{first_of, last_of}
 use Rattle.record_history.specs.{declared.records.Record.Record, Records.as_of, Runs.number_on, Held.AreNumbered}
-use Rattle.voucher_core.specs.{declared.closing.Closing.Closing, declared.line.Line.Line, Naming.shares_of, Lines.closing_lines, Lines.placed}
+use Rattle.voucher_core.specs.{declared.closing.Closing.Closing, declared.line.Line.Line, Naming.shares_of, Lines.closing_lines, Lines.is_first, Lines.placed}
 
 -- The number of the record by which the household's day of that month was paid before: of the one in force as of the last
 -- closing, and 0 in the month that is closed only now.
@@ -32,7 +32,7 @@ pub record IsLongestRun (old_on new_on : ℕ → ℕ) (lowest highest first last
 -- a closing pays for the month that it closes, and where there was one before, for each from the first month up to it
 abbrev pub IsPaidFor : Closing → ℕ → Type 0
 IsPaidFor closing month =
-    (month ≡ closing.closed) ⊎ ((closing.last_close ≢ 0) × (closing.first_month ≤ month) × (month < closing.closed))
+    (month ≡ closing.closed) ⊎ ((is_first closing ≡ false) × (closing.first_month ≤ month) × (month < closing.closed))
 
 -- A line tells a run that the closing is to pay: a longest run of one of its households and months. It amounts to the
 -- shares of these days by the new record less those by the old one, and isn't for 0.

@@ -1,7 +1,7 @@
 -- What closings keep: the lines total what is certified, and each line names its records.
-use Rattle.std.specs.Prelude.{ℕ, ◌+◌, ◌⊎◌, ◌<◌, ◌≤◌, ◌≡◌, pos, ◌+ℤ◌, List, [], ◌∷◌, ◌++◌, All}
+use Rattle.std.specs.Prelude.{ℕ, ◌+◌, ◌⊎◌, ◌<◌, ◌≤◌, ◌≡◌, true, pos, ◌+ℤ◌, List, [], ◌∷◌, ◌++◌, All}
 use Rattle.record_history.specs.{declared.records.Record.Record, Records.as_of}
-use Rattle.voucher_core.specs.{declared.closing.Closing.Closing, declared.line.Line.Line, Certified.certified_amount, Lines.closing_lines, Lines.placed, Lines.paid}
+use Rattle.voucher_core.specs.{declared.closing.Closing.Closing, declared.line.Line.Line, Certified.certified_amount, Lines.is_first, Lines.closing_lines, Lines.placed, Lines.paid}
 
 -- The months from the first to the one before the next, and the act as of which they are paid.
 pub record Span : Type 0 where
@@ -31,7 +31,7 @@ abbrev pub ClosingSettles : Type 0
 ClosingSettles = (own : ℕ → List Record) (count : ℕ) (closing : Closing) (place : ℕ) (lines : List Line) →
     ((household : ℕ) → count < household → own household ≡ []) →
     closing.first_month ≤ closing.closed →
-    (closing.last_close ≡ 0 → closing.closed ≡ closing.first_month) →
+    (is_first closing ≡ true → closing.closed ≡ closing.first_month) →
     IsSettled own (span_before closing) lines →
     IsSettled own (span_after closing) (lines ++ placed place (closing_lines own count closing))
 

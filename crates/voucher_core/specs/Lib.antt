@@ -3,6 +3,5 @@ pub mod Lines
 pub mod Law
 pub mod Naming
 pub mod EachRun
-pub mod Bounds
 pub mod Book
 pub mod Walk

@@ -1,10 +1,10 @@
 -- What each line of a closing tells of its records.
-use Rattle.std.specs.Prelude.{ℕ, ◌+◌, ◌-◌, ◌<◌, ◌≤◌, ◌≡◌, ◌≢◌, ◌==◌, ◌&&◌, Bool, pos, ◌-ℤ◌, List, [], ◌∷◌, All, Contains, find}
+use Rattle.std.specs.Prelude.{ℕ, ◌+◌, ◌-◌, ◌<◌, ◌≤◌, ◌≡◌, ◌≢◌, ◌==◌, pos, ◌-ℤ◌, List, [], All, Contains, find}
 use Rattle.std.specs.Option.{option_map_or}
 use Rattle.days_core.specs.Calendar.{days_in, first_of, last_of}
-use Rattle.record_history.specs.{declared.records.Record.Record, declared.stretch.Stretch.Stretch, Records.as_of, Runs.number_on, Stretch.stretches, Held.AreNumbered}
+use Rattle.record_history.specs.{declared.records.Record.Record, Records.as_of, Runs.number_on, Stretch.CoverLongest, Held.AreNumbered}
 use Rattle.share_rules.specs.Shares.{run_share}
-use Rattle.voucher_core.specs.{declared.closing.Closing.Closing, declared.line.Line.Line, declared.changes.Change.Change, Certified.assistance_on, Certified.day_at}
+use Rattle.voucher_core.specs.{declared.closing.Closing.Closing, declared.line.Line.Line, Certified.assistance_on}
 use Rattle.voucher_core.specs.Lines.{change_on, changes, closing_lines, placed}
 
 -- the assistance of the household's record of that number, and 0 where it has none
@@ -42,19 +42,10 @@ LinesNameTheirPairs = (own : ℕ → List Record) (count : ℕ) (closing : Closi
     ((household : ℕ) → AreNumbered (own household)) →
     NameTheirPairs own closing (placed place (closing_lines own count closing))
 
--- the next run, if any, has another old or another new record
-abbrev pub IsOtherPair : Change → List (Stretch Change) → Type 0
-IsOtherPair key [] = Unit {0}
-IsOtherPair key (next ∷ rest) = ¬ ((key.old.number ≡ next.key.old.number) × (key.new.number ≡ next.key.new.number))
-
--- The runs go from the first day to the one before the next, each from the day after the run before it; each names the
--- records of each of its days, and its neighbour names another pair.
-abbrev pub CoverByPairs : (ℕ → ℕ) → (ℕ → ℕ) → ℕ → ℕ → List (Stretch Change) → Type 0
-CoverByPairs old_on new_on first next [] = first ≡ next
-CoverByPairs old_on new_on first next (run ∷ rest) =
-    (run.first ≡ first) × (first ≤ run.last)
-    × ((day : ℕ) → first ≤ day → day ≤ run.last → (run.key.old.number ≡ old_on day) × (run.key.new.number ≡ new_on day))
-    × IsOtherPair run.key rest × CoverByPairs old_on new_on (run.last + 1) next rest
+-- the changes of a month are the longest runs of its days with one pair of records
+abbrev pub ChangesAreLongest : Type 0
+ChangesAreLongest = (old new : List Record) (month : ℕ) →
+    CoverLongest (change_on old new) (first_of month) (last_of month + 1) (changes old new month)
 
 -- the old records and the new ones are all of one household, whose records are numbered from 1
 pub record AreOfOne (records old new : List Record) : Type 0 where
@@ -62,24 +53,8 @@ pub record AreOfOne (records old new : List Record) : Type 0 where
   pub old_own : All (Contains records) old
   pub new_own : All (Contains records) new
 
--- the changes of a month are the longest runs of its days with one pair of records
-abbrev pub ChangesAreLongest : Type 0
-ChangesAreLongest = (records old new : List Record) (month : ℕ) →
-    AreOfOne records old new →
-    CoverByPairs (λ place. number_on old (day_at month place)) (λ place. number_on new (day_at month place)) 1 (1 + days_in month) (changes old new month)
-
 -- the number of the record in force tells its assistance, on whatever day and by whatever is known
 abbrev pub NumberTellsAssistance : Type 0
 NumberTellsAssistance = (records old new : List Record) (day next : ℕ) →
     AreOfOne records old new →
     number_on old day ≡ number_on new next → assistance_on old day ≡ assistance_on new next
-
--- the same numbers of both records, whatever their assistance
-abbrev pub is_same_pair : Change → Change → Bool
-is_same_pair a b = a.old.number == b.old.number && a.new.number == b.new.number
-
--- So the runs with one pair of numbers are those with one pair of numbers and of assistances.
-abbrev pub NumbersMakeTheRuns : Type 0
-NumbersMakeTheRuns = (records old new : List Record) (month : ℕ) →
-    AreOfOne records old new →
-    stretches is_same_pair (λ place. change_on old new (day_at month place)) 1 (days_in month) ≡ changes old new month

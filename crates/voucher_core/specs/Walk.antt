@@ -1,8 +1,8 @@
 -- How a closing goes over households and days: past those that add nothing.
-use Rattle.std.specs.Prelude.{ℕ, ◌<◌, ◌≤◌, ◌≡◌, ◌==◌, ◌&&◌, ◌||◌, nat_lt, min, Bool, true, All, List, [], ◌∷◌, filter, find, Option, Some, None, IfSome}
+use Rattle.std.specs.Prelude.{ℕ, ◌<◌, ◌≤◌, ◌≡◌, ◌==◌, ◌&&◌, ◌||◌, nat_lt, min, Bool, true, All, List, [], filter, find, Option, Some, None, IfSome}
 use Rattle.std.specs.{List.range_with_len, List.list_any, Option.option_map_or}
 use Rattle.days_core.specs.Calendar.{last_of}
-use Rattle.record_history.specs.{declared.records.Record.Record, declared.stretch.Stretch.Stretch, Records.as_of, Records.newest_act}
+use Rattle.record_history.specs.{declared.records.Record.Record, Records.as_of, Records.newest_act}
 use Rattle.voucher_core.specs.declared.touched.Touched.{Touched}
 
 -- the records by which a household was paid as of an act, and none where no act paid it
@@ -52,8 +52,3 @@ pub record BeginsNotWithin (day next : ℕ) (r : Record) : Type 0 where
 -- nor does the one that the record corrects or withdraws, if it is among these
 pub record CorrectsNotWithin (records : List Record) (day next : ℕ) (r : Record) : Type 0 where
   pub corrected : IfSome (find (λ c. c.number == r.corrects) records) (BeginsNotWithin day next)
-
--- the stretches, of which the newest is the first, with that one going on to the day
-abbrev pub up_to : {K : Type 0} → ℕ → List (Stretch K) → List (Stretch K)
-up_to day [] = []
-up_to day (newest ∷ earlier) = record newest { last = day } ∷ earlier

@@ -10,7 +10,7 @@ use plain_data::NoMemory;
 use std::alloc::Global;
 use std::marker::Model;
 
-/// The lines of all closings, at most 4,000,000.
+/// The lines of all closings, at most 4,000,000. It is for callers outside: an office keeps its lines by closing.
 ///
 /// Contracts see the list of lines, and beside it the room for more.
 #[derive(Drop)]

@@ -1,11 +1,10 @@
 //! What is certified for a month.
 
-ghost use Rattle.std.specs.Prelude.{◌≡◌, ◌≤◌};
+ghost use Rattle.std.specs.Prelude.{◌≡◌, ◌≤◌, ◌+◌, ◌-◌};
 ghost use Rattle.days_core.specs.RentBounds.{most_gross_rent};
-ghost use Rattle.days_core.specs.Calendar.{days_in};
+ghost use Rattle.days_core.specs.Calendar.{days_in, first_of};
 ghost use Rattle.record_history.specs.Held.{records_of};
-ghost use Rattle.share_rules.specs.Shares.{day_share};
-ghost use Rattle.voucher_core.specs.Certified.{assistance_on, day_at, certified_amount};
+ghost use Rattle.voucher_core.specs.Certified.{assistance_on, share_on, certified_amount};
 
 use crate::lines::day_at;
 use days_core::{Day, Month, days_in};
@@ -27,7 +26,7 @@ pub fn certified_amount(history: &History, household: u32, month: Month) -> u32
 fn share_on(history: &History, household: u32, month: Month, place: u32) -> u32
     requires first { 1 ≤ place }
     requires last { place ≤ days_in month }
-    ensures value { result ≡ day_share (assistance_on (records_of history.now.households household) (day_at month place)) place (days_in month) }
+    ensures value { result ≡ share_on (records_of history.now.households household) month (first_of month + (place - 1)) }
     ensures within { result ≤ most_gross_rent }
 {
     let assistance = assistance_on(history, household, day_at(month, place));

@@ -1,7 +1,7 @@
 //! Laws of closings and their lines.
 
 ghost use Rattle.voucher_core.specs.Law.{ClosingSettles, NothingIsSettled, SettledPaysNoOther, CertifiedStays, SettledStays, PaidIsTheSum};
-ghost use Rattle.voucher_core.specs.Naming.{LinesNameTheirPairs, ChangesAreLongest, NumberTellsAssistance, NumbersMakeTheRuns};
+ghost use Rattle.voucher_core.specs.Naming.{LinesNameTheirPairs, ChangesAreLongest, NumberTellsAssistance};
 ghost use Rattle.voucher_core.specs.EachRun.{LinesTellEachRun};
 
 /// The law of one closing: with its lines, each household has been paid what it is certified for. It does nothing.
@@ -30,10 +30,9 @@ pub fn lines_tell_each_run()
     ensures { LinesTellEachRun }
 {}
 
-/// The number of a record in force tells its assistance, so the numbers alone make the runs of a closing. It does nothing.
-pub fn numbers_make_the_runs()
-    ensures assistance { NumberTellsAssistance }
-    ensures runs { NumbersMakeTheRuns }
+/// The number of a record in force tells its assistance. It does nothing.
+pub fn number_tells_assistance()
+    ensures { NumberTellsAssistance }
 {}
 
 /// What lines pay for a household and month is the sum of the amounts of those that are for both. It does nothing.

@@ -16,7 +16,7 @@ pub use book::LineBook;
 pub use certified::certified_amount;
 pub use closing::{Closing, close_lines};
 pub use laws::{
-    certified_stays, lines_name_their_pairs, lines_tell_each_run, numbers_make_the_runs,
+    certified_stays, lines_name_their_pairs, lines_tell_each_run, number_tells_assistance,
     one_closing_settles, paid_is_the_sum,
 };
 pub use line::Line;

@@ -1,20 +1,20 @@
 //! The lines of a closing, household by household and month by month.
 
-ghost use Rattle.std.specs.Prelude.{◌≡◌, ◌≤◌, ◌<◌, ◌-◌, ◌+◌, ◌^◌, ◌++◌, pos, not, All, [], OnOk, filter, map, length};
+ghost use Rattle.std.specs.Prelude.{◌≡◌, ◌≤◌, ◌<◌, ◌-◌, ◌+◌, ◌^◌, ◌++◌, ℕ, All, Contains, List, [], OnOk, map, length};
 ghost use Rattle.std.specs.List.{flat_map};
-ghost use Rattle.std.specs.Ordering.{int_eq};
-ghost use Rattle.days_core.specs.Calendar.{days_in};
-ghost use Rattle.record_history.specs.Held.{records_of};
-ghost use Rattle.voucher_core.specs.Certified.{day_at};
-ghost use Rattle.voucher_core.specs.Lines.{line_of, month_lines, known_as_of, lines_for, adjustment_lines, placed};
-ghost use Rattle.voucher_core.specs.Bounds.{IsUsable};
-ghost use Rattle.voucher_core.specs.Walk.{known_before, touched_household, BeginsUntouched};
+ghost use Rattle.days_core.specs.RentBounds.{most_gross_rent};
+ghost use Rattle.days_core.specs.Calendar.{days_in, first_of, last_of};
+ghost use Rattle.record_history.specs.declared.records.Record.{Record};
 ghost use Rattle.record_history.specs.Limits.{most_acts};
+ghost use Rattle.record_history.specs.Held.{records_of, AreNumbered};
+ghost use Rattle.voucher_core.specs.Lines.{change_on, line_of, month_lines, known_as_of, lines_for, adjustment_lines, placed};
+ghost use Rattle.voucher_core.specs.Naming.{assistance_of};
+ghost use Rattle.voucher_core.specs.Walk.{known_before, touched_household, BeginsUntouched};
 
 use crate::changes::{Change, changes_of_month};
 use crate::touched::{Touched, first_changed, touched_since};
 use crate::{Closing, Line};
-use days_core::{Day, Month, days_in, last_of};
+use days_core::{Day, Month, days_in, first_of, last_of};
 use plain_data::NoMemory;
 use record_history::{History, Stretch};
 use share_rules::share_run;
@@ -108,22 +108,9 @@ fn add_household(
     ensures { OnOk result (lines.new.items ≡ lines.old.items ++ month_lines closing.now household month (known_before paid_at (records_of history.now.households household)) (known_as_of (records_of history.now.households) closing.now.act household)) }
 {
     changes_of_month(runs, history, household, month, paid_at, closing.act)?;
-    add_lines(lines, closing, household, month, runs)
-}
-
-/// Adds a line for each of these changes that isn't for 0.
-fn add_lines(
-    lines: &mut Vec<Line>,
-    closing: &Closing,
-    household: u32,
-    month: Month,
-    runs: &[Stretch<Change>],
-) -> Result<(), NoMemory>
-    requires { All (IsUsable month) runs.now }
-    ensures { OnOk result (lines.new.items ≡ lines.old.items ++ filter (λ l. not (int_eq l.amount (pos 0))) (map (line_of closing.now household month) runs.now)) }
-{
-    for run in runs {
-        let line = line_of(closing, household, month, run);
+    let found: &[Stretch<Change>] = runs;
+    for run in found {
+        let line = line_of(history, closing, household, month, run);
         if line.amount != 0 {
             lines.push(line)?;
         }
@@ -131,24 +118,50 @@ fn add_lines(
     Ok(())
 }
 
-fn line_of(closing: &Closing, household: u32, month: Month, run: &Stretch<Change>) -> Line
-    requires { IsUsable month run.now }
-    ensures { result ≡ line_of closing.now household month run.now }
+/// The line of a run of days of the month, on each of which the records of its numbers are in force.
+fn line_of(
+    history: &History,
+    closing: &Closing,
+    household: u32,
+    month: Month,
+    run: &Stretch<Change>,
+) -> Line
+    requires from { first_of month ≤ run.now.first }
+    requires in_order { run.now.first ≤ run.now.last }
+    requires to { run.now.last ≤ last_of month }
+    ensures { (old new : List Record) → All (Contains (records_of history.now.households household)) old → All (Contains (records_of history.now.households household)) new → ((day : ℕ) → run.now.first ≤ day → day ≤ run.now.last → run.now.key ≡ change_on old new day) → result ≡ line_of closing.now household month old new run.now }
 {
     let days = days_in(month);
-    let new = share_run(run.key.new.assistance, run.first, run.last, days);
-    let old = share_run(run.key.old.assistance, run.first, run.last, days);
+    let before = first_of(month).number();
+    let first = run.first - before + 1;
+    let last = run.last - before + 1;
+    let new = assistance_of(history, household, run.key.new);
+    let old = assistance_of(history, household, run.key.old);
+    let new = share_run(new, first, last, days);
+    let old = share_run(old, first, last, days);
     Line {
         act: closing.act,
         place: 0,
         month: closing.closed,
         household,
         for_month: month,
-        first: day_at(month, run.first),
-        last: day_at(month, run.last),
-        old: run.key.old.number,
-        new: run.key.new.number,
+        first: day_at(month, first),
+        last: day_at(month, last),
+        old: run.key.old,
+        new: run.key.new,
         amount: new as i32 - old as i32,
+    }
+}
+
+/// The assistance of the household's record of that number, and 0 where it has none.
+fn assistance_of(history: &History, household: u32, number: u32) -> u32
+    ensures value { result ≡ assistance_of (records_of history.now.households household) number }
+    ensures within { result ≤ most_gross_rent }
+    ensures numbered { AreNumbered (records_of history.now.households household) }
+{
+    match history.record_at(household, number) {
+        Some(held) => held.assistance,
+        None => 0,
     }
 }
 
@@ -156,7 +169,7 @@ fn line_of(closing: &Closing, household: u32, month: Month, run: &Stretch<Change
 pub fn day_at(month: Month, place: u32) -> Day
     requires first { 1 ≤ place }
     requires last { place ≤ days_in month }
-    ensures { result ≡ day_at month place }
+    ensures { result ≡ first_of month + (place - 1) }
 {
     Day::from_number(last_of(month).number() + place - days_in(month)).unwrap()
 }

@@ -1,4 +1,4 @@
-use Rattle.std.proofs.Common.{◌≡◌, ◌∙◌, ◌++◌, ap, sym, take, append-nil, append_assoc}
+use Rattle.std.proofs.Common.{◌∙◌, ◌++◌, ap, sym, take, append-nil, append_assoc}
 use Rattle.std.specs.List.{flat_map}
 use Rattle.csv_records.specs.Records.{record_text}
 use Rattle.line_records.specs.Export.{column_names, line_record}

@@ -1,5 +1,4 @@
-use Rattle.voucher_core.proofs.Words.{◌≡◌, ◌≤◌, ◌-◌, as_of, records_of, stretches, day_at, known_before, change_on, is_same_change}
-use Rattle.voucher_core.proofs.Usable.{AreAllowed}
+use Rattle.voucher_core.proofs.Words.{◌≡◌, ◌≤◌, ◌-◌, as_of, records_of, stretches, known_before, change_on, is_same_change}
 use Rattle.voucher_core.proofs.changes.changes_of_month.Given as goal
 
 abbrev pub invariant-loop-day : goal.invariant-loop-day
@@ -8,9 +7,7 @@ invariant-loop-day l = record {
   to : l.day ≤ l.end;
   days :
       l.runs.items
-      ≡ stretches is_same_change (λ place. change_on (known_before l.paid_at (records_of l.history.households l.household)) (as_of l.act (records_of l.history.households l.household)) (day_at l.fn.month place)) 1 (l.day - l.first);
-  allowed :
-      AreAllowed (λ place. change_on (known_before l.paid_at (records_of l.history.households l.household)) (as_of l.act (records_of l.history.households l.household)) (day_at l.fn.month place)) (l.day - l.first);
+      ≡ stretches is_same_change (change_on (known_before l.paid_at (records_of l.history.households l.household)) (as_of l.act (records_of l.history.households l.household))) l.first l.day;
 }
 
 abbrev pub decreases-loop-day : goal.decreases-loop-day
