@@ -1,5 +1,5 @@
 -- The values that are written of facts are plain, and are read again as these facts.
-use Rattle.std.proofs.Common.{◌≡◌, ◌≤◌, codes, Ok, IsUtf8, refl}
+use Rattle.std.proofs.Common.{◌≤◌, codes, refl}
 use Rattle.json_form.specs.Form.{one_of, is_object_at, field, only}
 use Rattle.json_form.proofs.Stands.{Stands, word, number, day, flag, array}
 use Rattle.serde_json.specs.Data.{string}

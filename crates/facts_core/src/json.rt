@@ -14,7 +14,8 @@ use serde_json::Value;
 use std::alloc::Global;
 
 /// Reads the facts of a value. The fault is that of every form: `BadField` with the path of the first place that
-/// doesn't fit, seen from the value, so that a form around the facts can put its own name before it.
+/// doesn't fit, seen from the value, so that a form around the facts can put its own name before it. It is for callers
+/// outside: a command's form reads its facts as one of its fields.
 pub fn facts_of_value(alloc: Global, value: &Value) -> Result<Facts, FormFault>
     ensures { Gives (λ facts. facts) result (facts_at (view value.now)) }
 {

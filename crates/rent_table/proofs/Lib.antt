@@ -1,3 +1,4 @@
+mod Numbered
 pub mod Words
 pub mod ByName
 pub mod OwnLemmas

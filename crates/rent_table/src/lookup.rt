@@ -3,7 +3,7 @@
 ghost use Rattle.std.specs.Prelude.{◌≡◌, ◌<◌, ◌≤◌, ◌+◌, ◌∷◌, ◌++◌, [], vec_len, vec_capacity, true, false, length, find, slice_get, IfSome};
 ghost use Rattle.std.specs.List.Sorted.{IsPartitionPoint};
 ghost use Rattle.std.specs.Option.{option_copied};
-ghost use Rattle.rent_table.specs.Table.{unit_at, has_name, HaveOwnNumbers, HaveOwnNames};
+ghost use Rattle.rent_table.specs.Table.{unit_at, has_name, AreNumbered, HaveOwnNames};
 ghost use Rattle.rent_table.specs.Names.{name_at, is_before, AreByName};
 
 use crate::Unit;
@@ -22,38 +22,15 @@ fn place_at(places: &[usize], at: usize) -> Option<usize>
     places.get(at).copied()
 }
 
-// A unit that stands where its number says, as it does where units are numbered from 1 in the order in which they came.
-fn unit_in_its_place(units: &[Unit], number: u32) -> Option<&Unit>
-    requires { HaveOwnNumbers units.now }
-    ensures { IfSome (option_copied result) (λ unit. unit_at units.now number ≡ Some unit) }
+/// The unit of that number, which stands where its number says.
+pub fn unit_of_number(units: &[Unit], number: u32) -> Option<&Unit>
+    requires { AreNumbered units.now }
+    ensures { option_copied result ≡ unit_at units.now number }
 {
     if number == 0 {
         return None;
     }
-    let Some(unit) = unit_at_place(units, number as usize - 1) else {
-        return None;
-    };
-    if unit.number == number {
-        Some(unit)
-    } else {
-        None
-    }
-}
-
-fn unit_among(units: &[Unit], number: u32) -> Option<&Unit>
-    ensures { option_copied result ≡ unit_at units.now number }
-{
-    units.iter().find(|unit| unit.number == number)
-}
-
-pub fn unit_of_number(units: &[Unit], number: u32) -> Option<&Unit>
-    requires { HaveOwnNumbers units.now }
-    ensures { option_copied result ≡ unit_at units.now number }
-{
-    if let Some(unit) = unit_in_its_place(units, number) {
-        return Some(unit);
-    }
-    unit_among(units, number)
+    unit_at_place(units, number as usize - 1)
 }
 
 fn name_at(units: &[Unit], place: usize) -> &[u8]

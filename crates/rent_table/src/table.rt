@@ -1,9 +1,9 @@
 //! The property of an office, held.
 
-ghost use Rattle.std.specs.Prelude.{◌≡◌, ◌+◌, ◌<◌, ◌≤◌, [], ◌∷◌, ◌++◌, All, OnOk, IfOk, IsOk};
+ghost use Rattle.std.specs.Prelude.{◌≡◌, ◌+◌, ◌<◌, ◌≤◌, [], ◌∷◌, ◌++◌, length, All, OnOk, IfOk, IsOk};
 ghost use Rattle.std.specs.Option.{option_copied};
 ghost use Rattle.rent_table.specs.Table.{unit_at, unit_named, rents_on, limits_on};
-ghost use Rattle.rent_table.specs.Table.{HaveOwnNumbers, HaveOwnNames, RentActsRise, LimitActsRise};
+ghost use Rattle.rent_table.specs.Table.{AreNumbered, HaveOwnNames, RentActsRise, LimitActsRise};
 
 use crate::lookup::{add_by_name, unit_of_name, unit_of_number};
 use crate::standing::{limit_row_on, rent_row_on};
@@ -75,10 +75,10 @@ impl RentTable {
         Ok(())
     }
 
-    /// Adds a unit, whose number and name are new.
+    /// Adds a unit, which has the next number and a new name.
     pub fn push_unit(&mut self, unit: Unit)
         requires room { 1 ≤ self.old.unit_room }
-        requires number { unit_at self.old.units unit.number ≡ None }
+        requires number { unit.number ≡ length self.old.units + 1 }
         requires name { unit_named self.old.units unit.name ≡ None }
         ensures units { self.new.units ≡ self.old.units ++ unit ∷ [] }
         ensures room { self.new.unit_room + 1 ≡ self.old.unit_room }
@@ -122,7 +122,7 @@ impl RentTable {
     /// The unit of that number.
     pub fn unit(&self, number: u32) -> Option<&Unit>
         ensures value { option_copied result ≡ unit_at self.now.units number }
-        ensures own_numbers { HaveOwnNumbers self.now.units }
+        ensures numbered { AreNumbered self.now.units }
     {
         unit_of_number(&self.units, number)
     }
@@ -138,7 +138,7 @@ impl RentTable {
     /// The units in the order in which they were added.
     pub fn unit_rows(&self) -> &[Unit]
         ensures rows { result.now ≡ self.now.units }
-        ensures own_numbers { HaveOwnNumbers self.now.units }
+        ensures numbered { AreNumbered self.now.units }
         ensures own_names { HaveOwnNames self.now.units }
     {
         &self.units

@@ -1,4 +1,3 @@
-use Rattle.std.proofs.Common.{refl}
 use Rattle.facts_core.specs.Facts.{facts_fields_at}
 use Rattle.facts_core.proofs.facts.fields_of.Goals as goal
 
