@@ -1,5 +1,5 @@
 -- Commands that are fit are read again from the texts that are written of them.
-use Rattle.std.proofs.Common.{◌≡◌, ◌≢◌, true, List, Some, None, Ok, ap, refl, sym, ◌∙◌, arith}
+use Rattle.std.proofs.Common.{◌≡◌, ◌≢◌, true, List, Some, None, ap, refl, sym, ◌∙◌, arith}
 use Rattle.std.specs.Prelude.{ℕ, option_and_then}
 use Rattle.std.proofs.lemmas.Slice.Eq.{bytes_eq-Decides}
 use Rattle.book_rows.specs.{declared.command.Command.Command, Fit.is_fit}

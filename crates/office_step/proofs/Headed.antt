@@ -22,7 +22,7 @@ pub record IsHeaded (known : Known) (asked : Command) (r : Record) : Type 0 wher
   pub is_its : heading_of known asked ≡ Some heading
   pub under : IsUnder known heading r
 
-under : (known : Known) (basis : Basis) (heading : Heading) (r : Record) → made_on known basis heading ≡ Some r → IsUnder known heading r
+pub under : (known : Known) (basis : Basis) (heading : Heading) (r : Record) → made_on known basis heading ≡ Some r → IsUnder known heading r
 under known (from_facts facts) heading r is =
     option_and_then_some _ known.plan r is (λ plan given of_plan.
     option_map_some _ (rents_in_unit known heading.unit heading.from) r of_plan (λ rents stand same.

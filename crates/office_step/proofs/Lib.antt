@@ -4,3 +4,4 @@ pub mod Plans
 pub mod Earlier
 pub mod Headed
 pub mod NoneStale
+pub mod Exactly

@@ -4,7 +4,7 @@ use Rattle.std.specs.Option.{option_eq, option_map, option_map_or}
 use Rattle.days_core.specs.{Calendar.first_of as first_day_of, Calendar.last_of as last_day_of, OfficeDays.first_office_day, OfficeDays.last_office_day}
 use Rattle.facts_core.specs.Rules.{broken_rule}
 use Rattle.payment_rules.specs.Payment.{gross_rent_of}
-use Rattle.record_history.specs.{declared.records.Dates.Dates, declared.records.Kind.Kind, declared.records.Record.Record, Records.is_live_as_of, Records.newest_number}
+use Rattle.record_history.specs.{declared.records.Dates.Dates, declared.records.Kind.Kind, declared.records.Record.Record, Records.is_live_as_of, Records.live_records, Records.newest_number}
 use Rattle.rent_table.specs.{declared.plan.Plan.Plan, declared.rows.Unit.Unit as UnitRow, Admission.suits, Admission.admission_limit, Table.unit_at, Table.unit_named, Table.rents_on, Table.limits_on}
 use Rattle.due_dates.specs.Stale.{gross_day_of}
 use Rattle.tenancy_rules.specs.{declared.change.Change.Change, Changed.changed_records, Order.first_out_of_order, Order.is_move_in, Occupancy.first_double_use}
@@ -13,7 +13,7 @@ use Rattle.book_rows.specs.declared.command.Command.{Command}
 use Rattle.office_step.specs.{declared.heading.Heading.Heading, declared.moving.MoveIn.MoveIn, declared.refusal.Named.Named, declared.refusal.Refusal.Refusal, declared.rightful.Rightful.Rightful, Known.Known, Known.own_in, Households.record_at, Households.change_by, Households.rests_on_facts, Candidates.asked_of}
 use Rattle.office_step.specs.Matter.{Matter, Basis, from_facts, certifies, matter_of, own}
 use Rattle.office_step.specs.Made.{heading_in, record_in}
-use Rattle.office_step.specs.Refusals.{first_of, refused_if, refused_unless, others_of, annual_right, interim_right, resume_right, corrected_right, next_to_close, household_rent_due, household_overdue, first_household}
+use Rattle.office_step.specs.Refusals.{first_of, refused_if, refused_unless, annual_right, interim_right, resume_right, corrected_right, next_to_close, household_rent_due, household_overdue, first_household}
 
 -- ---- 2 to 4: the plan and the room of the book
 
@@ -131,7 +131,7 @@ by_payment about right = option_map_or (λ made.
 abbrev pub own_right : Matter → Option Kind → Option Dates → Rightful
 own_right about (Some Kind.AR) told = Rightful.Only (annual_right (own about))
 own_right about (Some Kind.GR) told = Rightful.Only (gross_day_of (own about) about.known.units about.known.rents)
-own_right about (Some Kind.IR) (Some dates) = by_payment about (interim_right (others_of (own about) 0) dates)
+own_right about (Some Kind.IR) (Some dates) = by_payment about (interim_right (live_records (own about)) dates)
 own_right about (Some Kind.IC) (Some dates) = Rightful.Only (Some (resume_right dates.done))
 own_right about _ told = Rightful.Any
 

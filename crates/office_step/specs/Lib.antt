@@ -11,3 +11,4 @@ pub mod Against
 pub mod Reply
 pub mod Step
 pub mod Valid
+pub mod plain

@@ -1,12 +1,12 @@
 -- What the tests of a command ask, each by the lists and numbers that it reads: rightful days, and what a closing waits for.
-use Rattle.std.specs.Prelude.{ℕ, ◌+◌, ◌==◌, ◌&&◌, not, nat_lt, if◌then◌else◌, Bool, Option, Some, None, option_and_then, List, [], ◌∷◌, map, filter, find, bytes_eq}
+use Rattle.std.specs.Prelude.{ℕ, ◌+◌, ◌==◌, ◌&&◌, not, nat_le, nat_lt, if◌then◌else◌, Bool, Option, Some, None, option_and_then, List, [], ◌∷◌, map, filter, find, bytes_eq}
 use Rattle.std.specs.{List.range_with_len, Option.option_map, Option.option_map_or}
-use Rattle.days_core.specs.{Calendar.last_of, OfficeDays.last_office_day, OfficeDays.last_office_month}
+use Rattle.days_core.specs.{Calendar.last_of, OfficeDays.last_office_month}
 use Rattle.record_history.specs.declared.records.{Record.Record, Kind.Kind, Dates.Dates}
-use Rattle.record_history.specs.Records.{live_records, in_force, latest}
+use Rattle.record_history.specs.Records.{live_records, comes_before, in_force, latest}
 use Rattle.rent_table.specs.declared.rows.{Unit.Unit as UnitRow, RentRow.RentRow}
 use Rattle.due_dates.specs.{Rightful.rightful_day_of, Rightful.next_anniversary, Stale.rent_due_day_of, Overdue.is_overdue, declared.due.Due.Due}
-use Rattle.tenancy_rules.specs.{Changed.without, Changed.is_before, Order.earliest}
+use Rattle.tenancy_rules.specs.{Changed.without, Order.earliest}
 use Rattle.voucher_core.specs.Certified.{certified_amount}
 use Rattle.book_rows.specs.declared.rows.ActRow.{ActRow}
 pub use Rattle.book_rows.specs.Book.{is_request_of}
@@ -39,31 +39,27 @@ request_reused rows clerk request body =
 
 -- ---- rightful days
 
--- the live records with one left out, as for its correction; 0 leaves none out, since records are numbered from 1
-abbrev pub others_of : List Record → ℕ → List Record
-others_of own number = without number (live_records own)
+-- the live records but for that one, as for its correction
+abbrev pub others_of : List Record → Record → List Record
+others_of own target = without target.number (live_records own)
 
--- a record by which a household's year begins, before that place in the order of first day and number
-abbrev pub is_base_before : ℕ → ℕ → Record → Bool
-is_base_before day number r = is_before day number r && begins_year r.kind
-
--- the last of these
-abbrev pub base_before : List Record → ℕ → ℕ → Option Record
-base_before live day number = latest (filter (is_base_before day number) live)
+-- the last of the records by which a household's year begins
+abbrev pub base : List Record → Option Record
+base live = latest (filter (λ r. begins_year r.kind) live)
 
 -- the first anniversary of the opening record later than the first day of the base, where these are
 abbrev pub annual_day : Option Record → Option Record → Option ℕ
 annual_day opening base =
     option_and_then (λ r. option_map (λ last. rightful_day_of (Due.Annual r.from last.from)) base) opening
 
--- the rightful day of an annual: by the last such record, all of which begin by 2099-12-31
+-- the rightful day of an annual
 abbrev pub annual_right : List Record → Option ℕ
-annual_right own = annual_day (earliest (others_of own 0)) (base_before (others_of own 0) (last_office_day + 1) 0)
+annual_right own = annual_day (earliest (live_records own)) (base (live_records own))
 
 -- the rightful day of an annual's correction: without the target, by the last such record before it
 abbrev pub corrected_annual_right : List Record → Record → Option ℕ
 corrected_annual_right own target =
-    annual_day (earliest (others_of own target.number)) (base_before (others_of own target.number) target.from target.number)
+    annual_day (earliest (others_of own target)) (base (filter (λ r. comes_before r target) (others_of own target)))
 
 -- the payment is above that of the record in force on the day, by these live records
 abbrev pub is_higher : List Record → ℕ → ℕ → Bool
@@ -82,7 +78,7 @@ resume_right done = rightful_day_of (Due.Resume done)
 -- resumed certification; of another it is any day
 abbrev pub corrected_by : List Record → Record → ℕ → ℕ → Kind → Option Dates → Rightful
 corrected_by own target ttp report_days Kind.AR dates = Rightful.Only (corrected_annual_right own target)
-corrected_by own target ttp report_days Kind.IR (Some dates) = interim_right (others_of own target.number) dates ttp report_days
+corrected_by own target ttp report_days Kind.IR (Some dates) = interim_right (others_of own target) dates ttp report_days
 corrected_by own target ttp report_days Kind.IC (Some dates) = Rightful.Only (Some (resume_right dates.done))
 corrected_by own target ttp report_days _ dates = Rightful.Any
 
@@ -124,7 +120,7 @@ abbrev pub household_overdue : List Record → ℕ → ℕ → Option Refusal
 household_overdue own month household =
     if is_unpaid own month then None
     else option_map (λ anniversary. Refusal.Overdue household anniversary)
-    (overdue_day month (earliest (others_of own 0)) (base_before (others_of own 0) (last_of month + 1) 0))
+    (overdue_day month (earliest (live_records own)) (base (filter (λ r. nat_le r.from (last_of month)) (live_records own))))
 
 -- the lines held and those of the closing exceed the capacity
 abbrev pub lines_full : ℕ → ℕ → ℕ → Option Refusal

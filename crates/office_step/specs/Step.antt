@@ -1,5 +1,5 @@
 -- What the office of one clerk does with a call: a repeat, the first refusal that stands, or the rows that it appends.
-use Rattle.std.specs.Prelude.{ℕ, ◌+◌, ◌++◌, ◌≡◌, ◌&&◌, nat_le, max, min, Bool, true, Option, Some, None, List, [], ◌∷◌, length}
+use Rattle.std.specs.Prelude.{ℕ, ◌+◌, ◌++◌, ◌≡◌, ◌&&◌, nat_le, max, min, Bool, true, Option, Some, List, [], ◌∷◌, length}
 use Rattle.std.specs.Option.{option_map_or}
 use Rattle.book_rows.specs.{declared.rows.ActRow.ActRow, declared.rows.Batch.Batch, Fit.is_within, Fit.is_fit, Book.Book, Book.empty_book, Book.appended}
 use Rattle.command_forms.specs.Commands.{command_in, body_of}

@@ -1,5 +1,5 @@
 -- What it comes to that records are in order, that no unit would have two households, and that a change is judged.
-use Rattle.std.specs.Prelude.{◌≡◌, ◌≢◌, ◌↔◌, ◌≤◌, ◌<◌, ℕ, true, false, if◌then◌else◌, List, [], ◌∷◌, ◌++◌, length, Some, None, All, Contains, IfSome}
+use Rattle.std.specs.Prelude.{◌≡◌, ◌≢◌, ◌↔◌, ◌≤◌, ℕ, true, false, if◌then◌else◌, List, [], ◌∷◌, ◌++◌, length, Some, None, All, Contains, IfSome}
 use Rattle.days_core.specs.OfficeDays.{last_office_day}
 use Rattle.record_history.specs.{declared.records.Record.Record, Records.is_withdrawal, Records.live_records, Records.comes_before, Held.records_of}
 use Rattle.tenancy_rules.specs.{declared.change.Change.Change, declared.occupancy.DoubleUse.DoubleUse, Changed.changed_records, Changed.NumbersRise, Occupancy.occupied_unit_on, Occupancy.first_double_use}

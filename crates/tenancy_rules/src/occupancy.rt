@@ -28,7 +28,7 @@ const DAYS: u32 = LAST_OFFICE_DAY + 1;
 
 /// The first day through 2099-12-31 on which one unit would have the household and another after the change, with the
 /// least of such others on that day; None where there is no such day. Own rule: a household has the unit of its record in
-/// force, unless that is a move-out.
+/// force, unless that is a move-out. It is for callers outside: `Tenancies` looks at few households.
 pub fn double_use(history: &History, household: u32, change: &Change) -> Option<DoubleUse>
     requires next { AddsNext (records_of history.now.households household) household change.now }
     ensures { result ≡ first_double_use history.now.households household change.now }

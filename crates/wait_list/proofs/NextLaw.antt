@@ -1,5 +1,5 @@
 -- Whoever is next is so rightly.
-use Rattle.wait_list.proofs.Words.{◌≡◌, ◌∙◌, sym, ℕ, Bool, true, false, List, length, ◌<◌, [], ◌∷◌, get_or, refl, inl, inr, Option, Some, None, ◌&&◌, ◌||◌, not, filter, All, Contains, IfSome, IsSomeAnd, if◌then◌else◌, option_map, option_or, Applicant, Asked, is_within_limit, is_extremely_low, is_candidate, candidates, stands_behind, first_of, next_of, mover_of, first_there, common_steps, arith, false≢true, and_parts, and_from, false_from_ne_true, cond_both, Candidate, needs, goes_before, NoMoverNeeds, NoApplicantNeeds, ApplicantIsFirst, IsRightful, NextIsRightful}
+use Rattle.wait_list.proofs.Words.{◌≡◌, ◌∙◌, sym, ℕ, Bool, true, false, List, length, ◌<◌, [], ◌∷◌, get_or, refl, inl, inr, Option, Some, None, ◌&&◌, ◌||◌, not, filter, All, Contains, IfSome, IsSomeAnd, if◌then◌else◌, option_map, option_or, Applicant, Asked, is_within_limit, is_extremely_low, is_candidate, candidates, stands_behind, first_of, next_of, mover_of, first_there, common_steps, arith, and_parts, and_from, false_from_ne_true, Candidate, needs, goes_before, NoMoverNeeds, NoApplicantNeeds, ApplicantIsFirst, IsRightful, NextIsRightful}
 use Rattle.rent_table.specs.Admission.{suits}
 use Rattle.row_choice.{specs.Latest.IsLatest, proofs.LatestLemmas.latest-is, proofs.LatestLemmas.pairs_order-turned, proofs.LatestLemmas.filter-filter}
 

@@ -1,0 +1,16 @@
+pub mod Options
+pub mod Counting
+pub mod Planned
+pub mod Named
+pub mod Seen
+pub mod Facts
+pub mod Days
+pub mod Standing
+pub mod Rightful
+pub mod Tenancy
+pub mod Units
+pub mod Turns
+pub mod Admitted
+pub mod Months
+pub mod Closing
+pub mod Acceptance
