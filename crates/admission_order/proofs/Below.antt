@@ -1,2 +1,4 @@
 -- The crates below whose names those above take from here, each by its own name. Declares nothing.
-pub use Rattle.office_step.proofs as office_step
+pub use Rattle.office_register.proofs.Below.office_refusals
+pub use Rattle.office_register.proofs as office_register
+pub use Rattle.office_register.proofs.Below.office_step

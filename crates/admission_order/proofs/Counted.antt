@@ -7,7 +7,7 @@ use Rattle.row_choice.proofs.LatestLemmas.{filter-filter}
 use Rattle.days_core.specs.Calendar.{month_of}
 use Rattle.record_history.specs.{declared.records.Record.Record, Records.is_live, Records.live_records, Held.records_of, Held.AreNumbered, Ordered.AreInOrder}
 use Rattle.rent_table.specs.declared.plan.Plan.{Plan}
-use Rattle.office_step.specs.Candidates.{fiscal_year, is_admission, admissions}
+use Rattle.office_register.specs.Below.office_step.Candidates.{fiscal_year, is_admission, admissions}
 use Rattle.admission_order.specs.Admissions.{is_admission_of}
 use Rattle.admission_order.proofs.AsMany.{as_many}
 

@@ -4,9 +4,9 @@ use Rattle.std.specs.{Prelude.filter, Prelude.fold, Prelude.option_to_list, List
 use Rattle.std.proofs.lemmas.List.{Elements.filter-append, Elements.filter_map-append, Sums.fold-append}
 use Rattle.row_choice.specs.Latest.{later}
 use Rattle.voucher_core.proofs.Totals.{range-more}
-use Rattle.office_step.specs.declared.known.Mover.{Mover}
+use Rattle.office_register.specs.Below.office_step.declared.known.Mover.{Mover}
 use Rattle.rent_table.specs.declared.rows.Unit.{Unit as UnitRow}
-use Rattle.office_step.specs.Candidates.{in_need, first_mover}
+use Rattle.office_register.specs.Below.office_step.Candidates.{in_need, first_mover}
 use Rattle.list_laws.proofs.Filters.{filter_none}
 use Rattle.admission_order.specs.Turns.{came_first, first_of_movers}
 

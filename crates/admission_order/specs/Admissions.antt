@@ -3,7 +3,7 @@ use Rattle.std.specs.Prelude.{ℕ, ◌&&◌, ◌==◌, Bool}
 use Rattle.days_core.specs.Calendar.{month_of}
 use Rattle.record_history.specs.declared.records.Record.{Record}
 use Rattle.rent_table.specs.declared.plan.Plan.{Plan}
-use Rattle.office_step.specs.Candidates.{fiscal_year}
+use Rattle.office_register.specs.Below.office_step.Candidates.{fiscal_year}
 use Rattle.tenancy_rules.specs.Order.{is_move_in}
 
 -- the record is a move-in of the fiscal year of that number

@@ -3,7 +3,7 @@ use Rattle.std.specs.Prelude.{not, nat_lt, Bool, true, false, Option, List}
 use Rattle.row_choice.specs.Latest.{latest}
 use Rattle.record_history.specs.declared.records.Record.{Record}
 use Rattle.rent_table.specs.declared.rows.Unit.{Unit as UnitRow}
-use Rattle.office_step.specs.{declared.known.Mover.Mover, Candidates.in_need}
+use Rattle.office_register.specs.Below.office_step.{declared.known.Mover.Mover, Candidates.in_need}
 
 -- the other record has the greater number
 abbrev pub newer : Record → Record → Bool

@@ -1,7 +1,7 @@
 //! How far an office is with its admissions of a fiscal year.
 
 ghost use Rattle.std.specs.Prelude.{◌≡◌, ◌≤◌, ◌&&◌, length, filter, sum_by};
-ghost use Rattle.office_step.specs.Candidates.{fiscal_year, targets_of};
+ghost use Rattle.office_register.specs.Below.office_step.Candidates.{fiscal_year, targets_of};
 ghost use Rattle.admission_order.specs.Admissions.{is_admission_of};
 ghost use Rattle.record_history.specs.Limits.{most_acts};
 

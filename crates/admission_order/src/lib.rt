@@ -10,5 +10,5 @@ mod units;
 pub use admissions::targets;
 pub use next::next_for;
 pub use office_register;
-pub use office_step;
+pub use office_register::{office_refusals, office_step};
 pub use units::unit_in;

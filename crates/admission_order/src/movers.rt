@@ -5,11 +5,11 @@ ghost use Rattle.std.specs.Option.{option_map_or};
 ghost use Rattle.row_choice.specs.Latest.{later};
 ghost use Rattle.record_history.specs.Held.{records_of};
 ghost use Rattle.due_dates.specs.Stale.{ends_assistance};
-ghost use Rattle.office_step.specs.Candidates.{newest_transfer, counts, would_move, would_move_on, request_in, mover_of, movers_of, first_mover};
+ghost use Rattle.office_register.specs.Below.office_step.Candidates.{newest_transfer, counts, would_move, would_move_on, request_in, mover_of, movers_of, first_mover};
 ghost use Rattle.admission_order.specs.Turns.{came_first, newer, is_turn, first_of_movers};
 
 use days_core::Day;
-use office_step::{Mover, Request};
+use office_register::office_step::{Mover, Request};
 use record_history::{Dates, History, Kind, Record, is_live};
 use rent_table::{Plan, Unit, suits};
 

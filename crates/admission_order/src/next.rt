@@ -4,7 +4,7 @@ ghost use Rattle.std.specs.Prelude.{◌≡◌, ◌≤◌, false, if◌then◌els
 ghost use Rattle.rent_table.specs.Table.{limits_on};
 ghost use Rattle.wait_list.specs.Next.{next_candidate};
 ghost use Rattle.wait_list.specs.Target.{wants_extremely_low};
-ghost use Rattle.office_step.specs.Candidates.{asked_of, targets_of, in_need, first_mover, movers_of};
+ghost use Rattle.office_register.specs.Below.office_step.Candidates.{asked_of, targets_of, in_need, first_mover, movers_of};
 
 use crate::admissions::targets;
 use crate::movers::{Vacancy, first_mover};

@@ -4,9 +4,9 @@ use Rattle.std.specs.Prelude.{Result, Ok, Err, IfOk, IfSome}
 use Rattle.days_core.specs.OfficeDays.{last_office_day}
 use Rattle.record_history.specs.declared.records.Record.{Record}
 use Rattle.book_rows.specs.{declared.command.Command.Command, Fit.is_fit}
-use Rattle.office_step.specs.{declared.refusal.Refusal.Refusal, Known.Known, Made.record_of, Against.refused_by}
-use Rattle.office_register.specs.Accepted.{IsAccepted}
-use Rattle.office_register.proofs.Next.{accepted_new, accepted_there}
+use Rattle.admission_order.specs.Below.office_step.{declared.refusal.Refusal.Refusal, Known.Known, Made.record_of, Against.refused_by}
+use Rattle.admission_order.specs.Below.office_register.Accepted.{IsAccepted}
+use Rattle.admission_order.proofs.Below.office_register.Next.{accepted_new, accepted_there}
 use Rattle.office_acts.specs.Judged.{judged_by, IsPlaced}
 
 module _ (known : Known) (most today : ℕ) (asked : Command) (few : most ≤ 100000) (lived : today ≤ last_office_day) (fit : is_fit asked ≡ true) where

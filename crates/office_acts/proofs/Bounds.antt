@@ -1,13 +1,13 @@
 -- What holds of the rents of a unit, and of a record that is looked up.
-use Rattle.std.proofs.Common.{◌≡◌, ℕ, Bool, true, false, List, [], ◌∷◌, Option, Some, None, arith}
-use Rattle.std.specs.Prelude.{All, IfSome, filter, find, option_and_then, if◌then◌else◌}
+use Rattle.std.proofs.Common.{◌≡◌, ℕ, Bool, true, List, Option, Some, None, arith}
+use Rattle.std.specs.Prelude.{All, IfSome, filter, option_and_then}
 use Rattle.std.specs.Option.{option_map}
 use Rattle.std.proofs.lemmas.{Bool.Decides.nat_tests}
-use Rattle.std.proofs.lemmas.List.Elements.{All-nil, All-filter, All-head, All-tail}
+use Rattle.std.proofs.lemmas.List.Elements.{All-nil, All-filter}
 use Rattle.row_choice.proofs.LatestLemmas.{latest-among}
 use Rattle.record_history.specs.{declared.records.Record.Record, Held.records_of}
 use Rattle.record_history.proofs.Latest.{records_are}
-use Rattle.office_register.specs.Registered.{HasDates}
+use Rattle.admission_order.specs.Below.office_register.Registered.{HasDates}
 use Rattle.rent_table.specs.declared.rows.{Unit.Unit as UnitRow, RentRow.RentRow}
 use Rattle.rent_table.specs.Table.{unit_at, rents_before, rents_begin_by, rent_row_on, rents_on}
 use Rattle.due_dates.specs.Stale.{unit_rents_on}

@@ -7,12 +7,12 @@ use Rattle.days_core.specs.OfficeDays.{last_office_day}
 use Rattle.record_history.specs.{declared.records.Dates.Dates, declared.records.Record.Record, Held.IsWithin}
 use Rattle.facts_core.specs.Rules.{broken_rule}
 use Rattle.book_rows.specs.declared.{command.Command.Command, household.HouseholdChange.HouseholdChange}
-use Rattle.office_step.specs.{declared.refusal.Refusal.Refusal, Households.AreBy, Known.Known, Refusals.first_of, Against.told_days, Against.day_range, Against.rule_broken, Against.facts_rule}
-use Rattle.office_step.specs.Matter.{Matter, Basis, from_facts, carried, nothing, certifies, matter_of, household_of, begins_on}
-use Rattle.office_step.specs.Made.{heading_over, record_in, correction_heading, withdrawal_heading, record_of}
-use Rattle.office_step.proofs.Days.{InRange, days_in_range, told_of, ToldInTurn, told_in_turn, begins}
-use Rattle.office_step.proofs.Headed.{changing}
-use Rattle.office_register.specs.Registered.{HasDates}
+use Rattle.admission_order.specs.Below.office_step.{declared.refusal.Refusal.Refusal, Households.AreBy, Known.Known, Refusals.first_of, Against.told_days, Against.day_range, Against.rule_broken, Against.facts_rule}
+use Rattle.admission_order.specs.Below.office_step.Matter.{Matter, Basis, from_facts, carried, nothing, certifies, matter_of, household_of, begins_on}
+use Rattle.admission_order.specs.Below.office_step.Made.{heading_over, record_in, correction_heading, withdrawal_heading, record_of}
+use Rattle.admission_order.proofs.Below.office_step.Days.{InRange, days_in_range, told_of, ToldInTurn, told_in_turn, begins}
+use Rattle.admission_order.proofs.Below.office_step.Headed.{changing}
+use Rattle.admission_order.specs.Below.office_register.Registered.{HasDates}
 use Rattle.office_acts.specs.Judged.{AreKept, IsOfCommand, IsInTime, IsReady, HasSize, HasSizeBy, ClosesBy}
 
 -- ---- the days

@@ -1,3 +1,3 @@
 -- The crates below whose names those above take from here, each by its own name. Declares nothing.
-pub use Rattle.office_register.specs as office_register
-pub use Rattle.office_step.specs as office_step
+pub use Rattle.admission_order.specs.Below.office_register
+pub use Rattle.admission_order.specs.Below.office_step

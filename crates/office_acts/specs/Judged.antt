@@ -3,9 +3,9 @@ use Rattle.std.specs.Prelude.{ℕ, ◌≡◌, ◌≤◌, ◌<◌, ◌+◌, ⊤, 
 use Rattle.days_core.specs.{declared.rents.Rents.Rents, OfficeDays.last_office_day}
 use Rattle.record_history.specs.{declared.records.Record.Record, Records.newest_number, Held.IsWithin}
 use Rattle.book_rows.specs.declared.command.Command.{Command}
-use Rattle.office_step.specs.{declared.refusal.Refusal.Refusal, declared.heading.Heading.Heading, Households.AreBy, Matter.Matter, Matter.matter_of, Matter.Basis, Matter.from_facts, Known.Known, Known.own_in}
+use Rattle.admission_order.specs.Below.office_step.{declared.refusal.Refusal.Refusal, declared.heading.Heading.Heading, Households.AreBy, Matter.Matter, Matter.matter_of, Matter.Basis, Matter.from_facts, Known.Known, Known.own_in}
 use Rattle.facts_core.specs.Rules.{broken_rule}
-use Rattle.office_register.specs.Registered.{HasDates}
+use Rattle.admission_order.specs.Below.office_register.Registered.{HasDates}
 
 -- it is refused, or else makes that record or none
 abbrev pub judged_by : Option Refusal → Option Record → Result (Option Record) Refusal

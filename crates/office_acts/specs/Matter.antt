@@ -1,7 +1,7 @@
 -- What a command is about, as the code holds it.
 use Rattle.std.specs.Prelude.{Bool, true, false, Option, Some, None, option_copied}
 use Rattle.facts_core.specs.declared.facts.Facts.{Facts}
-use Rattle.office_step.specs.Matter.{Matter, Basis, from_facts, carried, nothing}
+use Rattle.admission_order.specs.Below.office_step.Matter.{Matter, Basis, from_facts, carried, nothing}
 use Rattle.office_acts.specs.declared.matter.Matter.{Matter as Held}
 
 abbrev pub basis_by : Option Facts → Bool → Basis

@@ -1,5 +1,5 @@
 -- A move, as the code holds it.
-use Rattle.office_step.specs.Against.{Moving}
+use Rattle.admission_order.specs.Below.office_step.Against.{Moving}
 use Rattle.office_acts.specs.declared.moves.Moving.{Moving as Held}
 
 abbrev pub moving_by : Held → Moving

@@ -2,8 +2,8 @@
 
 ghost use Rattle.std.specs.Prelude.{◌≡◌, is_some, true, false, IfSome};
 ghost use Rattle.std.specs.Option.{option_map_or};
-ghost use Rattle.office_step.specs.Made.{record_in};
-ghost use Rattle.office_step.specs.Against.{is_same_candidate, not_next, ineligible, no_assistance};
+ghost use Rattle.admission_order.specs.Below.office_step.Made.{record_in};
+ghost use Rattle.admission_order.specs.Below.office_step.Against.{is_same_candidate, not_next, ineligible, no_assistance};
 ghost use Rattle.office_acts.specs.Judged.{IsMade, HasSize};
 ghost use Rattle.office_acts.specs.Matter.{matter_by};
 
@@ -11,8 +11,8 @@ use crate::matter::Matter;
 use crate::moves::moving_of;
 use crate::refusing::{refused_if, refused_unless};
 use admission_order::next_for;
+use admission_order::office_step::Refusal;
 use days_core::{Day, Month};
-use office_step::Refusal;
 use record_history::{Dates, Record};
 use rent_table::admission_limit;
 use wait_list::Candidate;

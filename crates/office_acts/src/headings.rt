@@ -1,16 +1,16 @@
 //! What the record of an act says beside its figures.
 
 ghost use Rattle.std.specs.Prelude.{◌≡◌, ◌≤◌, IfSome};
-ghost use Rattle.office_step.specs.Matter.{household_of, begins_on};
-ghost use Rattle.office_step.specs.Made.{heading_in, own_heading, heading_over};
-ghost use Rattle.office_register.specs.Registered.{HasDates};
+ghost use Rattle.admission_order.specs.Below.office_step.Matter.{household_of, begins_on};
+ghost use Rattle.admission_order.specs.Below.office_step.Made.{heading_in, own_heading, heading_over};
+ghost use Rattle.admission_order.specs.Below.office_register.Registered.{HasDates};
 ghost use Rattle.office_acts.specs.Judged.{IsInTime, IsReady, AreKept};
 ghost use Rattle.office_acts.specs.Matter.{matter_by};
 
 use crate::lookups::{target_in, unit_continued};
 use crate::matter::Matter;
+use admission_order::office_step::Heading;
 use days_core::Day;
-use office_step::Heading;
 use record_history::{Dates, Kind, Record};
 
 /// The heading of the record that comes of it, if one does.

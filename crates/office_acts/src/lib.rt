@@ -24,8 +24,6 @@ mod refusing;
 mod terms;
 
 pub use admission_order;
+pub use admission_order::{office_refusals, office_register, office_step};
 pub use closing::lines_of;
 pub use judging::judge;
-pub use office_refusals;
-pub use office_register;
-pub use office_step;

@@ -2,16 +2,16 @@
 
 ghost use Rattle.std.specs.Prelude.{◌≡◌, option_copied, IfSome};
 ghost use Rattle.record_history.specs.Held.{IsWithin};
-ghost use Rattle.office_register.specs.Registered.{HasDates};
-ghost use Rattle.office_step.specs.Households.{record_at, unit_continued};
-ghost use Rattle.office_step.specs.Known.{own_in};
-ghost use Rattle.office_step.specs.Matter.{own};
+ghost use Rattle.admission_order.specs.Below.office_register.Registered.{HasDates};
+ghost use Rattle.admission_order.specs.Below.office_step.Households.{record_at, unit_continued};
+ghost use Rattle.admission_order.specs.Below.office_step.Known.{own_in};
+ghost use Rattle.admission_order.specs.Below.office_step.Matter.{own};
 ghost use Rattle.office_acts.specs.Matter.{matter_by};
 
 use crate::matter::Matter;
+use admission_order::office_refusals::continued;
+use admission_order::office_register::Register;
 use days_core::Day;
-use office_refusals::continued;
-use office_register::Register;
 use record_history::{Dates, Record};
 
 /// The household's record of that number.

@@ -4,13 +4,13 @@ ghost use Rattle.std.specs.Prelude.{◌≡◌, ◌+◌, ◌<◌, Some};
 ghost use Rattle.days_core.specs.OfficeDays.{last_office_day};
 ghost use Rattle.book_rows.specs.declared.{command.Command.Command, household.HouseholdChange.HouseholdChange};
 ghost use Rattle.office_acts.specs.Matter.{matter_by};
-ghost use Rattle.office_step.specs.Matter.{from_facts, carried, quiet, recording, resumed_dates, move_in, said_in, said_by, matter_of};
+ghost use Rattle.admission_order.specs.Below.office_step.Matter.{from_facts, carried, quiet, recording, resumed_dates, move_in, said_in, said_by, matter_of};
 
+use admission_order::office_register::Register;
+use admission_order::office_step::MoveIn;
 use book_rows::{AdmitAct, Command, HouseholdChange, TransferAct};
 use days_core::{Day, Month};
 use facts_core::Facts;
-use office_register::Register;
-use office_step::MoveIn;
 use plain_data::Text;
 use record_history::{Dates, Kind};
 use wait_list::Candidate;
@@ -235,7 +235,7 @@ impl Matter<'_> {
     ghost use Rattle.std.specs.Prelude.{◌≡◌, ◌≤◌, ◌<◌, IfSome};
     ghost use Rattle.days_core.specs.OfficeDays.{last_office_day};
     ghost use Rattle.record_history.specs.Records.{newest_number};
-    ghost use Rattle.office_step.specs.Matter.{household_of, own, certifies, begins_on};
+    ghost use Rattle.admission_order.specs.Below.office_step.Matter.{household_of, own, certifies, begins_on};
     ghost use Rattle.office_acts.specs.Matter.{matter_by};
     ghost use Rattle.office_acts.specs.Judged.{IsInTime};
 

@@ -2,14 +2,14 @@
 
 ghost use Rattle.std.specs.Prelude.{◌≡◌, ◌≤◌, IfSome};
 ghost use Rattle.std.specs.Option.{option_map};
-ghost use Rattle.office_step.specs.Against.{moving_of};
+ghost use Rattle.admission_order.specs.Below.office_step.Against.{moving_of};
 ghost use Rattle.office_acts.specs.Moves.{moving_by};
 ghost use Rattle.office_acts.specs.Matter.{matter_by};
 
 use crate::matter::Matter;
+use admission_order::office_step::MoveIn;
 use admission_order::unit_in;
 use days_core::{Day, Month};
-use office_step::MoveIn;
 use record_history::{Dates, Record};
 use rent_table::{Plan, Unit};
 use wait_list::Candidate;

@@ -4,18 +4,18 @@ ghost use Rattle.std.specs.Prelude.{◌≡◌, is_some, false};
 ghost use Rattle.std.specs.Option.{option_map_or};
 ghost use Rattle.rent_table.specs.Table.{unit_at};
 ghost use Rattle.wait_list.specs.Waiting.{is_listed};
-ghost use Rattle.office_step.specs.declared.refusal.Named.TheVariants as named;
-ghost use Rattle.office_step.specs.declared.refusal.Refusal.TheVariants as refusal;
-ghost use Rattle.office_step.specs.Households.{record_at, rests_on_facts};
-ghost use Rattle.office_step.specs.Matter.{own};
-ghost use Rattle.office_step.specs.Refusals.{refused_unless};
-ghost use Rattle.office_step.specs.Against.{none_such, is_household, may_be_named, no_plan, plan_given, book_full, no_such, stale, unseen};
+ghost use Rattle.admission_order.specs.Below.office_step.declared.refusal.Named.TheVariants as named;
+ghost use Rattle.admission_order.specs.Below.office_step.declared.refusal.Refusal.TheVariants as refusal;
+ghost use Rattle.admission_order.specs.Below.office_step.Households.{record_at, rests_on_facts};
+ghost use Rattle.admission_order.specs.Below.office_step.Matter.{own};
+ghost use Rattle.admission_order.specs.Below.office_step.Refusals.{refused_unless};
+ghost use Rattle.admission_order.specs.Below.office_step.Against.{none_such, is_household, may_be_named, no_plan, plan_given, book_full, no_such, stale, unseen};
 ghost use Rattle.office_acts.specs.Matter.{matter_by};
 
 use crate::matter::Matter;
 use crate::refusing::{refused_if, refused_unless};
+use admission_order::office_step::{Named, Refusal};
 use days_core::{Day, Month};
-use office_step::{Named, Refusal};
 use record_history::{Dates, Kind, Record};
 use wait_list::Candidate;
 

@@ -1,17 +1,17 @@
 //! Whether the record of an act, or a unit's name, finds its place among those that are there.
 
 ghost use Rattle.std.specs.Prelude.{◌≡◌, ◌≤◌, option_and_then, IfSome};
-ghost use Rattle.office_step.specs.Made.{record_in};
-ghost use Rattle.office_step.specs.Against.{disorder, name_taken, size_misfit, may_collide, unit_taken};
+ghost use Rattle.admission_order.specs.Below.office_step.Made.{record_in};
+ghost use Rattle.admission_order.specs.Below.office_step.Against.{disorder, name_taken, size_misfit, may_collide, unit_taken};
 ghost use Rattle.office_acts.specs.Judged.{IsMade};
 ghost use Rattle.office_acts.specs.Matter.{matter_by};
 
 use crate::matter::Matter;
 use crate::moves::moving_of;
 use crate::refusing::refused_unless;
+use admission_order::office_refusals::change_by;
+use admission_order::office_step::Refusal;
 use days_core::{Day, Month};
-use office_refusals::change_by;
-use office_step::Refusal;
 use record_history::{Dates, Record};
 use rent_table::suits;
 use tenancy_rules::order_fault;

@@ -6,20 +6,20 @@ ghost use Rattle.facts_core.specs.Rules.{broken_rule};
 ghost use Rattle.record_history.specs.Records.{newest_number};
 ghost use Rattle.record_history.specs.Held.{records_of};
 ghost use Rattle.certified_figures.specs.Figures.{FitsRecord};
-ghost use Rattle.office_step.specs.Households.{continued, AreBy};
-ghost use Rattle.office_step.specs.Made.{heading_in, record_in, rents_in_unit, made_with, made_of_facts, made_of_carried, made_of_nothing};
-ghost use Rattle.office_step.specs.Known.{own_in};
+ghost use Rattle.admission_order.specs.Below.office_step.Households.{continued, AreBy};
+ghost use Rattle.admission_order.specs.Below.office_step.Made.{heading_in, record_in, rents_in_unit, made_with, made_of_facts, made_of_carried, made_of_nothing};
+ghost use Rattle.admission_order.specs.Below.office_step.Known.{own_in};
 ghost use Rattle.office_acts.specs.Judged.{AreWithin, IsMade, IsReady, HasSize, HasSizeBy};
 ghost use Rattle.office_acts.specs.Matter.{matter_by};
 ghost use Rattle.record_history.specs.Limits.{most_acts};
 
 use crate::matter::Matter;
+use admission_order::office_refusals::{continued, entry, rents_in_unit, told_extremely_low};
+use admission_order::office_register::Register;
+use admission_order::office_step::Heading;
 use certified_figures::{Figures, figures_carried, figures_of_facts, no_figures};
 use days_core::{Day, Rents};
 use facts_core::Facts;
-use office_refusals::{continued, entry, rents_in_unit, told_extremely_low};
-use office_register::Register;
-use office_step::Heading;
 use record_history::{Dates, History, Kind, Record};
 use rent_table::{LimitRow, Plan, RentTable};
 

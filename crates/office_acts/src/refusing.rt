@@ -1,10 +1,10 @@
 //! A refusal if a test stands, or unless it does.
 
 ghost use Rattle.std.specs.Prelude.{◌≡◌};
-ghost use Rattle.office_step.specs.Refusals.{refused_if, refused_unless};
+ghost use Rattle.admission_order.specs.Below.office_step.Refusals.{refused_if, refused_unless};
 
+use admission_order::office_step::Refusal;
 use days_core::{Day, Month};
-use office_step::Refusal;
 use wait_list::Candidate;
 
 pub fn refused_if(test: bool, refusal: Refusal) -> Option<Refusal>

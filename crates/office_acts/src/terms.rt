@@ -3,23 +3,26 @@
 ghost use Rattle.std.specs.Prelude.{◌≡◌, option_and_then};
 ghost use Rattle.std.specs.Option.{option_map_or};
 ghost use Rattle.days_core.specs.OfficeDays.{last_office_day};
-ghost use Rattle.office_step.specs.Made.{heading_in, record_in};
-ghost use Rattle.office_step.specs.declared.rightful.Rightful.TheVariants as rightful;
-ghost use Rattle.office_step.specs.Households.{AreBy, record_at};
-ghost use Rattle.office_step.specs.Matter.{own};
-ghost use Rattle.office_step.specs.Refusals.{first_of, others_of, interim_right, corrected_right};
-ghost use Rattle.office_step.specs.Against.{facts_rule, outside, told_days, day_range, no_rent, no_rent_on, no_limits, not_live, by_payment, own_right, right_of, wrong_day};
+ghost use Rattle.record_history.specs.Records.{live_records};
+ghost use Rattle.admission_order.specs.Below.office_step.Made.{heading_in, record_in};
+ghost use Rattle.admission_order.specs.Below.office_step.declared.rightful.Rightful.TheVariants as rightful;
+ghost use Rattle.admission_order.specs.Below.office_step.Households.{AreBy, record_at};
+ghost use Rattle.admission_order.specs.Below.office_step.Matter.{own};
+ghost use Rattle.admission_order.specs.Below.office_step.Refusals.{first_of, interim_right, corrected_right};
+ghost use Rattle.admission_order.specs.Below.office_step.Against.{facts_rule, outside, told_days, day_range, no_rent, no_rent_on, no_limits, not_live, by_payment, own_right, right_of, wrong_day};
 ghost use Rattle.office_acts.specs.Judged.{IsInTime};
 ghost use Rattle.office_acts.specs.Matter.{matter_by};
 
 use crate::lookups::target_in;
 use crate::matter::Matter;
 use crate::refusing::refused_unless;
+use admission_order::office_refusals::{
+    annual_right, corrected_right, interim_right, resume_right,
+};
+use admission_order::office_step::{Heading, Refusal, Rightful};
 use days_core::{Day, FIRST_OFFICE_DAY, LAST_OFFICE_DAY, Month};
 use due_dates::gross_day;
 use facts_core::{Facts, broken_rule};
-use office_refusals::{annual_right, corrected_right, interim_right, resume_right};
-use office_step::{Heading, Refusal, Rightful};
 use record_history::{Dates, Kind, Record};
 use wait_list::Candidate;
 
@@ -168,7 +171,7 @@ fn own_right(about: &Matter, made: &Option<Record>) -> Rightful
 fn told_right(about: &Matter, dates: Dates, made: &Option<Record>) -> Rightful
     requires made { made.now ≡ record_in (matter_by about.now) }
     requires dates { AreBy last_office_day dates }
-    ensures { result ≡ by_payment (matter_by about.now) (interim_right (others_of (own (matter_by about.now)) 0) dates) }
+    ensures { result ≡ by_payment (matter_by about.now) (interim_right (live_records (own (matter_by about.now))) dates) }
 {
     match (made, about.register.plan()) {
         (Some(made), Some(plan)) => {
@@ -176,7 +179,6 @@ fn told_right(about: &Matter, dates: Dates, made: &Option<Record>) -> Rightful
             interim_right(
                 history,
                 about.household(),
-                0,
                 dates,
                 made.ttp,
                 plan.report_days,

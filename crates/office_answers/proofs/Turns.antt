@@ -1,8 +1,8 @@
 -- Lines in the order of their closings, and which of them are passed over.
-use Rattle.std.proofs.Common.{◌≡◌, ◌∙◌, sym, ap, refl, inl, inr, ℕ, zero, suc, ◌+◌, ◌-◌, ◌<◌, ◌≤◌, ◌⊎◌, arith, Bool, true, false, List, [], ◌∷◌, ◌++◌, length, get_or, take, drop, append-nil, subst}
+use Rattle.std.proofs.Common.{◌≡◌, ◌∙◌, sym, ap, refl, inl, inr, ℕ, zero, suc, ◌+◌, ◌-◌, ◌<◌, ◌≤◌, ◌⊎◌, arith, Bool, true, false, List, [], ◌∷◌, ◌++◌, length, get_or, take, drop, append-nil}
 use Rattle.std.specs.Prelude.{◌==◌, ◌&&◌, ◌||◌, nat_lt, nat_le, filter}
 use Rattle.std.specs.List.Sorted.{IsPartitionPoint, IsPartitionedBy}
-use Rattle.std.proofs.lemmas.{Bool.cases_lt, Bool.and_parts, Bool.eqb-true, Bool.Decides.nat_tests, List.Elements.filter_more, List.take_more}
+use Rattle.std.proofs.lemmas.{Bool.cases_lt, Bool.and_parts, Bool.eqb-true, Bool.Decides.nat_tests, List.Elements.filter_more}
 use Rattle.book_search.proofs.Stretch.{filter_stretch}
 use Rattle.voucher_core.specs.{declared.line.Line.Line, Lines.is_for}
 use Rattle.office_answers.specs.Vouchers.{lines_of_closing}

@@ -5,9 +5,9 @@ ghost use Rattle.office_answers.specs.Answered.{Answers};
 ghost use Rattle.office_answers.specs.Households.{name_in, live_numbers, summary_of, household_answer, record_answer};
 
 use crate::{Answer, Asked, HouseholdSummary};
+use admission_order::office_refusals::no_household;
 use admission_order::office_register::Register;
 use admission_order::office_step::{Named, Refusal};
-use office_refusals::no_household;
 use plain_data::{Listed, NoMemory, Text};
 use record_history::{Dates, Record, is_live};
 use std::alloc::Global;

@@ -14,11 +14,10 @@ mod reply;
 mod vouchers;
 
 pub use admission_order;
-pub use admission_order::{office_register, office_step};
+pub use admission_order::{office_refusals, office_register, office_step};
 pub use answer::{Admissions, Answer, Asked, DueDay, HouseholdSummary, Voucher};
 pub use answering::answer_to;
 pub use book_lines::BookLines;
 pub use laws::{due_list_is_whole, vouchers_total};
-pub use office_refusals;
 pub use questions::Question;
 pub use reply::Reply;

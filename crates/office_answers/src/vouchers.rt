@@ -8,10 +8,10 @@ ghost use Rattle.record_history.specs.Limits.{most_lines};
 
 use crate::in_turn::{closing_in_turn, paying_in_turn};
 use crate::{Answer, Asked, BookLines, Voucher};
+use admission_order::office_refusals::no_household;
 use admission_order::office_register::Register;
 use admission_order::office_step::Closed;
 use days_core::Month;
-use office_refusals::no_household;
 use plain_data::{Listed, NoMemory};
 use rent_table::Plan;
 use std::alloc::Global;

@@ -1,3 +1,4 @@
+pub mod Below
 pub mod FirstOf
 pub mod Ordered
 pub mod Begins

@@ -1,14 +1,15 @@
 //! Refusals of a closing by households whose certification is overdue.
 
-ghost use Rattle.std.specs.Prelude.{◌≡◌, ◌≤◌, ◌+◌, length};
+ghost use Rattle.std.specs.Prelude.{◌≡◌, ◌≤◌, nat_le, filter, length};
 ghost use Rattle.std.specs.Option.{option_or};
 ghost use Rattle.days_core.specs.OfficeDays.{last_office_month};
 ghost use Rattle.days_core.specs.Calendar.{last_of};
 ghost use Rattle.record_history.specs.Held.{records_of};
+ghost use Rattle.record_history.specs.Records.{live_records};
 ghost use Rattle.tenancy_rules.specs.Order.{earliest};
-ghost use Rattle.office_step.specs.Refusals.{others_of, base_before, overdue_day, is_unpaid, household_overdue, first_household};
+ghost use Rattle.office_step.specs.Refusals.{base, overdue_day, is_unpaid, household_overdue, first_household};
 
-use crate::live::{base, opening};
+use crate::live::{base_by, opening};
 use crate::rightful::anniversary;
 use days_core::{Day, Month, last_of};
 use due_dates::overdue as is_overdue;
@@ -63,10 +64,10 @@ fn household_overdue(history: &History, month: Month, household: u32) -> Option<
 fn overdue_day(history: &History, month: Month, household: u32) -> Option<Day>
     requires { month ≤ last_office_month }
     ensures { let own = records_of history.now.households household in
-        result ≡ overdue_day month (earliest (others_of own 0)) (base_before (others_of own 0) (last_of month + 1) 0) }
+        result ≡ overdue_day month (earliest (live_records own)) (base (filter (λ r. nat_le r.from (last_of month)) (live_records own))) }
 {
-    let opening = opening(history, household, 0)?;
-    let base = base(history, household, 0, last_of(month).number() + 1, 0)?;
+    let opening = opening(history, household)?;
+    let base = base_by(history, household, last_of(month))?;
     if is_overdue(base.from, month) {
         Some(anniversary(opening.from, base.from))
     } else {

@@ -17,5 +17,6 @@ pub use days::act_day;
 pub use lateness::overdue;
 pub use made::{change_by, continued, entry, rents_in_unit, told_extremely_low};
 pub use named::no_household;
+pub use office_step;
 pub use reply::certified;
 pub use rightful::{annual_right, corrected_right, interim_right, resume_right};

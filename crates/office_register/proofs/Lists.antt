@@ -1,5 +1,5 @@
 -- Lists of which nothing is left out, and of which nothing passes a test.
-use Rattle.office_register.proofs.Words.{◌≡◌, append-nil, ◌≤◌, length, refl, ap, ℕ, ◌+◌, ◌-◌, List, [], ◌∷◌, ◌++◌, Option, None, Bool, true, false, arith, filter, ◌==◌, slice_get, if◌then◌else◌, nat_lt, nat_tests, room_of, with_place, common_steps}
+use Rattle.office_register.proofs.Words.{◌≡◌, append-nil, ◌≤◌, length, refl, ap, ℕ, ◌+◌, ◌-◌, List, [], ◌∷◌, ◌++◌, None, true, false, arith, filter, ◌==◌, nat_lt, nat_tests, room_of, with_place, common_steps}
 use Rattle.std.specs.List.{filter_map}
 use Rattle.wait_list.specs.Rank.{rank_of}
 use Rattle.record_history.proofs.Kept.{is_household}

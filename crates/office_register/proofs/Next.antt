@@ -2,9 +2,9 @@
 use Rattle.office_register.proofs.Words.{◌≡◌, ◌∙◌, sym, refl, ℕ, ◌≤◌, ◌<◌, List, Option, Some, None, Bool, true, arith, length, is_some, Record, UnitRow, RentRow, StartAct, AdmitAct, Command, Known, HouseholdAct, household_there, are_there, IsAccepted, IsNext, common_steps, not, option_and_then, test_passed, unit_at, rents_on}
 use Rattle.facts_core.specs.declared.facts.Facts.{Facts}
 use Rattle.due_dates.specs.Stale.{unit_rents_on}
-use Rattle.office_step.specs.{declared.heading.Heading.Heading, Known.own_in, Matter.Matter, Matter.matter_of, Against.no_rent_on, Refusals.refused_if, Refusals.refused_unless, declared.refusal.Named.Named, declared.refusal.Refusal.Refusal}
-use Rattle.office_step.specs.Made.{record_of, rents_in_unit, made_of_facts, heading_of}
-use Rattle.office_step.proofs.{Earlier.under_it, Earlier.names_earlier, Headed.IsHeaded, Headed.IsUnder, Headed.made_is_headed, Headed.IsNextUnder, Headed.next_under, Headed.of_household, Headed.under_own}
+use Rattle.office_refusals.specs.Below.office_step.{declared.heading.Heading.Heading, Known.own_in, Matter.Matter, Matter.matter_of, Against.no_rent_on, Refusals.refused_if, Refusals.refused_unless, declared.refusal.Named.Named, declared.refusal.Refusal.Refusal}
+use Rattle.office_refusals.specs.Below.office_step.Made.{record_of, rents_in_unit, made_of_facts, heading_of}
+use Rattle.office_refusals.proofs.Below.office_step.{Earlier.under_it, Earlier.names_earlier, Headed.IsHeaded, Headed.IsUnder, Headed.made_is_headed, Headed.IsNextUnder, Headed.next_under, Headed.of_household, Headed.under_own}
 use Rattle.record_history.specs.Held.{AreNumbered}
 use Rattle.office_register.proofs.Standing.{passes}
 

@@ -7,8 +7,8 @@ use Rattle.record_history.specs.Records.{newest_act}
 use Rattle.due_dates.specs.{Stale.is_rent_stale_on}
 use Rattle.due_dates.proofs.{LeastLemmas.least_that-from, StaleLemmas.stale_behind}
 use Rattle.book_rows.specs.declared.closings.CloseAct.{CloseAct}
-use Rattle.office_step.specs.{Known.own_in, Against.plan_day, Against.rents_due}
-use Rattle.office_step.proofs.NoneStale.{none_stale}
+use Rattle.office_refusals.specs.Below.office_step.{Known.own_in, Against.plan_day, Against.rents_due}
+use Rattle.office_refusals.proofs.Below.office_step.NoneStale.{none_stale}
 use Rattle.office_register.specs.Registered.{IsReviewed, EndsBefore, rent_due_from}
 use Rattle.office_register.specs.declared.register.Reviewed.{Reviewed}
 

@@ -4,7 +4,7 @@ use Rattle.std.proofs.lemmas.List.Sums.{sum_by_push, sum_by-set}
 use Rattle.record_history.specs.Records.{newest_act}
 use Rattle.rent_table.specs.declared.rows.LimitRow.{LimitRow}
 use Rattle.days_core.specs.OfficeDays.{last_office_month}
-use Rattle.office_step.specs.declared.known.{Application.Application, Request.Request, Closed.Closed}
+use Rattle.office_refusals.specs.Below.office_step.declared.known.{Application.Application, Request.Request, Closed.Closed}
 use Rattle.record_history.proofs.Latest.{records_are}
 
 -- ---- a record among those of its household

@@ -3,7 +3,7 @@ use Rattle.office_register.proofs.Words.{◌≡◌, refl, sym, ℕ, ◌≤◌, �
 use Rattle.std.proofs.lemmas.List.Folds.{list_any_none}
 use Rattle.days_core.specs.OfficeDays.{last_office_month}
 use Rattle.book_rows.specs.declared.closings.CloseAct.{CloseAct}
-use Rattle.office_step.specs.{declared.refusal.Refusal.Refusal, Matter.matter_of, Refusals.refused_if, Against.wrong_month}
+use Rattle.office_refusals.specs.Below.office_step.{declared.refusal.Refusal.Refusal, Matter.matter_of, Refusals.refused_if, Against.wrong_month}
 use Rattle.list_laws.proofs.Finds.{find_fails}
 
 pub passes : {known : Known} {asked : Command} {made : Option Record} → (a : IsAccepted known asked made) → Passed known a.most a.today asked

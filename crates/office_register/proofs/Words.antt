@@ -6,9 +6,9 @@ pub use Rattle.std.proofs.lemmas.List.Elements.{filter_agree, All-weaker, All-pu
 pub use Rattle.std.specs.Option.{option_map}
 pub use Rattle.std.specs.Prelude.{slice_set, not, ◌==◌, filter, slice_get, if◌then◌else◌, nat_lt, is_some, option_and_then, All, IfSome, ◌⊎◌, max, fold, sum_by, nat_le}
 pub use Rattle.book_rows.specs.{Fit.is_plan, Fit.are_rents, Fit.is_fit, declared.certifications.AdmitAct.AdmitAct, declared.certifications.StartAct.StartAct, declared.command.Command.Command, declared.household.HouseholdAct.HouseholdAct, declared.property.RentsAct.RentsAct, declared.property.UnitAct.UnitAct}
-pub use Rattle.office_step.proofs.Passed.{or_none, test_passed, household_there, are_there, Passed, passed}
-pub use Rattle.office_step.specs.Acts.{unit_row, rent_row, limit_row, application_by, request_by}
-pub use Rattle.office_step.specs.{After.applying, After.known_after, Known.Known}
+pub use Rattle.office_refusals.proofs.Below.office_step.Passed.{or_none, test_passed, household_there, are_there, Passed, passed}
+pub use Rattle.office_refusals.specs.Below.office_step.Acts.{unit_row, rent_row, limit_row, application_by, request_by}
+pub use Rattle.office_refusals.specs.Below.office_step.{After.applying, After.known_after, Known.Known}
 pub use Rattle.record_history.specs.Held.{room_of, with_place, records_of, with_record}
 pub use Rattle.record_history.specs.declared.records.Record.{Record}
 pub use Rattle.rent_table.specs.{Table.unit_at, Table.rents_on, declared.plan.Plan.Plan, declared.rows.RentRow.RentRow, declared.rows.Unit.Unit as UnitRow}

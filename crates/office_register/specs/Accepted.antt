@@ -4,7 +4,7 @@ use Rattle.std.specs.Option.{option_map}
 use Rattle.days_core.specs.OfficeDays.{last_office_day}
 use Rattle.record_history.specs.{declared.records.Record.Record, Records.newest_number, Held.with_record}
 use Rattle.book_rows.specs.{declared.command.Command.Command, Fit.is_fit}
-use Rattle.office_step.specs.{declared.known.Application.Application, Acts.at_number, Known.Known, Known.own_in, After.next_act, Made.record_of, Against.refused_by}
+use Rattle.office_refusals.specs.Below.office_step.{declared.known.Application.Application, Acts.at_number, Known.Known, Known.own_in, After.next_act, Made.record_of, Against.refused_by}
 use Rattle.record_history.specs.Limits.{most_acts}
 
 -- The command is fit, nothing stands against it in an office of at most 100,000 acts on a day up to 2099-12-31, and this

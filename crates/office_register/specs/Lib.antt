@@ -1,3 +1,4 @@
+pub mod Below
 pub mod Registered
 pub mod View
 pub mod Accepted

@@ -7,7 +7,7 @@ use Rattle.wait_list.specs.declared.applicant.Applicant.{Applicant}
 use Rattle.book_rows.specs.Fit.{is_plan, are_rents}
 use Rattle.due_dates.specs.Stale.{is_rent_stale_on, rent_due_day_of}
 use Rattle.record_history.specs.Records.{newest_act}
-use Rattle.office_step.specs.{declared.known.Application.Application, declared.known.Request.Request, declared.known.Closed.Closed, Known.Known, Known.own_in, Households.AreBy, Against.plan_day, Refusals.annual_right}
+use Rattle.office_refusals.specs.Below.office_step.{declared.known.Application.Application, declared.known.Request.Request, declared.known.Closed.Closed, Known.Known, Known.own_in, Households.AreBy, Against.plan_day, Refusals.annual_right}
 use Rattle.office_register.specs.declared.register.Reviewed.{Reviewed}
 use Rattle.record_history.specs.Limits.{most_acts}
 

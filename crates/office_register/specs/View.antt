@@ -1,6 +1,6 @@
 -- What the fields of a register come to.
 use Rattle.std.specs.Prelude.{ℕ, ◌-◌, min, vec_len, vec_capacity}
-use Rattle.office_step.specs.Known.{Known}
+use Rattle.office_refusals.specs.Below.office_step.Known.{Known}
 use Rattle.office_register.specs.declared.register.Register.TheInside.{Inside}
 
 abbrev pub known_in : Inside → Known

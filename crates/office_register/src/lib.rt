@@ -3,4 +3,6 @@
 
 mod register;
 
+pub use office_refusals;
+pub use office_refusals::office_step;
 pub use register::Register;

@@ -2,7 +2,7 @@
 
 ghost use Rattle.std.specs.Prelude.{◌≡◌, true, Some, IfOk, is_some, min, max};
 ghost use Rattle.wait_list.specs.Rank.{best_rank};
-ghost use Rattle.office_step.specs.Acts.{ranks_of};
+ghost use Rattle.office_refusals.specs.Below.office_step.Acts.{ranks_of};
 
 use book_rows::{
     AdmitAct, ApplyAct, AskTransferAct, CloseAct, Command, HouseholdAct, LimitsAct, RemoveAct,
@@ -10,7 +10,7 @@ use book_rows::{
 };
 use days_core::{Day, Month, first_of};
 use office_refusals::annual_right;
-use office_step::{Application, Closed, Request};
+use office_refusals::office_step::{Application, Closed, Request};
 use plain_data::{Listed, NoMemory, Text};
 use record_history::{Dates, History, Record};
 use rent_table::{LimitRow, Plan, RentRow, RentTable, Unit};
@@ -68,12 +68,12 @@ impl Register {
     ghost use Rattle.book_rows.specs.Book.{empty_book};
     ghost use Rattle.book_rows.specs.Fit.{is_plan, are_rents};
     ghost use Rattle.book_rows.specs.declared.command.Command.TheVariants as command;
-    ghost use Rattle.office_step.specs.Acts.{at_number, name_given};
+    ghost use Rattle.office_refusals.specs.Below.office_step.Acts.{at_number, name_given};
     ghost use Rattle.office_register.specs.Accepted.{applicant_name};
-    ghost use Rattle.office_step.specs.Known.{known_of, own_in};
-    ghost use Rattle.office_step.specs.Against.{plan_day};
-    ghost use Rattle.office_step.specs.Refusals.{annual_right};
-    ghost use Rattle.office_step.specs.After.{next_act, known_after};
+    ghost use Rattle.office_refusals.specs.Below.office_step.Known.{known_of, own_in};
+    ghost use Rattle.office_refusals.specs.Below.office_step.Against.{plan_day};
+    ghost use Rattle.office_refusals.specs.Below.office_step.Refusals.{annual_right};
+    ghost use Rattle.office_refusals.specs.Below.office_step.After.{next_act, known_after};
     ghost use Rattle.office_register.specs.Registered.{HasDates, IsReviewed, EndsBefore, rent_due_from};
     ghost use Rattle.office_register.specs.Accepted.{IsAccepted, IsNext, with_household, with_further};
     ghost use Rattle.record_history.specs.Limits.{most_acts};

@@ -1,7 +1,7 @@
 use Rattle.std.proofs.Common.{◌∙◌, ap, ◌+◌, refl, arith}
 use Rattle.std.proofs.lemmas.List.{take_all}
 use Rattle.record_history.specs.Held.{records_of}
-use Rattle.office_step.specs.Candidates.{fiscal_year}
+use Rattle.office_register.specs.Below.office_step.Candidates.{fiscal_year}
 use Rattle.admission_order.proofs.Counted.{SoFar, few-live, all-counted, extremely-counted, few-more, so_far-more, few-extremely}
 use Rattle.admission_order.proofs.admissions.targets_by.Goals as goal
 

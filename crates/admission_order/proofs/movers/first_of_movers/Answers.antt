@@ -1,5 +1,5 @@
 use Rattle.std.proofs.Common.{refl}
-use Rattle.office_step.specs.Candidates.{mover_of}
+use Rattle.office_register.specs.Below.office_step.Candidates.{mover_of}
 use Rattle.admission_order.specs.Turns.{is_turn}
 use Rattle.admission_order.proofs.Turn.{movers-more}
 use Rattle.admission_order.proofs.movers.first_of_movers.Goals as goal

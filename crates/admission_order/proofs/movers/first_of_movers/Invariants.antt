@@ -1,6 +1,6 @@
 use Rattle.std.specs.Prelude.{◌≡◌, filter}
 use Rattle.std.specs.List.{range_with_len, filter_map}
-use Rattle.office_step.specs.Candidates.{mover_of}
+use Rattle.office_register.specs.Below.office_step.Candidates.{mover_of}
 use Rattle.admission_order.specs.Turns.{is_turn, first_of_movers}
 use Rattle.admission_order.proofs.movers.first_of_movers.Given as goal
 

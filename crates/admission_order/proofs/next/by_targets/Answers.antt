@@ -1,6 +1,6 @@
 use Rattle.std.proofs.Common.{◌≡◌, rules}
 use Rattle.wait_list.specs.Target.{wants_extremely_low}
-use Rattle.office_step.specs.Candidates.{targets_of}
+use Rattle.office_register.specs.Below.office_step.Candidates.{targets_of}
 use Rattle.admission_order.proofs.Wanted.{either}
 use Rattle.admission_order.proofs.next.by_targets.Goals as goal
 

@@ -1,7 +1,7 @@
 use Rattle.std.proofs.Common.{◌∙◌, refl}
 use Rattle.rent_table.specs.Table.{limits_on}
 use Rattle.wait_list.specs.Target.{wants_extremely_low}
-use Rattle.office_step.specs.Candidates.{targets_of}
+use Rattle.office_register.specs.Below.office_step.Candidates.{targets_of}
 use Rattle.admission_order.proofs.Wanted.{next_by}
 use Rattle.admission_order.proofs.next.next_for.Goals as goal
 

@@ -1,7 +1,7 @@
 use Rattle.std.proofs.Common.{◌∙◌, sym, ap, ◌+◌, ℕ, Option}
 use Rattle.std.specs.Option.{option_or}
-use Rattle.office_step.specs.{declared.refusal.Refusal.Refusal, Against.plan_day, Known.own_in, Refusals.household_rent_due}
-use Rattle.office_refusals.proofs.FirstOf.{first_household-more}
+use Rattle.admission_order.specs.Below.office_step.{declared.refusal.Refusal.Refusal, Against.plan_day, Known.own_in, Refusals.household_rent_due}
+use Rattle.admission_order.proofs.Below.office_refusals.FirstOf.{first_household-more}
 use Rattle.office_acts.proofs.closing.first_rent_due.Goals as goal
 
 pub loop-place-preserved : goal.loop-place-preserved

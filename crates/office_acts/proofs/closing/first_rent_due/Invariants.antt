@@ -1,5 +1,5 @@
 use Rattle.std.specs.Prelude.{◌≡◌}
-use Rattle.office_step.specs.{Against.plan_day, Known.own_in, Refusals.household_rent_due, Refusals.first_household}
+use Rattle.admission_order.specs.Below.office_step.{Against.plan_day, Known.own_in, Refusals.household_rent_due, Refusals.first_household}
 use Rattle.office_acts.proofs.closing.first_rent_due.Given as goal
 
 abbrev pub invariant-loop-place : goal.invariant-loop-place

@@ -2,7 +2,7 @@ use Rattle.std.proofs.Common.{◌∙◌, ap, ℕ, Option}
 use Rattle.std.specs.Prelude.{option_and_then}
 use Rattle.std.specs.Option.{option_map}
 use Rattle.record_history.specs.{declared.records.Record.Record, Records.in_force}
-use Rattle.office_step.specs.{declared.refusal.Refusal.Refusal, Known.own_in}
+use Rattle.admission_order.specs.Below.office_step.{declared.refusal.Refusal.Refusal, Known.own_in}
 use Rattle.office_acts.proofs.closing.household_rent_due.Goals as goal
 
 -- the day is the same, so what is told of it is

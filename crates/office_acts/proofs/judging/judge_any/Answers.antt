@@ -1,7 +1,7 @@
 use Rattle.std.proofs.Common.{◌≡◌, ◌∙◌, ◌≤◌, sym, ap, subst}
 use Rattle.std.specs.Prelude.{IfOk, IfSome}
 use Rattle.days_core.specs.OfficeDays.{last_office_month}
-use Rattle.office_step.specs.{Known.Known, Refusals.first_of, Matter.Matter, Matter.matter_of, Made.record_in, Against.tests_on}
+use Rattle.admission_order.specs.Below.office_step.{Known.Known, Refusals.first_of, Matter.Matter, Matter.matter_of, Made.record_in, Against.tests_on}
 use Rattle.office_acts.specs.Judged.{judged_by, IsMade}
 use Rattle.office_acts.proofs.Ready.{closes_by}
 use Rattle.office_acts.proofs.judging.judge_any.Goals as goal

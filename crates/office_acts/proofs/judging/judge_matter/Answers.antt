@@ -1,5 +1,5 @@
 use Rattle.std.proofs.Common.{◌≡◌, None, rules}
-use Rattle.office_step.specs.{Against.day_range, Against.facts_rule}
+use Rattle.admission_order.specs.Below.office_step.{Against.day_range, Against.facts_rule}
 use Rattle.office_acts.specs.Matter.{matter_by}
 use Rattle.office_acts.proofs.Ready.{in_time, kept, admitted_size}
 use Rattle.office_acts.proofs.judging.judge_matter.Goals as goal

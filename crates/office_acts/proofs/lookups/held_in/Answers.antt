@@ -2,7 +2,7 @@ use Rattle.std.proofs.Common.{refl}
 use Rattle.std.specs.Prelude.{◌==◌}
 use Rattle.list_laws.proofs.Finds.{found_holds}
 use Rattle.record_history.specs.{declared.records.Record.Record, Held.IsWithin}
-use Rattle.office_register.specs.Registered.{HasDates}
+use Rattle.admission_order.specs.Below.office_register.Registered.{HasDates}
 use Rattle.office_acts.proofs.Bounds.{dates-of}
 use Rattle.office_acts.proofs.lookups.held_in.Goals as goal
 

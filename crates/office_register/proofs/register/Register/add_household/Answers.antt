@@ -1,6 +1,6 @@
 use Rattle.office_register.proofs.Words.{known_in}
 use Rattle.office_register.proofs.{Lists.place_next, Sound.sound_household, Reviewed.reviewed_household, Annuals.map_household}
-use Rattle.office_step.specs.Refusals.{annual_right}
+use Rattle.office_refusals.specs.Below.office_step.Refusals.{annual_right}
 use Rattle.office_register.proofs.register.Register.add_household.Goals as goal
 
 pub invariant_of-self : goal.invariant_of-self

@@ -1,6 +1,6 @@
 use Rattle.office_register.proofs.Words.{arith, known_in}
 use Rattle.office_register.proofs.{Sound.sound_further, Sound.newest_act_by, Lists.place_there, Reviewed.reviewed_further, Annuals.map_further}
-use Rattle.office_step.specs.Refusals.{annual_right}
+use Rattle.office_refusals.specs.Below.office_step.Refusals.{annual_right}
 use Rattle.record_history.proofs.Kept.{is_household}
 use Rattle.office_register.proofs.register.Register.hold.Goals as goal
 
