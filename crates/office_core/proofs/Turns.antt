@@ -1,5 +1,5 @@
 -- Lines that stand by closing, month and household stand in turn.
-use Rattle.std.proofs.Common.{inl, inr, ℕ, ◌<◌, ◌≤◌, arith, List, length, get_or, All}
+use Rattle.std.proofs.Common.{inl, inr, ℕ, ◌≤◌, arith, List, get_or, All}
 use Rattle.record_history.specs.Limits.{most_acts}
 use Rattle.voucher_core.specs.declared.line.Line.{Line}
 use Rattle.book_replay.specs.Below.office_laws.AtHand.{StandsBefore, StandInOrder}

@@ -1,5 +1,5 @@
 -- After any acts the lines total what was certified at the last closing.
-use Rattle.office_laws.proofs.Words.{Book, Capacity, ◌≡◌, ◌∙◌, sym, refl, subst, ℕ, ◌+◌, ◌<◌, ◌≤◌, inl, inr, arith, pos, false, ◌&&◌, List, [], ◌++◌, Option, Some, None, length, All, IfSome, if◌then◌else◌, nat_le, option_map, option_map_or, option_or, append-nil, Record, Plan, Closing, Line, closing_lines, placed, paid, none_settled, closing_settles, pays_no_other, settled_stays, Command, Closed, plan_in, Known, known_of, own_in, record_of, lines_of, next_to_close, refused_unless, Refusal, is_plan, Passed, IsReached, reached_empty, reached_more, IsOneOf, records_past, IfSome_then, nat_tests, common_steps}
+use Rattle.office_laws.proofs.Words.{eqb-true, Book, Capacity, ◌≡◌, ◌∙◌, sym, refl, subst, ℕ, ◌+◌, ◌<◌, ◌≤◌, inl, inr, arith, pos, false, ◌&&◌, List, [], ◌++◌, Option, Some, None, length, All, IfSome, if◌then◌else◌, nat_le, option_map, option_map_or, option_or, append-nil, Record, Plan, Closing, Line, closing_lines, placed, paid, none_settled, closing_settles, pays_no_other, settled_stays, Command, Closed, plan_in, Known, known_of, own_in, record_of, lines_of, next_to_close, refused_unless, Refusal, is_plan, Passed, IsReached, reached_empty, reached_more, IsOneOf, records_past, IfSome_then, nat_tests, common_steps}
 use Rattle.std.specs.Prelude.{ℤ, nat_eq}
 use Rattle.voucher_core.specs.Law.{IsSettled}
 use Rattle.std.specs.Option.{option_eq}
@@ -60,14 +60,14 @@ close_settles : (own : ℕ → List Record) (count : ℕ) → ((household : ℕ)
 close_settles own count past plan None acts there next lines right settled =
     let same : plan.first ≡ next.month = next_closed plan.first next.month None right in (
       omega arith,
-      closing_settles own count (after plan None next) 1 lines past (omega arith) (λ zero. sym same)
+      closing_settles own count (after plan None next) 1 lines past (omega arith) (λ is. sym same)
           (rw (settled, ← same) (none_settled own plan.first 0)),
     )
 close_settles own count past plan (Some closing) acts there next lines right settled =
     let same : closing.month + 1 ≡ next.month = next_closed plan.first next.month (Some closing) right in (
       omega (arith, settled.0),
       closing_settles own count (after plan (Some closing) next) 1 lines past (omega (arith, settled.0))
-          (λ zero. absurd (omega (arith, there.least))) (rw same at settled.1),
+          (λ is. (let none = eqb-true closing.act 0 is in absurd (omega (arith, none, there.least)))) (rw same at settled.1),
     )
 
 -- ---- one act more

@@ -1,7 +1,7 @@
 -- The records of every household are in order.
-use Rattle.office_laws.proofs.Words.{◌≡◌, ℕ, ◌+◌, ◌<◌, arith, true, [], ◌∷◌, ◌++◌, Some, None, All, nat_tests, All-push, Record, live_records, newest_number, changed_records, may_begin, is_out_of_order, first_out_of_order, Command, Known, known_of, own_in, change_by, record_of, Book, Capacity, IsReached, IsInOrder, HouseholdsAreInOrder, Passed, made_is_headed, numbered_push, none_above, option_map_none, common_steps, next_under}
+use Rattle.office_laws.proofs.Words.{◌≡◌, ℕ, ◌+◌, ◌<◌, arith, true, [], ◌∷◌, ◌++◌, Some, None, All, nat_tests, All-push, Record, live_records, newest_number, changed_records, may_begin, is_out_of_order, first_out_of_order, Command, Known, known_of, own_in, change_by, record_of, Book, Capacity, IsReached, IsInOrder, Passed, made_is_headed, numbered_push, none_above, option_map_none, common_steps, next_under}
 use Rattle.tenancy_rules.proofs.LiveLaws.{change_is_what_lives}
-use Rattle.office_laws.proofs.{Inversion.passes, Known.by_acts, Own.owned, Own.all_owned, Tried.Ordered, Tried.begins, Tried.judged, Tried.Tried, Tried.tried}
+use Rattle.office_laws.proofs.{Inversion.passes, Known.by_acts, Own.owned, Tried.Ordered, Tried.begins, Tried.judged, Tried.Tried, Tried.tried}
 
 -- a record that may begin is in order alone
 alone_in_order : (r : Record) → may_begin r.kind ≡ true → first_out_of_order (r ∷ []) ≡ None
@@ -47,6 +47,3 @@ own_in_order capacity =
     (let free = passes capacity book rows appends in
     owned IsInOrder (known_of book) appends.call.command free.no_such household (own household) (λ r is same.
     in_order_more (known_of book) capacity.acts rows.act.day appends.call.command r free is (own r.household))))
-
-pub households_are_in_order : HouseholdsAreInOrder
-households_are_in_order capacity book reached = all_owned IsInOrder (known_of book).households (own_in_order capacity book reached)

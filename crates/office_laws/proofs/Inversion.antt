@@ -1,5 +1,5 @@
 -- What it comes to that rows are appended.
-use Rattle.office_laws.proofs.Words.{Accepted, subst, common_steps, ◌++◌, ◌≡◌, ◌∙◌, sym, ap, ap₂, refl, ℕ, arith, true, List, [], ◌∷◌, Option, Some, None, ActRow, Batch, Book, body_of, command_in, Call, Capacity, Refusal, known_of, first_of, repeated, tests_of, first_of-around, Passed, passed, last_act_day, day_after, act_day, refusal_of, rows_for, first_step, step, again, refused, appends, done_of, option_map_or, is_fit_call, IsAppended, AppendedIsAccepted}
+use Rattle.office_laws.proofs.Words.{Accepted, subst, common_steps, ◌++◌, ◌≡◌, ◌∙◌, sym, ap, ap₂, refl, ℕ, arith, true, List, [], ◌∷◌, Option, Some, None, ActRow, Batch, Book, body_of, command_in, Call, Capacity, Refusal, known_of, first_of, repeated, tests_of, first_of-around, Passed, passed, last_act_day, day_after, act_day, rows_for, first_step, step, again, refused, appends, done_of, option_map_or, is_fit_call, IsAppended, AppendedIsAccepted}
 
 -- what is appended is neither a repeat nor refused
 pub not_refused : (book : Book) (found : Option ActRow) (against : Option Refusal) (own rows : Batch) →

@@ -1,16 +1,16 @@
 -- The lines of a book stand by closing, month and household.
-use Rattle.std.proofs.Common.{◌≡◌, ◌∙◌, sym, ap, refl, inl, inr, ℕ, zero, suc, ◌+◌, ◌-◌, ◌==◌, ◌<◌, ◌≤◌, arith, List, [], ◌∷◌, ◌++◌, Option, Some, None, length, get_or, append-nil, length-append, filter_map, All}
+use Rattle.std.proofs.Common.{◌≡◌, ◌∙◌, sym, ap, refl, inl, inr, ℕ, zero, suc, ◌+◌, ◌-◌, ◌<◌, ◌≤◌, arith, List, [], ◌∷◌, Option, Some, None, length, get_or, append-nil, length-append, filter_map, All}
 use Rattle.std.specs.Prelude.{IsSomeAnd}
 use Rattle.std.specs.Option.{option_map_or, option_or}
 use Rattle.std.proofs.lemmas.Bool.{cond_both}
 use Rattle.std.proofs.lemmas.List.{Elements.All-nil, Elements.All-append, FromFn.length-map-range_with_len}
 use Rattle.list_laws.proofs.{Elements.AllPairs-append, Pieces.all_pieces, Pieces.AllPairs-pieces, FilterMaps.filter_map_more}
 use Rattle.record_history.specs.declared.records.Record.{Record}
-use Rattle.voucher_core.specs.{declared.closing.Closing.Closing, declared.line.Line.Line, Lines.month_lines, Lines.lines_for, Lines.known_as_of, Lines.adjustment_lines, Lines.closing_lines, Lines.placed}
+use Rattle.voucher_core.specs.{declared.closing.Closing.Closing, declared.line.Line.Line, Lines.month_lines, Lines.lines_for, Lines.known_as_of, Lines.is_first, Lines.adjustment_lines, Lines.closing_lines, Lines.placed}
 use Rattle.voucher_core.proofs.{Paid.each_line, Paid.all_placed, Settled.all_earlier}
 use Rattle.book_rows.specs.{declared.rows.Batch.Batch, declared.command.Command.Command, declared.closings.CloseAct.CloseAct, Book.Book, Book.appended}
-use Rattle.office_step.specs.{declared.call.Capacity.Capacity, declared.known.Closed.Closed, Acts.Act, Acts.act_of, Acts.acts_of, Acts.name_given, Acts.applications_of, Acts.closing_of, Acts.last_in, Acts.household_count, Households.own_of, Known.known_of, Known.own_in, Made.closing_by, Made.lines_of, Step.IsAppended, Step.IsReached, Step.reached_empty, Step.reached_more}
-use Rattle.office_laws.proofs.{Inversion.accepted, Inversion.passes, Makes.lines_name_month, Reached.acts_appended, Reached.act_made, Reached.books_are_kept, Reached.plan_there, Conserved.next_closed, Lists.last_in-append}
+use Rattle.office_step.specs.{declared.call.Capacity.Capacity, declared.known.Closed.Closed, Acts.act_of, Acts.acts_of, Acts.name_given, Acts.applications_of, Acts.closing_of, Acts.last_in, Acts.household_count, Households.own_of, Known.known_of, Known.own_in, Made.closing_by, Step.IsAppended, Step.IsReached, Step.reached_empty, Step.reached_more}
+use Rattle.office_laws.proofs.{Inversion.accepted, Inversion.passes, Makes.lines_name_month, Reached.acts_appended, Reached.act_made, Reached.plan_there, Conserved.next_closed, Lists.last_in-append}
 use Rattle.office_laws.specs.AtHand.{StandsBefore, StandInOrder, LinesStandInOrder, LinesNameHouseholds}
 
 -- ---- the lines of one closing
@@ -54,7 +54,7 @@ module _ (own : ℕ → List Record) (count : ℕ) (closing : Closing) where
   adjustments_in_order =
       let old = known_as_of own closing.last_close in
       let new = known_as_of own closing.act in
-      cond_both (closing.last_close == 0) _ _ StandInOrder (λ _ i j d before within. absurd (omega arith))
+      cond_both (is_first closing) _ _ StandInOrder (λ _ i j d before within. absurd (omega arith))
       (λ _. AllPairs-pieces (λ (l : Line). l.for_month) (λ l. IsOfClosing l) StandsBefore (lines_for old new count closing) (λ month. month_is old new month)
       (λ a b of_a of_b less. earlier_months a b of_a.0 of_b.0 less)
       (λ month. month_in_order old new month) closing.first_month (closing.closed - closing.first_month))

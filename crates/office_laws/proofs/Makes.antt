@@ -1,5 +1,5 @@
 -- The record of an act names it and a household that is there, or the next; and its lines name it.
-use Rattle.office_laws.proofs.Words.{◌≡◌, ℕ, zero, suc, ◌+◌, ◌<◌, arith, List, [], ◌∷◌, Option, Some, None, length, All, slice_index_or, All-nil, All-append, Record, Plan, Closing, Line, month_lines, known_as_of, lines_for, adjustment_lines, closing_lines, placed, Command, Known, own_in, record_of, closing_by, lines_of, option_map_or, made_is_headed, all_earlier, refl, names_given, no_such, Matter, matter_of, are_there, household_there, IsHeaded, of_household, IsOneOf, next_under}
+use Rattle.office_laws.proofs.Words.{◌≡◌, ℕ, zero, suc, ◌+◌, ◌<◌, arith, List, [], ◌∷◌, Some, None, length, All, slice_index_or, All-nil, All-append, Record, Plan, Closing, Line, month_lines, known_as_of, lines_for, adjustment_lines, closing_lines, placed, Command, Known, own_in, record_of, closing_by, lines_of, option_map_or, made_is_headed, all_earlier, refl, names_given, no_such, Matter, matter_of, are_there, household_there, IsHeaded, of_household, IsOneOf, next_under}
 use Rattle.list_laws.proofs.Pieces.{all_pieces}
 use Rattle.voucher_core.proofs.Paid.{each_line, all_placed}
 

@@ -1,11 +1,11 @@
 -- What every book of an office upholds, of all that it holds.
-use Rattle.office_laws.proofs.Words.{Done, again, subst, ◌≤◌, All-nil, IsLater, get_or_default, option_or, Plan, ◌≡◌, ◌∙◌, sym, ap, refl, ℕ, ◌+◌, ◌<◌, arith, true, ◌==◌, List, [], ◌∷◌, ◌++◌, Option, Some, option_map_or, IfSome, length, All, Contains, get_or, option_to_list, append-nil, eq-eqb, All-contains, Contains-push, filter_map_more, places_push, option_map_none, option_or-none, Record, as_of, Line, ActRow, Batch, Book, appended, CloseAct, Command, command_in, Capacity, acts_of, plan_in, plan_of, closing_of, Closed, last_in, known_of, own_in, last_close, closing_by, is_plan, IsAppended, IsReached, reached_empty, reached_more, Past, RowsCameByActs}
+use Rattle.office_laws.proofs.Words.{Done, again, subst, ◌≤◌, All-nil, IsLater, option_or, Plan, ◌≡◌, ◌∙◌, sym, ap, refl, ℕ, ◌+◌, ◌<◌, arith, true, ◌==◌, List, [], ◌∷◌, ◌++◌, Option, Some, option_map_or, IfSome, length, All, Contains, get_or, option_to_list, append-nil, eq-eqb, All-contains, Contains-push, filter_map_more, places_push, option_map_none, option_or-none, Record, as_of, Line, ActRow, Batch, Book, appended, CloseAct, Command, command_in, Capacity, acts_of, plan_in, plan_of, closing_of, Closed, last_in, known_of, own_in, last_close, closing_by, is_plan, IsAppended, IsReached, reached_empty, reached_more, Past, RowsCameByActs}
 use Rattle.std.proofs.Common.{subst₂}
 use Rattle.std.proofs.lemmas.List.Elements.{All-contains_itself}
 use Rattle.list_laws.proofs.Filters.{All-passing}
 use Rattle.voucher_core.specs.Naming.{NamesItsPair, NameTheirPairs}
-use Rattle.office_laws.specs.{Conserved.LinesTotalWhatIsDue, Taken.NextIsTaken, Taken.TakesNext, Tenancy.NoUnitIsShared, Terms.MeetsTerms, Upheld.BooksAreUpheld, Closing.ClosingsNameTheirPairs, InPlace.book_before, InPlace.rows_by, InPlace.IsInPlace, Upheld.NamesItsRecords, Upheld.closings_of, Upheld.FollowFrom, Upheld.HasRentsDone, Upheld.AnswersAgain}
-use Rattle.office_laws.proofs.{Inversion.accepted, Inversion.passes, Makes.lines_name_month, Reached.acts_appended, Reached.act_made, Reached.books_are_kept, Reached.batches_follow, Reached.plan_there, Grown.plan-more, Known.unplanned, Replies.still_there, Replies.replies_stay, Replies.repeats_are_answered, InPlace.acts_are_in_place, InPlace.of_each_act, Conserved.next_closed, RentsDone.rents_are_done_at_closings, InOrder.households_are_in_order, Terms.acts_meet_their_terms}
+use Rattle.office_laws.specs.{Allowed.IsAllowed, Conserved.LinesTotalWhatIsDue, Taken.NextIsTaken, Taken.TakesNext, Tenancy.NoUnitIsShared, Terms.MeetsTerms, Upheld.BooksAreUpheld, Closing.ClosingsNameTheirPairs, InPlace.book_before, InPlace.rows_by, InPlace.IsInPlace, Upheld.NamesItsRecords, Upheld.closings_of, Upheld.FollowFrom, Upheld.HasRentsDone, Upheld.AnswersAgain, Certifies.CertifiesRightly}
+use Rattle.office_laws.proofs.{Allowed.acts_are_allowed, Inversion.accepted, Inversion.passes, Makes.lines_name_month, Reached.acts_appended, Reached.act_made, Reached.books_are_kept, Reached.batches_follow, Reached.plan_there, Grown.plan-more, Known.unplanned, Replies.still_there, Replies.replies_stay, Replies.repeats_are_answered, InOrder.own_in_order, Pairs.NamesItsPairs, Pairs.in_plain_facts, InPlace.acts_are_in_place, InPlace.of_each_act, Conserved.next_closed, RentsDone.rents_are_done_at_closings, Requests.last_of, Requests.requests_are_last, Placed.households_are_in_order, Terms.acts_meet_their_terms, CertifiedActs.records_certify_rightly, CertifiedWaiting.those_wait_who_applied}
 
 -- ---- lines
 
@@ -19,7 +19,7 @@ names_it : (book : Book) (row : ActRow) (month : ℕ) → Contains book.acts row
     (l.for_month < month → NamesItsPair (its_own book l) (as_of (last_close (known_of (book_before book row.n))) (its_own book l)) (as_of row.n (its_own book l)) l) →
     (l.for_month ≡ month → l.old ≡ 0) →
     (l.for_month ≡ month → NamesItsPair (its_own book l) [] (as_of row.n (its_own book l)) l) →
-    NamesItsRecords book l
+    NamesItsPairs book l
 names_it book row month there reads l (of_act, of_month) months earlier none_before closed = record {
   closing = record { row = row; there = there; is = sym of_act; reads = subst (λ (m : ℕ). command_in row.body ≡ Some (Command.Close (record { month = m }))) (sym of_month) reads };
   months = omega (arith, of_month, months);
@@ -39,13 +39,13 @@ module _ (capacity : Capacity) (found : Book) (rows : Batch) (reached : IsReache
 
   -- the lines of an act name their records, by each book that comes later, where the act found these there
   lines_name : ClosingsNameTheirPairs → (book : Book) → Contains book.acts rows.act → found ≡ book_before book rows.act.n →
-      IsLater capacity (appended found rows) book → All (NamesItsRecords book) rows.lines
+      IsLater capacity (appended found rows) book → All (NamesItsPairs book) rows.lines
   lines_name pairs book there is later = by_command appends.call.command refl
     where
-      none : rows.lines ≡ [] → All (NamesItsRecords book) rows.lines
-      none no_lines = rw no_lines (All-nil (NamesItsRecords book))
+      none : rows.lines ≡ [] → All (NamesItsPairs book) rows.lines
+      none no_lines = rw no_lines (All-nil (NamesItsPairs book))
 
-      by_command : (asked : Command) → appends.call.command ≡ asked → All (NamesItsRecords book) rows.lines
+      by_command : (asked : Command) → appends.call.command ≡ asked → All (NamesItsPairs book) rows.lines
       by_command (Command.Close close) closes =
           let named = pairs capacity found rows reached appends close closes book later in
           let its : NameTheirPairs (own_in (known_of book)) (closing_by (known_of (book_before book rows.act.n)) close named.0 rows.act.n) rows.lines =
@@ -57,7 +57,7 @@ module _ (capacity : Capacity) (found : Book) (rows : Batch) (reached : IsReache
 
 module _ (came : RowsCameByActs) (pairs : ClosingsNameTheirPairs) (capacity : Capacity) (book : Book) (reached : IsReached capacity book) where
   -- a line is of one of the book's acts, and so one of those that the act made
-  names : (l : Line) → Contains book.lines l → NamesItsRecords book l
+  names : (l : Line) → Contains book.lines l → NamesItsPairs book l
   names l there =
       let past : Past capacity book = ((came capacity book reached).lines l there).0 in
       let row : ActRow = past.rows.act in
@@ -67,19 +67,17 @@ module _ (came : RowsCameByActs) (pairs : ClosingsNameTheirPairs) (capacity : Ca
       All-contains (λ line. line.act ≡ row.n) past.rows.lines l (batches_follow capacity past.earlier past.rows past.reached past.appends).0.lines
       ((came capacity book reached).lines l there).1 in
       let place : IsInPlace capacity book row = acts_are_in_place capacity book reached row its_act in
-      All-contains (λ line. (line.act == row.n) ≡ true → NamesItsRecords book line) book.lines l
-      (All-passing (λ (line : Line). line.act == row.n) (NamesItsRecords book) book.lines
+      All-contains (λ line. (line.act == row.n) ≡ true → NamesItsPairs book line) book.lines l
+      (All-passing (λ (line : Line). line.act == row.n) (NamesItsPairs book) book.lines
       (lines_name capacity (book_before book row.n) (rows_by book row) place.reached place.appends pairs book its_act refl place.later))
       there (eq-eqb l.act row.n is)
 
   pub lines_named : All (NamesItsRecords book) book.lines
-  lines_named = λ k d within. names (get_or book.lines k d) (All-contains_itself book.lines k d within)
+  lines_named = λ k d within.
+      in_plain_facts book (get_or book.lines k d) (own_in_order capacity book reached (get_or book.lines k d).household).numbered
+      (names (get_or book.lines k d) (All-contains_itself book.lines k d within))
 
 -- ---- closings
-
-last_of : {X : Type 0} (x : X) (xs : List X) → last_in (x ∷ xs) ≡ Some (get_or (x ∷ xs) (length xs) x)
-last_of x [] = refl
-last_of x (next ∷ xs) = last_of next xs ∙ ap (λ (y : _). Some y) (get_or_default (next ∷ xs) (length xs) next x (omega arith))
 
 -- closings that follow each other come to the month before the next
 next_of : (first : ℕ) (closings : List Closed) → FollowFrom first closings → option_map_or (λ closing. closing.month + 1) (last_in closings) first ≡ first + length closings
@@ -138,7 +136,11 @@ books_are_upheld came pairs totals apart taken capacity book reached = record {
   rents = of_each_act (λ known rows asked. HasRentsDone known asked) capacity (rents_done capacity) book reached;
   order = households_are_in_order capacity book reached;
   apart = apart capacity book reached;
+  requests = requests_are_last capacity book reached;
   next = of_each_act (λ known rows asked. TakesNext known asked) capacity (taken capacity) book reached;
+  allowed = of_each_act (IsAllowed capacity.acts) capacity (acts_are_allowed capacity) book reached;
   terms = of_each_act MeetsTerms capacity (acts_meet_their_terms capacity) book reached;
+  certified = of_each_act CertifiesRightly capacity (records_certify_rightly capacity) book reached;
+  waiting = those_wait_who_applied book;
   replies = answers_again capacity book reached;
 }

@@ -43,4 +43,5 @@ unfoldable pub use Rattle.tenancy_rules.specs.Order.{is_out_of_order}
 pub use Rattle.voucher_core.proofs.Settled.{none_settled, closing_settles, pays_no_other, settled_stays, all_earlier, known_stays}
 pub use Rattle.voucher_core.specs.{Lines.closing_lines, Lines.placed, Lines.paid, Lines.month_lines, Lines.known_as_of, Lines.lines_for, Lines.adjustment_lines, declared.closing.Closing.Closing, declared.line.Line.Line}
 pub use Rattle.wait_list.specs.{declared.applicant.Applicant.Applicant, declared.ask.Candidate.Candidate, Waiting.is_listed}
-pub use Rattle.office_laws.specs.{Accepted.Accepted, Accepted.AppendedIsAccepted, Tenancy.IsInOrder, Tenancy.HouseholdsAreInOrder, AtHand.made_now, AtHand.UnitReplies, Closing.KnownAsOfStays, Closing.HasItsRents, Closing.RentsAreDoneAtClosings, History.later_same, History.later_more, History.Past, History.CameByActs, History.RowsCameByActs, History.IsLater, Kept.IsOneOf, Kept.AreActs, Kept.NamesOnlyThose, Kept.IsOfOffice, Kept.Kept, Kept.BooksAreKept, Kept.BatchesFollow}
+pub use Rattle.office_laws.specs.{Accepted.Accepted, Accepted.AppendedIsAccepted, AtHand.made_now, AtHand.UnitReplies, Closing.KnownAsOfStays, Closing.HasItsRents, Closing.RentsAreDoneAtClosings, History.later_same, History.later_more, History.Past, History.CameByActs, History.RowsCameByActs, History.IsLater, Kept.IsOneOf, Kept.AreActs, Kept.NamesOnlyThose, Kept.IsOfOffice, Kept.Kept, Kept.BooksAreKept, Kept.BatchesFollow}
+pub use Rattle.office_laws.proofs.Judged.{IsInOrder}

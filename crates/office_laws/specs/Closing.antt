@@ -1,9 +1,8 @@
 -- What holds at each closing.
-use Rattle.std.specs.Prelude.{◌≡◌, ◌≤◌, ℕ, false, Some, IfSome, length}
+use Rattle.std.specs.Prelude.{◌≡◌, ◌≢◌, ◌≤◌, ℕ, Some, IfSome, length, Contains}
 use Rattle.days_core.specs.Calendar.{first_of as first_day_of, last_of as last_day_of}
-use Rattle.record_history.specs.Records.{as_of, in_force}
-use Rattle.rent_table.specs.declared.plan.Plan.{Plan}
-use Rattle.due_dates.specs.Stale.{ends_assistance, unit_rents_on}
+use Rattle.record_history.specs.{declared.records.Kind.Kind, declared.records.Record.Record, Law.IsInForceOn, Records.as_of}
+use Rattle.rent_table.specs.{declared.plan.Plan.Plan, declared.rows.RentRow.RentRow, declared.rows.Unit.Unit as UnitRow, Standing.SetsRentsOn}
 use Rattle.voucher_core.specs.Naming.{NameTheirPairs}
 use Rattle.book_rows.specs.{declared.rows.Batch.Batch, declared.closings.CloseAct.CloseAct, Book.Book, Book.appended, declared.command.Command.Command}
 use Rattle.office_step.specs.{declared.call.Capacity.Capacity, Known.Known, Known.known_of, Known.own_in, Made.closing_by, Step.IsAppended, Step.IsReached}
@@ -23,13 +22,21 @@ ClosingsNameTheirPairs = (capacity : Capacity) (book : Book) (rows : Batch) → 
     (plan : Plan) × ((known_of book).plan ≡ Some plan)
     × NameTheirPairs (own_in (known_of later)) (closing_by (known_of book) close plan rows.act.n) rows.lines
 
+-- the record's rents are those of its unit on the day: they stand then for the unit's group
+pub record HasRentsOfItsUnit (known : Known) (day : ℕ) (r : Record) : Type 0 where
+  pub unit : UnitRow
+  pub row : RentRow
+  pub held : Contains known.units unit
+  pub numbered : unit.number ≡ r.unit
+  pub sets : SetsRentsOn known.rents unit.group day row
+  pub same : row.rents ≡ r.rents
+
 -- on each day from the plan's first through the month's last, a record in force that is neither a move-out nor a
 -- termination has the rents that its unit has on that day
 abbrev pub HasItsRents : Known → ℕ → Plan → Type 0
 HasItsRents known month plan =
-    (household day : ℕ) → first_day_of plan.first ≤ day → day ≤ last_day_of month →
-    IfSome (in_force (own_in known household) day) (λ r.
-    ends_assistance r.kind ≡ false → unit_rents_on known.units known.rents r.unit day ≡ Some r.rents)
+    (household day : ℕ) (r : Record) → first_day_of plan.first ≤ day → day ≤ last_day_of month →
+    IsInForceOn (Contains (own_in known household)) day r → r.kind ≢ Kind.MO → r.kind ≢ Kind.TM → HasRentsOfItsUnit known day r
 
 -- so at each closing
 abbrev pub RentsAreDoneAtClosings : Type 0

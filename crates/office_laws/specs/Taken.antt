@@ -1,22 +1,24 @@
 -- Whom admissions and transfers take.
-use Rattle.std.specs.Prelude.{◌≡◌, ⊤, ℕ, false, Some, None}
-use Rattle.rent_table.specs.{declared.plan.Plan.Plan, declared.rows.Unit.Unit as UnitRow, Table.unit_at, Table.limits_on}
-use Rattle.wait_list.specs.{declared.ask.Candidate.Candidate, Next.next_candidate, RightfulNext.IsRightAnswer}
+use Rattle.std.specs.Prelude.{◌≡◌, ⊤, ℕ, Some, Contains}
+use Rattle.rent_table.specs.{declared.plan.Plan.Plan, declared.rows.Unit.Unit as UnitRow}
+use Rattle.wait_list.specs.{declared.ask.Candidate.Candidate, declared.targets.Targets.Targets, Next.Asked, RightfulNext.IsRightAnswer}
 use Rattle.book_rows.specs.{declared.rows.Batch.Batch, declared.command.Command.Command, declared.household.HouseholdChange.HouseholdChange, Book.Book}
-use Rattle.office_step.specs.{declared.call.Capacity.Capacity, Known.Known, Known.known_of, Candidates.asked_of, Candidates.targets_of, Step.IsAppended, Step.IsReached}
+use Rattle.office_step.specs.{declared.call.Capacity.Capacity, Known.Known, Known.known_of, Step.IsAppended, Step.IsReached}
+use Rattle.office_laws.specs.{Movers.IsAsked, Targets.AreCounted}
 
--- there are a plan and the unit, and the candidate is next for the unit on the day, and rightly so: by the persons and incomes
--- of those who wait, by ranks and acts, and by the admissions of the fiscal year
+-- there are a plan and the unit, and by what is asked about the unit on the day the candidate is rightly next: by the persons
+-- and incomes of those who wait, by ranks and acts, by who would move, and by the admissions of the fiscal year
 pub record IsNextFor (known : Known) (unit day : ℕ) (candidate : Candidate) : Type 0 where
   pub plan : Plan
   pub row : UnitRow
+  pub asked : Asked
+  pub targets : Targets
   pub is_plan : known.plan ≡ Some plan
-  pub is_unit : unit_at known.units unit ≡ Some row
-  pub is_next : next_candidate (asked_of plan row day (limits_on known.limits day) known.requests known.households) known.waiting ≡ Some candidate
-  pub rightly : IsRightAnswer (targets_of plan day known.households) (asked_of plan row day (limits_on known.limits day) known.requests known.households)
-      known.waiting (Some candidate)
-  -- no household would move for features that the unit hasn't
-  pub none_in_need : row.accessible ≡ false → (asked_of plan row day (limits_on known.limits day) known.requests known.households).needing ≡ None
+  pub held : Contains known.units row
+  pub numbered : row.number ≡ unit
+  pub is_asked : IsAsked known plan row day asked
+  pub counted : AreCounted known plan day targets
+  pub rightly : IsRightAnswer targets asked known.waiting (Some candidate)
 
 -- an admission takes the applicant, and a transfer the household, that is next for its unit on its first day
 abbrev pub TakesNextBy : Known → ℕ → HouseholdChange → Type 0

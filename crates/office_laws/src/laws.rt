@@ -10,6 +10,7 @@ ghost use Rattle.office_laws.specs.Replies.{RepliesStay, RepeatsAreAnswered, Fir
 ghost use Rattle.office_laws.specs.Tenancy.{HouseholdsAreInOrder, NoUnitIsShared};
 ghost use Rattle.office_laws.specs.Taken.{NextIsTaken};
 ghost use Rattle.office_laws.specs.Terms.{ActsMeetTheirTerms};
+ghost use Rattle.office_laws.specs.Certifies.{RecordsCertifyRightly};
 ghost use Rattle.office_laws.specs.Conserved.{LinesAreSettled, LinesTotalWhatIsDue};
 ghost use Rattle.office_laws.specs.Closing.{KnownAsOfStays, ClosingsNameTheirPairs, RentsAreDoneAtClosings};
 ghost use Rattle.office_laws.specs.After.{KnownAfter};
@@ -67,6 +68,13 @@ pub fn acts_meet_their_terms()
     ensures { ActsMeetTheirTerms }
 {}
 
+/// The record of each act has its unit's rents on its first day and splits them; its payment is the least that covers the
+/// four; persons and family are by its facts; a gross rent change and a transfer carry over what was certified; and a
+/// move-in tells extremely low income by the limits of its first day. It does nothing.
+pub fn records_certify_rightly()
+    ensures { RecordsCertifyRightly }
+{}
+
 /// After any acts the lines of every household and month total what was certified for it at the last closing. It does
 /// nothing.
 pub fn lines_total_what_is_due()
@@ -110,8 +118,8 @@ pub fn acts_are_in_place()
 
 /// What every book of an office upholds: its lines total what is certified and name their records; its closings follow each
 /// other, each with rents done; its households' records are in order, and no two have one unit; each admission and each
-/// transfer took the candidate who was next; each act met its terms; and its call gets its first reply again. It does
-/// nothing.
+/// transfer took the candidate who was next; no cause stood against an act, each met its terms, and its call gets its first
+/// reply again. It does nothing.
 pub fn books_are_upheld()
     ensures { BooksAreUpheld }
 {

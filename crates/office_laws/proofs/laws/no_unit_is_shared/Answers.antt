@@ -5,6 +5,7 @@ use Rattle.tenancy_rules.proofs.UseLaws.{no_unit_has_two}
 use Rattle.office_laws.proofs.{Dated.begin_in_time, Dated.unit_past, Inversion.passes, Known.next, Known.by_acts, Own.owned, Unit.moved_out_had, Unit.kept_had}
 use Rattle.office_laws.proofs.Lived.{lived, lives_more, rises}
 use Rattle.office_laws.proofs.Tried.{Placed, taken_by_none, moved_out, kept, tried}
+use Rattle.office_laws.proofs.Placed.{has_it}
 use Rattle.office_laws.proofs.InOrder.{own_in_order, in_order_more, live_changed}
 use Rattle.office_laws.proofs.laws.no_unit_is_shared.Goals as goal
 
@@ -66,10 +67,19 @@ apart_in_time capacity =
 
 -- ---- and on no later day
 
-pub returns : goal.returns
-returns c capacity book reached one other day unit differs on taken = elim (cases_lt last_office_day day) [
+judged_apart : (capacity : Capacity) (book : Book) → IsReached capacity book → (one other day unit : ℕ) → one ≢ other →
+    Has day unit (own_in (known_of book) one) → Has day unit (own_in (known_of book) other) → ⊥
+judged_apart capacity book reached one other day unit differs on taken = elim (cases_lt last_office_day day) [
   | inr by ↦ apart_in_time capacity book reached one other day unit differs by on taken
   | inl past ↦ apart_in_time capacity book reached one other last_office_day unit differs (omega arith)
       (sym (unit_past (own_in (known_of book) one) day (begin_in_time capacity book reached one) (omega arith)) ∙ on)
       (sym (unit_past (own_in (known_of book) other) day (begin_in_time capacity book reached other) (omega arith)) ∙ taken)
 ]
+
+-- ---- in plain facts
+
+pub returns : goal.returns
+returns c capacity book reached one other day unit differs on taken =
+    judged_apart capacity book reached one other day unit differs
+    (has_it (own_in (known_of book) one) (own_in_order capacity book reached one) day unit on)
+    (has_it (own_in (known_of book) other) (own_in_order capacity book reached other) day unit taken)
