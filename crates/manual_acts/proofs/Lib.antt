@@ -1,0 +1,12 @@
+pub mod Days
+pub mod Dates
+pub mod Tests
+pub mod Goes
+pub mod Steps
+pub mod Apart
+pub mod Rents
+pub mod Settled
+pub mod Rightful
+pub mod ByMonths
+pub mod page
+pub mod year

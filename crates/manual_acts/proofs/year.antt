@@ -1,0 +1,5 @@
+pub mod Known
+pub mod Acts
+pub mod Closings
+pub mod LaterClosings
+pub mod Reached
