@@ -1,5 +1,5 @@
 -- What a query leaves outside a transaction, and what was read of its rows so far.
-use Rattle.std.proofs.Common.{◌≡◌, ◌⊎◌, ℕ, List, [], ◌∷◌, ◌++◌, map, false, Option, Some, None, Ok, Err, Result, IsTrue, sym, refl, ap, ap₂, subst, ◌∙◌, inl, inr}
+use Rattle.std.proofs.Common.{◌≡◌, ◌⊎◌, ℕ, List, [], ◌∷◌, ◌++◌, false, Option, Some, None, Ok, Err, Result, OnOk, IsTrue, sym, refl, ap, subst, ◌∙◌, inl, inr}
 use Rattle.sqlite.specs.Order.{Row}
 use Rattle.sqlite.specs.Tree.{Trees}
 use Rattle.sqlite_trees.specs.declared.store.Store.{Ghosts}
@@ -10,12 +10,18 @@ use Rattle.sqlite_resolve.specs.declared.error.CompileError.{CompileError}
 use Rattle.sqlite.specs.Effect.{Database}
 use Rattle.sqlite.specs.Held.{Held, state}
 use Rattle.sqlite.specs.Given.{Returns, HasGiven, HasBegun, Advances}
-use Rattle.sqlite.specs.State.{State, IsUnchanged, IsRolledBack, IsNotRun, Fails, FailsToQuery, FailsToShow, Shown, Survives, CommitsShowing}
+use Rattle.sqlite.specs.State.{State, IsUnchanged, IsRolledBack, IsNotRun, Fails, FailsToQuery, FailsToShow, Survives, CommitsShowing}
 use Rattle.sqlite.proofs.StateLemmas.{survives_weaker}
 use Rattle.sqlite.proofs.Callers.{unchanged_then}
-use Rattle.store_sql.specs.Schema.{book_schema}
 use Rattle.store_write.specs.Effects.{Undoes}
-use Rattle.store_read.specs.Asking.{Asks, AreShown, OnlyReads}
+use Rattle.store_sql.specs.Tables.{Table, select_text}
+use Rattle.store_sql.specs.Schema.{HasTables}
+use Rattle.store_sql.specs.Trees.{Lists}
+use Rattle.store_read.specs.Asking.{Asks, AreShown, OnlyReads, ShowsTable}
+
+pub whenever : {A E Q : Type 0} (r : Result A E) → Q → OnOk r Q
+whenever (Ok a) q = q
+whenever (Err e) q = tt
 
 -- ---- a query that is refused
 
@@ -76,55 +82,28 @@ returns_none : (r : Result Compiled CompileError) → ((c : Compiled) → r ≡ 
 returns_none (Ok c) reads some = absurd (let e = rw (reads c refl) at some in cc)
 returns_none (Err e) reads some = some
 
-module _ {S : Type 0} (g : Ghosts S) {X : Type 0} (values : X → Row) (sql : List ℕ) where
-  -- some rows were given, and each was read as what it shows
-  pub record HasReadAs (old now : Held S) (read : List X) : Type 0 where
-    pub given : List Row
-    pub gave : HasGiven g sql [] now given
+module _ {S : Type 0} (g : Ghosts S) (sql : List ℕ) where
+  -- these rows were given, and nothing changed
+  pub record HasRead (old now : Held S) (read : List Row) : Type 0 where
+    pub gave : HasGiven g sql [] now read
     pub same : IsUnchanged (state g old) (state g now)
-    pub reads : (known : List X) → given ≡ map values known → read ≡ known
 
-  no_rows : (known : List X) → [] ≡ map values known → [] ≡ known
-  no_rows [] e = refl
-  no_rows (x ∷ xs) e = absurd (cc)
-
-  pub begins : (old now : Held S) → OnlyReads sql → HasBegun g sql [] old now → HasReadAs old now []
-  begins old now only (inl h) = record { given = []; gave = h.0; same = h.1; reads = no_rows }
+  pub begins : (old now : Held S) → OnlyReads sql → HasBegun g sql [] old now → HasRead old now []
+  begins old now only (inl h) = record { gave = h.0; same = h.1 }
   begins old now only (inr h) = absurd (returns_none _ (only old.schema) h.0)
 
-  -- the last of some rows, and those before it
-  split : (rows : List Row) (row : Row) (known : List X) → rows ++ row ∷ [] ≡ map values known → (first : List X) × (last : X) × (known ≡ first ++ last ∷ []) × (rows ≡ map values first) × (row ≡ values last)
-  split [] row [] e = absurd (cc)
-  split [] row (x ∷ []) e = ([], x, refl, refl, (cc))
-  split [] row (x ∷ y ∷ ys) e = absurd (cc)
-  split (r ∷ rows) row [] e = absurd (cc)
-  split (r ∷ rows) row (x ∷ xs) e =
-      let here : r ≡ values x = cc in
-      let later : rows ++ row ∷ [] ≡ map values xs = cc in
-      let more = split rows row xs later in
-      (x ∷ more.0, more.1, ap (λ l. x ∷ l) more.2, ap₂ (λ y l. y ∷ l) here more.3, more.4)
-
-  pub reads_more : (old mid now : Held S) (read : List X) (row : Row) (item : X) → HasReadAs old mid read → Advances g mid now (Some row) → IsUnchanged (state g mid) (state g now)
-      → ((x : X) → row ≡ values x → item ≡ x) → HasReadAs old now (read ++ item ∷ [])
-  reads_more old mid now read row item h on same one = record {
-    given = h.given ++ row ∷ [];
-    gave = on sql [] h.given h.gave;
-    same = unchanged_then (state g old) (state g mid) (state g now) h.same same;
-    reads = λ known are. let parts = split h.given row known are in ap₂ (λ l x. l ++ x ∷ []) (h.reads parts.0 parts.3) (one parts.1 parts.4) ∙ sym parts.2;
-  }
+  pub reads_more : (old mid now : Held S) (read : List Row) (row : Row) → HasRead old mid read → Advances g mid now (Some row) → IsUnchanged (state g mid) (state g now) → HasRead old now (read ++ row ∷ [])
+  reads_more old mid now read row h on same = record { gave = on sql [] read h.gave; same = unchanged_then (state g old) (state g mid) (state g now) h.same same }
 
   -- the rows that were given are all
-  pub reads_all : (old mid now : Held S) (read : List X) → HasReadAs old mid read → Advances g mid now None → IsUnchanged (state g mid) (state g now) → AreShown g values sql read old now
-  reads_all old mid now read h on same =
-      record { shown = h.given; last = mid; all = on sql [] h.given h.gave; before = h.same; after = same; reads = h.reads }
+  pub reads_all : (old mid now : Held S) (read : List Row) → HasRead old mid read → Advances g mid now None → IsUnchanged (state g mid) (state g now) → AreShown g sql read old now
+  reads_all old mid now read h on same = record { last = mid; all = on sql [] read h.gave; before = h.same; after = same }
 
-  -- and of a book's file, they are the table's
-  pub asks : (are : Trees → List X → Type 0) (old new : Held S) (read : List X) → AreShown g values sql read old new
-      → ((last now : State) (rows : List Row) → last.now.schema ≡ book_schema → Shown sql [] last now rows → ((known : List X) → rows ≡ map values known → read ≡ known) → are last.now.trees read)
-      → Asks are read (state g old) (state g new)
-  asks are old new read h shows has =
-      let as_was = h.before.0.now_is in
-      let mine = ap (λ (d : Database). d.schema) as_was ∙ has in (
-        subst (λ (d : Database). are d.trees read) as_was (shows (state g h.last) (state g new) h.shown mine h.all h.reads),
-        h.after.0.now_is ∙ as_was,
-      )
+-- and of a book's file, they are the table's
+pub asks : {S A : Type 0} (g : Ghosts S) (t : Table A) (old new : Held S) (read : List Row) → AreShown g (select_text t) read old new → ShowsTable g t → Asks t read (state g old) (state g new)
+asks g t old new read h shows has =
+    let as_was = h.before.0.now_is in
+    let mine = subst (λ (d : Database). HasTables d.schema) (sym as_was) has in (
+      λ listed lists. shows h.last new read listed mine h.all (subst (λ (d : Database). Lists t d.trees listed) (sym as_was) lists),
+      h.after.0.now_is ∙ as_was,
+    )

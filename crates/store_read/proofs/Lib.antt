@@ -1,5 +1,3 @@
-mod Results
 mod Texts
 mod Asked
-mod Read
 mod Refused

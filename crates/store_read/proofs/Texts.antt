@@ -15,7 +15,8 @@ use Rattle.sqlite.specs.{Outline.Outline, Steps.Outlines}
 use Rattle.store_sql.specs.Schema.{no_schema}
 use Rattle.store_sql.proofs.Meanings.{select_acts_lacks}
 use Rattle.store_read.specs.Asking.{OnlyReads}
-use Rattle.store_sql.specs.Texts.{select_acts, select_records, select_lines}
+use Rattle.store_sql.specs.Tables.{select_text}
+use Rattle.store_sql.specs.Columns.{acts, records, lines}
 
 -- whatever it says of tables, it has no RETURNING
 abbrev ReturnsNothing : Checked Parsed → Type 0
@@ -71,27 +72,27 @@ understood_plain text reads schema c h =
     either (reads_listing schema text) (if_select (compiled listing_schema text)) (compiled schema text) c h
     (λ e. compiled_plain listing_schema text reads c (selected _ c e)) (compiled_plain schema text reads c)
 
-acts_return : ReturnsNothing (first select_acts)
+acts_return : ReturnsNothing (first (select_text acts))
 unfolding everything
 acts_return = λ schema base. refl
 
-records_return : ReturnsNothing (first select_records)
+records_return : ReturnsNothing (first (select_text records))
 unfolding everything
 records_return = λ schema base. refl
 
-lines_return : ReturnsNothing (first select_lines)
+lines_return : ReturnsNothing (first (select_text lines))
 unfolding everything
 lines_return = λ schema base. refl
 
-pub acts_only_read : OnlyReads select_acts
-acts_only_read = understood_plain select_acts acts_return
+pub acts_only_read : OnlyReads (select_text acts)
+acts_only_read = understood_plain (select_text acts) acts_return
 
-pub records_only_read : OnlyReads select_records
-records_only_read = understood_plain select_records records_return
+pub records_only_read : OnlyReads (select_text records)
+records_only_read = understood_plain (select_text records) records_return
 
-pub lines_only_read : OnlyReads select_lines
-lines_only_read = understood_plain select_lines lines_return
+pub lines_only_read : OnlyReads (select_text lines)
+lines_only_read = understood_plain (select_text lines) lines_return
 
 -- an empty file has no acts to prepare a query on
-pub lacks : (schema : Schema) (o : Outline) → schema ≡ no_schema → Outlines (understood schema select_acts) o → ⊥
-lacks schema o none shaped = rw (none, select_acts_lacks) at shaped
+pub lacks : (schema : Schema) (sql : List ℕ) (o : Outline) → sql ≡ select_text acts → schema ≡ no_schema → Outlines (understood schema sql) o → ⊥
+lacks schema sql o is none shaped = rw (none, select_acts_lacks) at (subst (λ s. Outlines (understood schema s) o) is shaped)

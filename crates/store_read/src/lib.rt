@@ -2,7 +2,5 @@
 #![tactic(auto)]
 
 mod asking;
-mod reading;
-mod shown;
 
 pub use asking::{AskFault, AskedRows, ask_tables};

@@ -1,32 +1,33 @@
 -- What an INSERT of one row does to a file.
-use Rattle.std.proofs.Common.{◌≡◌, ℕ, ◌/◌, ℤ, List, [], ◌∷◌, ◌++◌, map, drop, length, Bool, true, false, not, ◌&&◌, ◌||◌, Ok, None, Some, Option, unwrap_or, refl, sym, ap, subst, ◌∙◌, arith, Ordering, Less, Equal, Greater, is_eq, is_lt, int_cmp, cond, MatchBool, true≢false, append-nil, IsPermutation}
+use Rattle.std.proofs.Common.{◌≡◌, ◌≢◌, ℕ, ◌/◌, ℤ, List, [], ◌∷◌, ◌++◌, map, length, Bool, true, false, not, ◌&&◌, ◌||◌, Ok, None, Some, Option, unwrap_or, refl, sym, ap, subst, ◌∙◌, arith, Ordering, Less, Equal, Greater, is_eq, is_lt, int_cmp, cond, MatchBool, true≢false, append-nil, IsPermutation}
+use Rattle.std.specs.List.{AllByRecursion}
 use Rattle.std.specs.Ordering.{match_ordering}
 use Rattle.std.proofs.lemmas.List.{map-append}
 use Rattle.std.proofs.lemmas.List.Sorted.{IsPermutation-refl, IsPermutation-cons, IsPermutation-to_front, IsPermutation-map}
-use Rattle.sqlite.specs.declared.types.Value.TheVariants.{Int}
 use Rattle.sqlite_value.specs.Order.{Row, value_cmp}
 use Rattle.sqlite.specs.Term.{Term}
 use Rattle.sqlite.specs.Tree.{Trees, rowid, put_row}
 use Rattle.sqlite.specs.Source.TheVariants.{Values}
 use Rattle.sqlite.specs.Command.TheVariants.{Insert}
-use Rattle.sqlite.specs.Edit.{Edit, edit_of, is_taken, are_fresh, put_all, next_rowid, taken_by, Applies}
+use Rattle.sqlite.specs.Edit.{edit_of, is_taken, are_fresh, put_all, next_rowid, taken_by, Applies}
 use Rattle.sqlite.specs.Rowids.TheVariants.{Chosen, Above}
 use Rattle.sqlite.specs.Does.{Tally, Does, OnRows}
 use Rattle.sqlite.specs.Rows.{Written, Task, stamped, count_of, Counts, CountsIn, Gives, sequence}
 use Rattle.sqlite.specs.Effect.{Database, value_rows}
-use Rattle.sqlite_schema.specs.declared.schema.Keys.TheVariants.{Enforced}
 use Rattle.sqlite_rules.specs.Action.{works, Writes}
 use Rattle.sqlite.specs.Listing.{understood}
 use Rattle.sqlite.specs.State.{State, mode_of, Executes, Writes as WritesRow}
 use Rattle.sqlite.specs.declared.run.Mode.{Mode}
 use Rattle.sqlite.proofs.Callers.{statement_of, runs_as, one_step}
-use Rattle.store_sql.specs.declared.wide.{WideAct.WideAct, WideRecord.WideRecord, WideLine.WideLine}
-use Rattle.store_sql.specs.Rows.{act_values, stored_act, record_values, stored_record, line_values}
-use Rattle.store_sql.specs.Schema.{book_schema, acts_table, records_table, lines_table}
-use Rattle.store_sql.specs.Texts.{insert_act, insert_record, insert_line}
-use Rattle.store_sql.specs.Trees.{Adds}
-use Rattle.store_sql.proofs.Meanings.{insert_act_is, insert_act_plain, insert_record_is, insert_record_plain, insert_line_is, insert_line_plain, act_terms, record_terms, line_terms}
-use Rattle.store_sql.proofs.Parts.{went, same_value, cast_int, cast_perhaps, cast_null}
+use Rattle.record_history.specs.declared.records.Record.{Record}
+use Rattle.voucher_core.specs.declared.line.Line.{Line}
+use Rattle.book_rows.specs.declared.rows.ActRow.{ActRow}
+use Rattle.store_sql.specs.Tables.{Table, cells, insert_text}
+use Rattle.store_sql.specs.Columns.{acts, records, lines}
+use Rattle.store_sql.specs.Schema.{Others, with_others, HasTables}
+use Rattle.store_sql.specs.Trees.{shown, rows_in, Adds}
+use Rattle.store_sql.proofs.Parts.{went, same_value}
+use Rattle.store_sql.proofs.Meanings.{others_in, as_others, IsUnderstood, acts_understood, records_understood, lines_understood, terms, width, task_of, values_of, stored, row_is}
 
 -- a row with a rowid of its own is one row more
 pub put_free : (new : Row) (rows : List Row) → is_taken rows new ≡ false → IsPermutation (rows ++ new ∷ []) (put_row new rows)
@@ -99,145 +100,67 @@ apart-4-0 e = omega (arith, e)
 pub apart-4-2 : ◌≡◌ {A = ℕ} 4 2 → ⊥
 apart-4-2 e = omega (arith, e)
 
--- ---- the one row that an INSERT puts in
+-- ---- a row of the book
 
-abbrev pub act_edit : Trees → WideAct → Edit
-act_edit db a = edit_of db (record acts_table { tree = 0 }) [] Chosen 0 (value_rows (act_values a) 7 1 act_terms)
+module _ {A : Type 0} (t : Table A) (at : ℕ) (beside : Others) (knows : IsUnderstood t at beside) (old new : State) (a : A) (count : ℕ) (has : old.now.schema ≡ with_others beside)
+    (ran : Executes (insert_text t) (cells t a) old new (Ok count)) where
+  abbrev before : Trees
+  before = old.now.trees
 
-pub row_act : (db : Trees) (a : WideAct) → (act_edit db a).news ≡ stored_act a ∷ []
-row_act db a = rw (cast_null, cast_int a.n, cast_int a.session, cast_int a.clerk, cast_int a.request, cast_int a.day) refl
+  wrote : WritesRow old new None (Insert at (Values (terms t) (width t))) (statement_of (insert_text t) (understood (with_others beside) (insert_text t))) (cells t a) count
+  wrote = runs_as (insert_text t) (cells t a) old new (with_others beside) has (Insert at (Values (terms t) (width t))) knows.insert_is knows.insert_plain count ran
 
-abbrev pub record_edit : Trees → WideRecord → Edit
-record_edit db r = edit_of db (record records_table { tree = 2 }) [] Chosen 0 (value_rows (record_values r) 20 1 record_terms)
-
-pub row_record : (db : Trees) (r : WideRecord) → (record_edit db r).news ≡ stored_record r ∷ []
-row_record db r = rw (cast_null, cast_int r.act, cast_int r.household, cast_int r.number, cast_int r.kind, cast_int r.first, cast_int r.corrects, cast_int r.unit, cast_int r.persons, cast_int r.size, cast_int r.extremely, cast_int r.annual, cast_int r.adjusted, cast_int r.ttp, cast_int r.contract_rent, cast_int r.utility, cast_int r.assistance, cast_perhaps r.event, cast_perhaps r.notice, cast_perhaps r.done) refl
-
-abbrev pub line_edit : Trees → WideLine → Edit
-line_edit db l = edit_of db (record lines_table { tree = 4 }) [] Chosen 0 (value_rows (line_values l) 11 1 line_terms)
-
-abbrev pub numbered_line : Trees → WideLine → Row
-numbered_line db l = Int (next_rowid (db 4)) ∷ line_values l
-
-pub row_line : (db : Trees) (l : WideLine) → (line_edit db l).news ≡ numbered_line db l ∷ []
-row_line db l = rw (cast_null, cast_int l.act, cast_int l.place, cast_int l.month, cast_int l.household, cast_int l.for_month, cast_int l.first, cast_int l.last, cast_int l.old, cast_int l.new, cast_int l.amount) refl
-
-module _ (old new : State) (a : WideAct) (count : ℕ) (has : old.now.schema ≡ book_schema) (ran : Executes insert_act (act_values a) old new (Ok count)) where
-  abbrev act_db : Trees
-  act_db = old.now.trees
-
-  abbrev task-act : Task
-  task-act = record { limit = old.step_limit; keys = Enforced; schema = book_schema; table = record acts_table { tree = 0 }; params = act_values a }
-
-  wrote-act : WritesRow old new None (Insert 0 (Values act_terms 7)) (statement_of insert_act (understood book_schema insert_act)) (act_values a) count
-  wrote-act = runs_as insert_act (act_values a) old new book_schema has (Insert 0 (Values act_terms 7)) insert_act_is insert_act_plain count ran
-
-  put-act : Puts task-act act_db (value_rows (act_values a) 7 1 act_terms) wrote-act.tally new.now
-  put-act =
-      let command = Insert 0 (Values act_terms 7) in
-      let w = wrote-act in
-      let text = statement_of insert_act (understood book_schema insert_act) in
-      let done = subst (λ s. Does old.step_limit (mode_of old) (act_values a) (record old.now { schema = s }) text None command (Ok (w.tally, new.now))) has w.changed in
-      puts task-act (mode_of old) 0 act_terms 7 act_db w.tally new.now refl (λ _ _. refl) done
+  put : Puts (task_of t beside old a) before (values_of t a) wrote.tally new.now
+  put =
+      let command = Insert at (Values (terms t) (width t)) in
+      let text = statement_of (insert_text t) (understood (with_others beside) (insert_text t)) in
+      let done = subst (λ s. Does old.step_limit (mode_of old) (cells t a) (record old.now { schema = s }) text None command (Ok (wrote.tally, new.now))) has wrote.changed in
+      puts (task_of t beside old a) (mode_of old) at (terms t) (width t) before wrote.tally new.now refl knows.alone (knows.on_rows old a text _ done)
 
   -- it tells of one row
-  pub count-act : count ≡ 1
-  count-act = wrote-act.counted ∙ ap (λ told. unwrap_or told 0) (put-act.told ∙ ap (λ rows. Some (length rows)) (row_act act_db a))
+  pub count_is : count ≡ 1
+  count_is = wrote.counted ∙ ap (λ told. unwrap_or told 0) (put.told ∙ ap (λ rows. Some (length rows)) (row_is t at beside knows before a))
 
-  free-act : is_taken (act_db 0) (stored_act a) ≡ false
-  free-act = unless_taken _ (subst (λ rows. are_fresh (act_db 0) rows ≡ true) (row_act act_db a) (put-act.applied.fresh))
+  free : is_taken (before t.tree) (stored t before a) ≡ false
+  free = unless_taken _ (subst (λ rows. are_fresh (before t.tree) rows ≡ true) (row_is t at beside knows before a) (put.applied.fresh))
 
-  rows-act : IsPermutation (act_db 0 ++ stored_act a ∷ []) (new.now.trees 0)
-  rows-act = subst (IsPermutation (act_db 0 ++ stored_act a ∷ [])) (sym (put-act.applied.rows ∙ ap (put_all (act_db 0)) (row_act act_db a))) (put_free (stored_act a) (act_db 0) free-act)
+  pub tree_is : new.now.trees t.tree ≡ put_row (stored t before a) (before t.tree)
+  tree_is = put.applied.rows ∙ ap (put_all (before t.tree)) (row_is t at beside knows before a)
 
-  pub lines_by_act : new.now.trees 4 ≡ act_db 4
-  lines_by_act = put-act.applied.tables.1.1.0 apart-4-0
+  pub others_are : AllByRecursion (λ s. s.tree ≢ t.tree → new.now.trees s.tree ≡ before s.tree) (with_others beside).tables
+  others_are = put.applied.tables
 
-  pub puts_act : Adds (stored_act a ∷ []) [] [] old.now.trees new.now.trees
-  puts_act =
-      let others = put-act.applied.tables in
-      record {
-        acts_are = rows-act;
-        records_are = same_rows _ _ (others.1.0 apart-2-0);
-        lines_are = same_rows _ _ (ap (map (drop 1)) (others.1.1.0 apart-4-0));
-      }
+  -- the table shows one row more
+  pub row_more : IsPermutation (rows_in t before ++ cells t a ∷ []) (rows_in t new.now.trees)
+  row_more =
+      let one = subst (IsPermutation (before t.tree ++ stored t before a ∷ [])) (sym tree_is) (put_free (stored t before a) (before t.tree) free) in
+      subst (λ l. IsPermutation l (rows_in t new.now.trees))
+      (map-append (shown t) (before t.tree) (stored t before a ∷ []) ∙ ap (λ row. rows_in t before ++ row ∷ []) (knows.shown_is (next_rowid (before t.tree)) a))
+      (IsPermutation-map (shown t) _ _ one)
 
-module _ (old new : State) (r : WideRecord) (count : ℕ) (has : old.now.schema ≡ book_schema) (ran : Executes insert_record (record_values r) old new (Ok count)) where
-  abbrev record_db : Trees
-  record_db = old.now.trees
+pub puts_act : (old new : State) (a : ActRow) (count : ℕ) → HasTables old.now.schema → Executes (insert_text acts) (cells acts a) old new (Ok count) → Adds (cells acts a ∷ []) [] [] old.now.trees new.now.trees
+puts_act old new a count has ran =
+    let others = others_are acts 0 (others_in has) (acts_understood (others_in has) has.later) old new a count (as_others has) ran in
+    record {
+      acts_are = row_more acts 0 (others_in has) (acts_understood (others_in has) has.later) old new a count (as_others has) ran;
+      records_are = same_rows _ _ (ap (map (shown records)) (others.1.0 apart-2-0));
+      lines_are = same_rows _ _ (ap (map (shown lines)) (others.1.1.0 apart-4-0));
+    }
 
-  abbrev task-record : Task
-  task-record = record { limit = old.step_limit; keys = Enforced; schema = book_schema; table = record records_table { tree = 2 }; params = record_values r }
+pub puts_record : (old new : State) (r : Record) (count : ℕ) → HasTables old.now.schema → Executes (insert_text records) (cells records r) old new (Ok count) → Adds [] (cells records r ∷ []) [] old.now.trees new.now.trees
+puts_record old new r count has ran =
+    let others = others_are records 1 (others_in has) (records_understood (others_in has) has.later) old new r count (as_others has) ran in
+    record {
+      acts_are = same_rows _ _ (ap (map (shown acts)) (others.0 apart-0-2));
+      records_are = row_more records 1 (others_in has) (records_understood (others_in has) has.later) old new r count (as_others has) ran;
+      lines_are = same_rows _ _ (ap (map (shown lines)) (others.1.1.0 apart-4-2));
+    }
 
-  wrote-record : WritesRow old new None (Insert 1 (Values record_terms 20)) (statement_of insert_record (understood book_schema insert_record)) (record_values r) count
-  wrote-record = runs_as insert_record (record_values r) old new book_schema has (Insert 1 (Values record_terms 20)) insert_record_is insert_record_plain count ran
-
-  put-record : Puts task-record record_db (value_rows (record_values r) 20 1 record_terms) wrote-record.tally new.now
-  put-record =
-      let command = Insert 1 (Values record_terms 20) in
-      let w = wrote-record in
-      let text = statement_of insert_record (understood book_schema insert_record) in
-      let done = subst (λ s. Does old.step_limit (mode_of old) (record_values r) (record old.now { schema = s }) text None command (Ok (w.tally, new.now))) has w.changed in
-      puts task-record (mode_of old) 1 record_terms 20 record_db w.tally new.now refl (λ _ _. refl) done
-
-  -- it tells of one row
-  pub count-record : count ≡ 1
-  count-record = wrote-record.counted ∙ ap (λ told. unwrap_or told 0) (put-record.told ∙ ap (λ rows. Some (length rows)) (row_record record_db r))
-
-  free-record : is_taken (record_db 2) (stored_record r) ≡ false
-  free-record = unless_taken _ (subst (λ rows. are_fresh (record_db 2) rows ≡ true) (row_record record_db r) (put-record.applied.fresh))
-
-  rows-record : IsPermutation (record_db 2 ++ stored_record r ∷ []) (new.now.trees 2)
-  rows-record = subst (IsPermutation (record_db 2 ++ stored_record r ∷ [])) (sym (put-record.applied.rows ∙ ap (put_all (record_db 2)) (row_record record_db r))) (put_free (stored_record r) (record_db 2) free-record)
-
-  pub lines_by_record : new.now.trees 4 ≡ record_db 4
-  lines_by_record = put-record.applied.tables.1.1.0 apart-4-2
-
-  pub puts_record : Adds [] (stored_record r ∷ []) [] old.now.trees new.now.trees
-  puts_record =
-      let others = put-record.applied.tables in
-      record {
-        acts_are = same_rows _ _ (others.0 apart-0-2);
-        records_are = rows-record;
-        lines_are = same_rows _ _ (ap (map (drop 1)) (others.1.1.0 apart-4-2));
-      }
-
-module _ (old new : State) (l : WideLine) (count : ℕ) (has : old.now.schema ≡ book_schema) (ran : Executes insert_line (line_values l) old new (Ok count)) where
-  abbrev line_db : Trees
-  line_db = old.now.trees
-
-  abbrev task-line : Task
-  task-line = record { limit = old.step_limit; keys = Enforced; schema = book_schema; table = record lines_table { tree = 4 }; params = line_values l }
-
-  wrote-line : WritesRow old new None (Insert 2 (Values line_terms 11)) (statement_of insert_line (understood book_schema insert_line)) (line_values l) count
-  wrote-line = runs_as insert_line (line_values l) old new book_schema has (Insert 2 (Values line_terms 11)) insert_line_is insert_line_plain count ran
-
-  put-line : Puts task-line line_db (value_rows (line_values l) 11 1 line_terms) wrote-line.tally new.now
-  put-line =
-      let command = Insert 2 (Values line_terms 11) in
-      let w = wrote-line in
-      let text = statement_of insert_line (understood book_schema insert_line) in
-      let done = subst (λ s. Does old.step_limit (mode_of old) (line_values l) (record old.now { schema = s }) text None command (Ok (w.tally, new.now))) has w.changed in
-      puts task-line (mode_of old) 2 line_terms 11 line_db w.tally new.now refl (λ _ _. refl) done
-
-  -- it tells of one row
-  pub count-line : count ≡ 1
-  count-line = wrote-line.counted ∙ ap (λ told. unwrap_or told 0) (put-line.told ∙ ap (λ rows. Some (length rows)) (row_line line_db l))
-
-  free-line : is_taken (line_db 4) (Int (next_rowid (line_db 4)) ∷ line_values l) ≡ false
-  free-line = unless_taken _ (subst (λ rows. are_fresh (line_db 4) rows ≡ true) (row_line line_db l) (put-line.applied.fresh))
-
-  rows-line : IsPermutation (line_db 4 ++ (Int (next_rowid (line_db 4)) ∷ line_values l) ∷ []) (new.now.trees 4)
-  rows-line = subst (IsPermutation (line_db 4 ++ (Int (next_rowid (line_db 4)) ∷ line_values l) ∷ [])) (sym (put-line.applied.rows ∙ ap (put_all (line_db 4)) (row_line line_db l))) (put_free (Int (next_rowid (line_db 4)) ∷ line_values l) (line_db 4) free-line)
-
-  pub lines_by_line : new.now.trees 4 ≡ put_row (numbered_line line_db l) (line_db 4)
-  lines_by_line = put-line.applied.rows ∙ ap (put_all (line_db 4)) (row_line line_db l)
-
-  pub puts_line : Adds [] [] (line_values l ∷ []) old.now.trees new.now.trees
-  puts_line =
-      let others = put-line.applied.tables in
-      record {
-        acts_are = same_rows _ _ (others.0 apart-0-4);
-        records_are = same_rows _ _ (others.1.0 apart-2-4);
-        lines_are = rw (sym (map-append (drop 1) (line_db 4) ((Int (next_rowid (line_db 4)) ∷ line_values l) ∷ []))) (IsPermutation-map (drop 1) _ _ rows-line);
-      }
+pub puts_line : (old new : State) (l : Line) (count : ℕ) → HasTables old.now.schema → Executes (insert_text lines) (cells lines l) old new (Ok count) → Adds [] [] (cells lines l ∷ []) old.now.trees new.now.trees
+puts_line old new l count has ran =
+    let others = others_are lines 2 (others_in has) (lines_understood (others_in has) has.later) old new l count (as_others has) ran in
+    record {
+      acts_are = same_rows _ _ (ap (map (shown acts)) (others.0 apart-0-4));
+      records_are = same_rows _ _ (ap (map (shown records)) (others.1.0 apart-2-4));
+      lines_are = row_more lines 2 (others_in has) (lines_understood (others_in has) has.later) old new l count (as_others has) ran;
+    }

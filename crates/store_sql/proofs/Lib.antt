@@ -1,9 +1,10 @@
 pub mod Meanings
 pub mod Parts
+pub mod Storable
 pub mod Creates
 pub mod Inserts
 pub mod Selects
 pub mod Changes
-pub mod Wholes
 pub mod Refusals
 pub mod Taken
+pub mod Standing

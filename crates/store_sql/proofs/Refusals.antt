@@ -30,7 +30,7 @@ use Rattle.sqlite.specs.Clock.{timed}
 use Rattle.sqlite.specs.State.{State, Fails, IsNotRun, ExecutesIn, ExecutesInside, EndsScope, Escapes, IsMisplaced, IsUnchanged, text_of, shows_rows, is_pragma, mode_of}
 use Rattle.sqlite.proofs.Callers.{IsPlain, command_of, statement_of}
 use Rattle.store_sql.specs.Takes.{IsExcused}
-use Rattle.store_sql.proofs.Wholes.{tail_of, parameters_of, IsWhole}
+use Rattle.store_sql.proofs.Meanings.{tail_of, parameters_of, IsWhole}
 
 -- ---- an INSERT of a row
 

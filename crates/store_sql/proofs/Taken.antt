@@ -1,28 +1,27 @@
--- The three tables take the rows of a batch that are new to them.
-use Rattle.std.proofs.Common.{◌≡◌, ◌≢◌, ◌⊎◌, ◌≤◌, ◌<◌, ◌^◌, ◌+◌, ℕ, suc, ℤ, ◌+ℤ◌, pos, negsuc, fold, true, false, Bool, ◌&&◌, List, [], ◌∷◌, ◌++◌, length, length-append, lt-ltb, drop, map, Option, None, Some, Err, IsPermutation, All, inl, inr, refl, sym, ap, subst, subst₂, ◌∙◌, arith, true≢false, is_eq, int_cmp, Ordering, Less, Equal, Greater}
+-- A table of a book's file takes a row of the book that is new to it.
+use Rattle.std.proofs.Common.{◌≡◌, ◌≢◌, ◌⊎◌, ◌≤◌, ◌<◌, ◌^◌, ◌+◌, ℕ, suc, ℤ, ◌+ℤ◌, pos, fold, true, false, Bool, ◌&&◌, List, [], ◌∷◌, ◌++◌, length, length-append, lt-ltb, map, None, Some, Err, IsPermutation, All, inl, inr, refl, sym, ap, subst, subst₂, ◌∙◌, arith, slice_index_or, Option, true≢false, is_eq, int_cmp, Ordering, Less, Equal, Greater}
 use Rattle.std.specs.List.{AllByRecursion, list_any, list_all, sum_by}
+use Rattle.std.specs.Prelude.{⊤, nat_lt, not, ◌||◌, ◌==◌}
 use Rattle.std.specs.Ordering.{is_ne}
 use Rattle.std.specs.Float.{NotNan}
-use Rattle.std.specs.Float.Ieee
-use Rattle.std.proofs.lemmas.Bool.{false_from_ne_true, and_parts}
+use Rattle.std.proofs.lemmas.Bool.{false_from_ne_true, not_from_false, and_parts, ne_eqb, eq-eqb, eqb-true, ltb-true}
 use Rattle.std.proofs.lemmas.List.Elements.{All-map, All-contains, All-from_recursion}
 use Rattle.std.proofs.lemmas.List.Sorted.{All-permutation}
 use Rattle.std.proofs.lemmas.Map.Lookups.{exact_signed}
 use Rattle.std.proofs.lemmas.Cmp.{tied_itself}
 use Rattle.std.proofs.lemmas.Nat.Bits.{bit_at-zero}
-use Rattle.sqlite.specs.declared.types.Value.TheVariants.{Null, Int, Text}
-use Rattle.sqlite.specs.Values.{or_null}
-use Rattle.sqlite.specs.Order.{Row, value_cmp, number, bytes}
+use Rattle.sqlite.specs.declared.types.Value.TheVariants.{Int}
+use Rattle.sqlite.specs.Order.{Row, column, value_cmp, number, bytes}
 use Rattle.sqlite.specs.Collation.TheVariants.{Binary}
 use Rattle.sqlite.specs.Tree.{Trees, rowid, put_row, with_tree, IsAscending}
-use Rattle.sqlite.specs.View.{IsStorable, IsStorableRow}
+use Rattle.sqlite.specs.View.{is_int, IsStorable, IsStorableRow}
 use Rattle.sqlite.specs.Ops.{binary, fits_i64, is_true, from_truth}
 use Rattle.sqlite.specs.Edit.{Edit, id_in, next_rowid, is_taken, are_fresh, IsRefused, IsOversized}
 use Rattle.sqlite_value.specs.Keys.{plain, first_key, later}
 use Rattle.sqlite_value.proofs.OrderLemmas.{value_cmp-Int, value_cmp_total}
-use Rattle.sqlite_schema.specs.Rules.{agree, clashes, differ, equal, Refers, Keeps, passes, table_reals, index_reals}
+use Rattle.sqlite_schema.specs.Rules.{agree, clashes, differ, equal, guards, is_among, has_parent, Refers, Keeps, table_reals, index_reals}
 use Rattle.sqlite_rules.specs.Lists.{Has}
-use Rattle.sqlite_rules.proofs.ListLemmas.{some_has, contains_had, all_from}
+use Rattle.sqlite_rules.proofs.ListLemmas.{some_has, contains_had, all_from, test_has, test_from}
 use Rattle.sqlite_rules.specs.declared.error.Refusal.{Refusal}
 use Rattle.sqlite_rules.specs.declared.error.Refusal.TheVariants.{Violates, Mismatch, NoRowid, BadReference, TooDeep}
 use Rattle.sqlite_rules.proofs.TableLemmas.{put_has, put_all_has, put_all_keeps, put_all_adds}
@@ -33,28 +32,34 @@ use Rattle.sqlite_schema.specs.declared.schema.Keys.TheVariants.{Enforced}
 use Rattle.sqlite_schema.specs.declared.schema.Constraint.TheVariants.{Datatype, NotNull, Check, PrimaryKey, Unique, ForeignKey}
 use Rattle.sqlite_schema.specs.declared.schema.Index.{Index}
 use Rattle.sqlite_sql.specs.Catalog.{entry_of}
-use Rattle.sqlite.specs.Table.{Table}
+use Rattle.sqlite.specs.Table.{Table as SqlTable}
 use Rattle.sqlite.specs.Source.TheVariants.{Values}
 use Rattle.sqlite.specs.Command.TheVariants.{Insert, Begin, Commit, Rollback, Release, RollbackTo}
 use Rattle.sqlite.specs.Source.{Source}
 use Rattle.sqlite.specs.Does.{Does}
-use Rattle.sqlite.specs.Rows.{Task}
-use Rattle.sqlite.specs.Effect.{IsDatabase, RefusesSource}
+use Rattle.sqlite.specs.Effect.{IsDatabase}
 use Rattle.sqlite.specs.Listing.{understood}
 use Rattle.sqlite.specs.State.{State, ExecutesInside, IsMisplaced, Escapes, mode_of}
 use Rattle.sqlite.specs.declared.error.Error.{Error}
 use Rattle.sqlite.proofs.Callers.{statement_of}
-use Rattle.store_sql.proofs.Meanings.{insert_act_is, insert_act_plain, insert_record_is, insert_record_plain, insert_line_is, insert_line_plain, act_terms, record_terms, line_terms}
-use Rattle.store_sql.proofs.Wholes.{insert_act_whole, insert_record_whole, insert_line_whole}
 use Rattle.store_sql.proofs.Refusals.{row_refused, fails_for}
-use Rattle.store_sql.specs.declared.wide.{WideAct.WideAct, WideRecord.WideRecord, WideLine.WideLine}
-use Rattle.store_sql.specs.Rows.{act_values, stored_act, record_values, stored_record, line_values, without_rowids}
-use Rattle.store_sql.specs.Schema.{book_schema, acts_table, records_table, lines_table}
-use Rattle.store_sql.specs.Texts.{insert_act, insert_record, insert_line}
-use Rattle.store_sql.specs.Takes.{IsExcused, IsServing, IsNewAct, IsNewRecord, IsNewLine, AreNumbered, HasNumbers, longest_body}
-use Rattle.store_sql.specs.Trees.{act_rows, record_rows, line_rows}
 use Rattle.store_sql.proofs.Parts.{less}
-use Rattle.store_sql.proofs.Inserts.{row_act, row_record, row_line, numbered_line, apart-0-2, apart-0-4, apart-2-0, apart-2-4, apart-4-0, apart-4-2}
+use Rattle.sqlite_rules.specs.Keys.{are_unique}
+use Rattle.std.proofs.lemmas.List.{length-map}
+use Rattle.record_history.specs.declared.records.Record.{Record}
+use Rattle.voucher_core.specs.declared.line.Line.{Line}
+use Rattle.book_rows.specs.declared.rows.ActRow.{ActRow}
+use Rattle.std.proofs.lemmas.Int.{ints}
+use Rattle.store_sql.specs.Cells.{is_number, number_cell}
+use Rattle.store_sql.specs.Tables.{Table, Column, cells, fits, stored_unique, insert_text, order}
+use Rattle.store_sql.specs.Columns.{acts, records, lines}
+use Rattle.sqlite.specs.Schema.{Schema}
+use Rattle.store_sql.specs.Schema.{Others, with_others, are_later, are_on_later}
+use Rattle.store_sql.specs.Trees.{shown, rows_in}
+use Rattle.store_sql.specs.Takes.{IsExcused, IsServing, AreSameAt, IsNew, AreNumbered, HasNumbers, longest_body}
+use Rattle.store_sql.proofs.Meanings.{IsUnderstood, acts_understood, records_understood, lines_understood, is_later, others_in, as_others, IsWhole, terms, width, table_at, task_of, stored_as, stored, row_is}
+use Rattle.store_sql.proofs.Storable.{whole_number, are_typed_stored, are_present_stored, are_accepted, stored_numbers, stored_size, stored_length, size}
+use Rattle.store_sql.proofs.Inserts.{apart-0-2, apart-0-4, apart-2-4}
 
 -- ---- numbers as values
 
@@ -83,24 +88,6 @@ two_keys a b c d h =
 differ_itself : (x : ℤ) → differ (Int x) (Int x) ≡ true → ⊥
 unfolding binary
 differ_itself x h = let e = true_of (is_ne (value_cmp (Int x) (Int x))) h in true≢false (sym e ∙ ap is_ne (tied_itself value_cmp_total (Int x)))
-
-whole_number : (n : ℤ) → NotNan (number (Int n))
-unfolding Ieee.is_nan
-whole_number (pos n) = tt
-whole_number (negsuc n) = tt
-
-number_or_none : (n : Option ℤ) → NotNan (number (or_null Int n))
-unfolding Ieee.is_nan
-number_or_none None = tt
-number_or_none (Some n) = whole_number n
-
-no_number : (text : List ℕ) → NotNan (number (Text text))
-unfolding Ieee.is_nan
-no_number text = tt
-
-null_number : NotNan (number Null)
-unfolding Ieee.is_nan
-null_number = tt
 
 -- a table or an index without a column of the type REAL takes a row that is short enough
 storable : (entry : Row) → 0 < length entry → length entry ≤ 2001 → AllByRecursion (λ v. NotNan (number v)) entry → sum_by (λ v. 18 + length (bytes v)) entry ≤ 10 ^ 9 → IsStorable 0 entry
@@ -156,22 +143,52 @@ unclashed places rows id new is apart = false_from_ne_true _ clashing
 
 -- ---- what the schema asks of the three tables
 
-refers : (among : Among) (trees : Trees) → Refers among book_schema trees
-refers among trees = (all_from _ (trees 0) (λ _ _. refl), (all_from _ (trees 2) (λ _ _. refl), (all_from _ (trees 4) (λ _ _. refl), tt)))
+refer_none : (among : Among) (schema : Schema) (trees : Trees) (tree : ℕ) (ts : List SqlTable) → are_later tree ts ≡ true
+    → AllByRecursion (λ t. AllByRecursion (λ row. list_all (λ ref. not (is_among among ref) || has_parent schema.tables trees row ref) t.references ≡ true) (trees t.tree)) ts
+refer_none among schema trees tree [] h = tt
+refer_none among schema trees tree (t ∷ ts) h =
+    let it = is_later tree t ts h in
+    (all_from _ (trees t.tree) (λ row _. ap (list_all (λ ref. not (is_among among ref) || has_parent schema.tables trees row ref)) it.refers), refer_none among schema trees t.tree ts it.rest)
 
-apart : IsAscending (λ a b. a.tree ≡ b.tree → ⊥) book_schema.tables
-apart = ((apart-0-2, (apart-0-4, tt)), ((apart-2-4, tt), (tt, tt)))
+refers : (beside : Others) → are_later 5 beside.tables ≡ true → (among : Among) (trees : Trees) → Refers among (with_others beside) trees
+refers beside later among trees =
+    (all_from _ (trees 0) (λ _ _. refl), (all_from _ (trees 2) (λ _ _. refl), (all_from _ (trees 4) (λ _ _. refl), refer_none among (with_others beside) trees 5 beside.tables later)))
+
+-- the later tables stand in other trees than the three, and than each other
+above : (own tree : ℕ) (ts : List SqlTable) → own ≤ tree → are_later tree ts ≡ true → AllByRecursion (λ t. own ≡ t.tree → ⊥) ts
+above own tree [] low h = tt
+above own tree (t ∷ ts) low h =
+    let it = is_later tree t ts h in
+    let past : own ≤ t.tree = omega (arith, low, it.later) in
+    ((λ same. omega (arith, low, it.later, same)), above own t.tree ts past it.rest)
+
+rising : (tree : ℕ) (ts : List SqlTable) → are_later tree ts ≡ true → IsAscending (λ a b. a.tree ≡ b.tree → ⊥) ts
+rising tree [] h = tt
+rising tree (t ∷ ts) h = let it = is_later tree t ts h in (above t.tree t.tree ts (omega arith) it.rest, rising t.tree ts it.rest)
+
+apart : (beside : Others) → are_later 5 beside.tables ≡ true → IsAscending (λ a b. a.tree ≡ b.tree → ⊥) (with_others beside).tables
+apart beside later = (
+  (apart-0-2, (apart-0-4, above 0 5 beside.tables (omega arith) later)),
+  ((apart-2-4, above 2 5 beside.tables (omega arith) later), (above 4 5 beside.tables (omega arith) later, rising 5 beside.tables later)),
+)
+
+-- the tree of another table stays
+with_other : (db : Trees) (tree other : ℕ) (rows : List Row) → other ≢ tree → with_tree db tree rows other ≡ db other
+with_other db tree other rows apart = rw (ne_eqb other tree apart) refl
+
+with_own : (db : Trees) (tree : ℕ) (rows : List Row) → with_tree db tree rows tree ≡ rows
+with_own db tree rows = rw (eq-eqb tree tree refl) refl
 
 -- one row more turns a table
-turned : (db : Trees) (table : Table) (new : Row) → Has book_schema.tables table → is_taken (db table.tree) new ≡ false → ((t : Table) → Has book_schema.tables t → t.tree ≢ table.tree → with_tree db table.tree (put_row new (db table.tree)) t.tree ≡ db t.tree)
-    → with_tree db table.tree (put_row new (db table.tree)) table.tree ≡ put_row new (db table.tree)
-    → Turns book_schema db (with_tree db table.tree (put_row new (db table.tree))) table (db table.tree) [] (new ∷ [])
-turned db table new listed free others here =
+turned : (beside : Others) → are_later 5 beside.tables ≡ true → (db : Trees) (table : SqlTable) (new : Row) → Has (with_others beside).tables table → is_taken (db table.tree) new ≡ false
+    → Turns (with_others beside) db (with_tree db table.tree (put_row new (db table.tree))) table (db table.tree) [] (new ∷ [])
+turned beside later db table new listed free =
     let fresh : are_fresh (db table.tree) (new ∷ []) ≡ true = rw free refl in
+    let here = with_own db table.tree (put_row new (db table.tree)) in
     record {
-      apart = apart;
+      apart = apart beside later;
       listed = listed;
-      others = others;
+      others = λ t there other. with_other db table.tree t.tree _ other;
       from = λ r there. put_all_has (new ∷ []) (db table.tree) r (subst (λ l. Has l r) here there);
       stays = λ r there. subst (λ l. Has l r) (sym here) (put_all_keeps (new ∷ []) (db table.tree) r fresh there);
       added = λ r there. subst (λ l. Has l r) (sym here) (put_all_adds (new ∷ []) (db table.tree) r fresh there);
@@ -179,248 +196,212 @@ turned db table new listed free others here =
       split = λ r there. inl there;
     }
 
--- what an INSERT of values is refused for where they are of any type and no limit is set
-unsourced : {P Q : Type 0} → (P × (true ≡ false)) ⊎ (Q × (false ≡ true)) → ⊥
-unsourced (inl h) = true≢false h.1
-unsourced (inr h) = true≢false (sym h.1)
+-- what an INSERT of values is refused for, if they are of any type and no limit is set
+unsourced : {P Q : Type 0} (accepted : Bool) → accepted ≡ true → (P × (accepted ≡ false)) ⊎ (Q × (false ≡ true)) → ⊥
+unsourced accepted is (inl h) = true≢false (sym is ∙ h.1)
+unsourced accepted is (inr h) = true≢false (sym h.1)
 
--- three numbers that may be missing
-by_options : (P : Option ℤ → Option ℤ → Option ℤ → Type 0) → P None None None → ((z : ℤ) → P None None (Some z)) → ((y : ℤ) → P None (Some y) None) → ((y z : ℤ) → P None (Some y) (Some z)) → ((x : ℤ) → P (Some x) None None)
-    → ((x z : ℤ) → P (Some x) None (Some z)) → ((x y : ℤ) → P (Some x) (Some y) None) → ((x y z : ℤ) → P (Some x) (Some y) (Some z)) → (x y z : Option ℤ) → P x y z
-by_options P a b c d e f g h None None None = a
-by_options P a b c d e f g h None None (Some z) = b z
-by_options P a b c d e f g h None (Some y) None = c y
-by_options P a b c d e f g h None (Some y) (Some z) = d y z
-by_options P a b c d e f g h (Some x) None None = e x
-by_options P a b c d e f g h (Some x) None (Some z) = f x z
-by_options P a b c d e f g h (Some x) (Some y) None = g x y
-by_options P a b c d e f g h (Some x) (Some y) (Some z) = h x y z
+-- What the schema has of a table of the book's. Of one that is written out, `refl` finds most of it.
+pub record IsGuarded {A : Type 0} (t : Table A) (beside : Others) : Type 0 where
+  pub listed : Has (with_others beside).tables (table_at t)
+  pub no_reals : table_reals (table_at t) ≡ 0
+  pub unique_by : (trees : Trees) (news : List Row) → list_any (clashes plain (stored_unique t) (trees t.tree)) news ≡ false → are_unique (with_others beside).indexes trees (table_at t) news ≡ true
+  pub index_is : (i : Index) → Has (with_others beside).indexes i → i.table ≡ t.tree → i.columns ≡ stored_unique t
+  pub index_no_reals : index_reals 0 (stored_unique t) ≡ 0
+  pub seen : (row new : Row) → agree plain (stored_unique t) row (stored_unique t) new ≡ agree plain t.unique (shown t row) t.unique (shown t new)
+  pub agrees : (x a : A) → agree plain t.unique (cells t x) t.unique (cells t a) ≡ true → AreSameAt t.unique (cells t x) (cells t a)
+  pub entry : (next : ℤ) (a : A) → IsStorable 0 (entry_of (stored_unique t) (stored_as t.key t.columns next a))
+  pub few : (1 ≤ length t.columns) × (length t.columns ≤ 1000)
 
-module _ (db : Trees) (r : WideRecord) where
-  abbrev told : Option ℤ → Option ℤ → Option ℤ → WideRecord
-  told x y z = record r { event = x; notice = y; done = z }
+numbered : {A : Type 0} (key : Option (List ℕ × (A → ℕ))) (columns : List (Column A)) (next : ℤ) (a : A) → is_int (rowid (stored_as key columns next a)) ≡ true
+numbered None columns next a = refl
+numbered (Some key) columns next a = refl
 
-  typed_record : (x y z : Option ℤ) → list_all (passes Datatype book_schema db (record records_table { tree = 2 })) (stored_record (told x y z) ∷ []) ≡ true
-  typed_record = by_options _ refl (λ _. refl) (λ _. refl) (λ _ _. refl) (λ _. refl) (λ _ _. refl) (λ _ _. refl) (λ _ _ _. refl)
+with_numbers : (k m n : ℤ) → IsStorable 0 (Int k ∷ Int m ∷ Int n ∷ [])
+with_numbers k m n = storable (Int k ∷ Int m ∷ Int n ∷ []) (omega arith) (omega arith) (whole_number k, (whole_number m, (whole_number n, tt))) (omega arith)
 
-  short_record : (x y z : Option ℤ) → sum_by (λ v. 18 + length (bytes v)) (stored_record (told x y z)) ≡ 360
-  short_record = by_options _ refl (λ _. refl) (λ _. refl) (λ _ _. refl) (λ _. refl) (λ _ _. refl) (λ _ _. refl) (λ _ _ _. refl)
+-- the columns of a key's index, by the tree of its table
+abbrev columns_at : ℕ → List ℕ
+columns_at tree = slice_index_or (stored_unique acts ∷ [] ∷ stored_unique records ∷ [] ∷ stored_unique lines ∷ []) tree []
 
-  unsourced_record : (e : Error) (x y z : Option ℤ) → RefusesSource None (record { schema = book_schema; trees = db }) (record_values (told x y z)) (Values record_terms 20) e → ⊥
-  unsourced_record e = by_options _ (λ h. unsourced h) (λ _ h. unsourced h) (λ _ h. unsourced h) (λ _ _ h. unsourced h) (λ _ h. unsourced h) (λ _ _ h. unsourced h) (λ _ _ h. unsourced h) (λ _ _ _ h. unsourced h)
+indexed : (beside : Others) → are_on_later 5 beside.indexes ≡ true → (i : Index) → Has (with_others beside).indexes i → i.table < 6 → i.columns ≡ columns_at i.table
+indexed beside on i (inl is) low = ap (λ (i : Index). i.columns) is ∙ sym (ap (λ (i : Index). columns_at i.table) is)
+indexed beside on i (inr (inl is)) low = ap (λ (i : Index). i.columns) is ∙ sym (ap (λ (i : Index). columns_at i.table) is)
+indexed beside on i (inr (inr (inl is))) low = ap (λ (i : Index). i.columns) is ∙ sym (ap (λ (i : Index). columns_at i.table) is)
+indexed beside on i (inr (inr (inr there))) low =
+    let past = ltb-true 5 i.table (test_has (λ (j : Index). nat_lt 5 j.table) beside.indexes i on there) in
+    let never : ⊥ = omega (arith, low, past) in
+    absurd never
 
--- ---- an act
+own_columns : (beside : Others) → are_on_later 5 beside.indexes ≡ true → (i : Index) (tree : ℕ) → tree < 6 → Has (with_others beside).indexes i → i.table ≡ tree → i.columns ≡ columns_at tree
+own_columns beside on i tree low there of = indexed beside on i there (omega (arith, low, of)) ∙ ap columns_at of
 
-module _ (db : Trees) (acts : List WideAct) (a : WideAct) (are : IsPermutation (map stored_act acts) (db 0)) (new : IsNewAct acts a) where
-  abbrev at_acts : Table
-  at_acts = record acts_table { tree = 0 }
+-- an index on a later table guards none of the three
+unguarded : (P : Index → Bool) (table : SqlTable) (tree : ℕ) (indexes : List Index) → table.tree ≤ tree → are_on_later tree indexes ≡ true → list_all (λ i. not (guards i table && P i)) indexes ≡ true
+unguarded P table tree indexes low on = test_from _ indexes (λ i there. not_from_false _ (false_from_ne_true _ (λ both.
+    let own = (and_parts i.is_unique (i.table == table.tree) (and_parts (guards i table) (P i) both).0).1 in
+    let past = ltb-true tree i.table (test_has (λ (j : Index). nat_lt tree j.table) indexes i on there) in
+    let never : ⊥ = omega (arith, low, past, eqb-true i.table table.tree own) in
+    never)))
 
-  other_act : (row : Row) → Has (db 0) row → (x : WideAct) × (row ≡ stored_act x) × ((x.n ≢ a.n) × (x.clerk ≡ a.clerk → x.request ≢ a.request))
-  other_act = each_of stored_act _ acts (db 0) are new
+same_keys : (a b c d : ℤ) → equal (first_key plain).collation (Int a) (Int b) && (equal (first_key (later plain)).collation (Int c) (Int d) && true) ≡ true → (Int a ≡ Int b) × ((Int c ≡ Int d) × ⊤)
+same_keys a b c d h = let both = two_keys a b c d h in (ap Int both.0, (ap Int both.1, tt))
 
-  free_act : is_taken (db 0) (stored_act a) ≡ false
-  free_act = free_of (db 0) (stored_act a) (λ other there same.
-      let it = other_act other there in it.2.0 (equal_cmp it.0.n a.n (subst (λ r. is_eq (value_cmp (rowid r) (Int a.n)) ≡ true) it.1 same)))
+acts_guarded : (beside : Others) → are_on_later 5 beside.indexes ≡ true → IsGuarded acts beside
+acts_guarded beside on = record {
+  listed = inl refl;
+  no_reals = refl;
+  unique_by = λ trees news h. rw h (unguarded (λ i. list_any (clashes i.order i.columns (trees acts.tree)) news) (table_at acts) 5 beside.indexes (let low : 0 ≤ 5 = omega arith in low) on);
+  index_is = λ i there of. own_columns beside on i 0 (omega arith) there of;
+  index_no_reals = refl;
+  seen = λ _ _. refl;
+  agrees = λ _ _ h. same_keys _ _ _ _ h;
+  entry = λ _ _. with_numbers _ _ _;
+  few = (omega arith, omega arith);
+}
 
-  key_act : (other : Row) → Has (db 0) other → agree plain (3 ∷ 4 ∷ []) other (3 ∷ 4 ∷ []) (stored_act a) ≡ true → ⊥
-  key_act other there both =
-      let it = other_act other there in
-      let parts = two_keys it.0.clerk a.clerk it.0.request a.request (subst (λ r. agree plain (3 ∷ 4 ∷ []) r (3 ∷ 4 ∷ []) (stored_act a) ≡ true) it.1 both) in
-      it.2.1 parts.0 parts.1
+records_guarded : (beside : Others) → are_on_later 5 beside.indexes ≡ true → IsGuarded records beside
+records_guarded beside on = record {
+  listed = inr (inl refl);
+  no_reals = refl;
+  unique_by = λ trees news h. rw h (unguarded (λ i. list_any (clashes i.order i.columns (trees records.tree)) news) (table_at records) 5 beside.indexes (let low : 2 ≤ 5 = omega arith in low) on);
+  index_is = λ i there of. own_columns beside on i 2 (omega arith) there of;
+  index_no_reals = refl;
+  seen = λ _ _. refl;
+  agrees = λ _ _ h. same_keys _ _ _ _ h;
+  entry = λ _ _. with_numbers _ _ _;
+  few = (omega arith, omega arith);
+}
 
-  others_act : (es : List Row) (t : Table) → Has book_schema.tables t → t.tree ≢ 0 → with_tree db 0 es t.tree ≡ db t.tree
-  others_act es t (inl is) other = absurd (other (ap (λ (s : Table). s.tree) is))
-  others_act es t (inr (inl is)) other = subst (λ (s : Table). with_tree db 0 es s.tree ≡ db s.tree) (sym is) refl
-  others_act es t (inr (inr (inl is))) other = subst (λ (s : Table). with_tree db 0 es s.tree ≡ db s.tree) (sym is) refl
-  others_act es t (inr (inr (inr none))) other = absurd none
+lines_guarded : (beside : Others) → are_on_later 5 beside.indexes ≡ true → IsGuarded lines beside
+lines_guarded beside on = record {
+  listed = inr (inr (inl refl));
+  no_reals = refl;
+  unique_by = λ trees news h. rw h (unguarded (λ i. list_any (clashes i.order i.columns (trees lines.tree)) news) (table_at lines) 5 beside.indexes (let low : 4 ≤ 5 = omega arith in low) on);
+  index_is = λ i there of. own_columns beside on i 4 (omega arith) there of;
+  index_no_reals = refl;
+  seen = λ _ _. refl;
+  agrees = λ _ _ h. same_keys _ _ _ _ h;
+  entry = λ _ _. with_numbers _ _ _;
+  few = (omega arith, omega arith);
+}
 
-  unique_act : Keeps Unique book_schema db → Keeps Unique book_schema (with_tree db 0 (put_row (stored_act a) (db 0)))
-  unique_act = unique_kept book_schema db _ at_acts (db 0) [] (stored_act a ∷ [])
-      (turned db at_acts (stored_act a) (inl refl) free_act (others_act _) refl)
-      (rw (unclashed (3 ∷ 4 ∷ []) (db 0) a.n (stored_act a) refl key_act) refl)
+-- ---- a row that is new to its table
 
-  abbrev edit_act : Edit
-  edit_act = record { table = at_acts; gone = []; news = stored_act a ∷ [] }
+abbrev IsApart : {A : Type 0} → Table A → A → A → Type 0
+IsApart t new x = (AreSameAt (order t) (cells t x) (cells t new) → ⊥) × (AreSameAt t.unique (cells t x) (cells t new) → ⊥)
 
-  not_refused_act : Keeps Unique book_schema db → fits_i64 a.n ≡ true → (why : Refusal) → IsRefused book_schema Enforced db edit_act why → ⊥
-  not_refused_act keeps fits (Violates Datatype) h = true≢false h
-  not_refused_act keeps fits (Violates NotNull) h = true≢false h
-  not_refused_act keeps fits (Violates Check) h = true≢false h
-  not_refused_act keeps fits (Violates PrimaryKey) h = true≢false (rw free_act at h)
-  not_refused_act keeps fits (Violates Unique) h = h (unique_act keeps)
-  not_refused_act keeps fits (Violates ForeignKey) h = h
-  not_refused_act keeps fits Mismatch h = true≢false h
-  not_refused_act keeps fits NoRowid h = true≢false (rw fits at h)
-  not_refused_act keeps fits BadReference h = true≢false h
-  not_refused_act keeps fits TooDeep h = h
+-- the table shows of each of its rows one of these
+other_row : {A : Type 0} (t : Table A) (db : Trees) (others : List A) (new : A) → IsPermutation (map (cells t) others) (rows_in t db) → IsNew t others new → (other : Row) → Has (db t.tree) other → (x : A) × (shown t other ≡ cells t x) × IsApart t new x
+other_row t db others new are apart other there = each_of (cells t) (IsApart t new) others (rows_in t db) are apart (shown t other) (mapped_has (shown t) (db t.tree) other there)
 
-  not_long_act : length a.body ≤ longest_body → (row : Row) → Has edit_act.news row → IsOversized book_schema at_acts row → ⊥
-  not_long_act short row (inr none) h = absurd none
-  not_long_act short row (inl is) (inl h) =
-      subst (λ r. ¬ IsStorableRow (table_reals at_acts) r) is h (
-        storable (stored_act a) (omega arith) (omega arith)
-            (whole_number a.n, (null_number, (whole_number a.session, (whole_number a.clerk, (whole_number a.request, (whole_number a.day, (no_number a.body, tt)))))))
-            (omega (arith, short)),
-        omega arith,
-      )
-  not_long_act short row (inl is) (inr (i, inl i_is, of, h)) =
-      subst₂ (λ (k : Index) r. ¬ IsStorable (index_reals (table_reals at_acts) k.columns) (entry_of k.columns r)) i_is is h
-      (storable (Int a.clerk ∷ Int a.request ∷ Int a.n ∷ []) (omega arith) (omega arith) (whole_number a.clerk, (whole_number a.request, (whole_number a.n, tt))) (omega arith))
-  not_long_act short row (inl is) (inr (i, inr (inl i_is), of, h)) = apart-2-0 (sym (ap (λ (k : Index). k.table) i_is) ∙ of)
-  not_long_act short row (inl is) (inr (i, inr (inr (inl i_is)), of, h)) = apart-4-0 (sym (ap (λ (k : Index). k.table) i_is) ∙ of)
-  not_long_act short row (inl is) (inr (i, inr (inr (inr none)), of, h)) = none
+module _ {A : Type 0} (t : Table A) (at : ℕ) (beside : Others) (later : are_later 5 beside.tables ≡ true) (knows : IsUnderstood t at beside) (guards : IsGuarded t beside) (db : Trees) (others : List A) (a : A)
+    (are : IsPermutation (map (cells t) others) (rows_in t db)) (new : IsNew t others a) where
+  abbrev mine : Row
+  mine = stored t db a
+
+  key_new : (other : Row) → Has (db t.tree) other → agree plain (stored_unique t) other (stored_unique t) mine ≡ true → ⊥
+  key_new other there both =
+      let it = other_row t db others a are new other there in
+      let seen = subst₂ (λ x y. agree plain t.unique x t.unique y ≡ true) it.1 (knows.shown_is (next_rowid (db t.tree)) a) (sym (guards.seen other mine) ∙ both) in
+      it.2.1 (guards.agrees it.0 a seen)
+
+  module _ (id : ℤ) (id_is : rowid mine ≡ Int id) (free : is_taken (db t.tree) mine ≡ false) where
+    unique_new : Keeps Unique (with_others beside) db → Keeps Unique (with_others beside) (with_tree db t.tree (put_row mine (db t.tree)))
+    unique_new = unique_kept (with_others beside) db _ (table_at t) (db t.tree) [] (mine ∷ [])
+        (turned beside later db (table_at t) mine guards.listed free)
+        (guards.unique_by (with_tree db t.tree (put_row mine (db t.tree))) (mine ∷ []) (subst (λ rows. list_any (clashes plain (stored_unique t) rows) (mine ∷ []) ≡ false) (sym (with_own db t.tree (put_row mine (db t.tree)))) (unclashed (stored_unique t) (db t.tree) id mine id_is key_new)))
+
+    abbrev edit : Edit
+    edit = record { table = table_at t; gone = []; news = mine ∷ [] }
+
+    not_refused : Keeps Unique (with_others beside) db → fits_i64 id ≡ true → (why : Refusal) → IsRefused (with_others beside) Enforced db edit why → ⊥
+    not_refused keeps fits (Violates Datatype) h = true≢false (sym (rw (are_typed_stored t.key t.columns (next_rowid (db t.tree)) a) refl) ∙ h)
+    not_refused keeps fits (Violates NotNull) h = true≢false (sym (rw (are_present_stored t.key t.columns (next_rowid (db t.tree)) a) refl) ∙ h)
+    not_refused keeps fits (Violates Check) h = true≢false h
+    not_refused keeps fits (Violates PrimaryKey) h = true≢false (rw free at h)
+    not_refused keeps fits (Violates Unique) h = h (unique_new keeps)
+    not_refused keeps fits (Violates ForeignKey) h = h
+    not_refused keeps fits Mismatch h = true≢false (sym (rw (numbered t.key t.columns (next_rowid (db t.tree)) a) refl) ∙ h)
+    not_refused keeps fits NoRowid h = true≢false (rw (id_is, fits) at h)
+    not_refused keeps fits BadReference h = true≢false h
+    not_refused keeps fits TooDeep h = h
+
+    not_long : size mine ≤ 10 ^ 9 → (long : Row) → Has edit.news long → IsOversized (with_others beside) (table_at t) long → ⊥
+    not_long short long (inr none) h = absurd none
+    not_long short long (inl is) (inl h) =
+        let lengths = stored_length t.key t.columns (next_rowid (db t.tree)) a in
+        subst₂ (λ reals r. ¬ IsStorableRow reals r) guards.no_reals is h (
+          storable mine (omega (arith, lengths.0)) (omega (arith, lengths.1, guards.few.1)) (stored_numbers t.key t.columns (next_rowid (db t.tree)) a) short,
+          omega (arith, lengths.0, guards.few.0),
+        )
+    not_long short long (inl is) (inr (i, there, of, h)) =
+        let of_places : ¬ IsStorable (index_reals (table_reals (table_at t)) (stored_unique t)) (entry_of (stored_unique t) mine) =
+        subst₂ (λ places r. ¬ IsStorable (index_reals (table_reals (table_at t)) places) (entry_of places r)) (guards.index_is i there of) is h in
+        let plainly = subst (λ reals. ¬ IsStorable (index_reals reals (stored_unique t)) (entry_of (stored_unique t) mine)) guards.no_reals of_places in
+        subst (λ reals. ¬ IsStorable reals (entry_of (stored_unique t) mine)) guards.index_no_reals plainly (guards.entry (next_rowid (db t.tree)) a)
+
+-- a row that is new to its table, has a rowid of its own and is not too long is taken
+pub takes : {A : Type 0} (t : Table A) (at : ℕ) (old new : State) (serves : IsServing old) → IsUnderstood t at (others_in serves.schema) → IsGuarded t (others_in serves.schema) → (others : List A) (a : A) (id : ℤ) (e : Error) → IsDatabase old.now
+    → IsPermutation (map (cells t) others) (rows_in t old.now.trees) → IsNew t others a → rowid (stored t old.now.trees a) ≡ Int id → is_taken (old.now.trees t.tree) (stored t old.now.trees a) ≡ false
+    → fits_i64 id ≡ true → size (stored t old.now.trees a) ≤ 10 ^ 9 → ExecutesInside 0 (insert_text t) (cells t a) old new (Err e) → IsExcused old new e
+takes t at old new serves knows guards others a id e live are fresh id_is free fits short h =
+    let db = old.now.trees in
+    let beside = others_in serves.schema in
+    let later = serves.schema.later in
+    let command = Insert at (Values (terms t) (width t)) in
+    let text = statement_of (insert_text t) (understood (with_others beside) (insert_text t)) in
+    let whole : IsWhole (with_others beside) (insert_text t) (length (cells t a)) = (knows.insert_whole.0, knows.insert_whole.1 ∙ sym (length-map _ _)) in
+    elim (fails_for (insert_text t) (cells t a) old new (with_others beside) (as_others serves.schema) command knows.insert_is knows.insert_plain whole e serves.is_open (placed old at _ e) (stays old at _) refl h) [
+      | inl excused ↦ excused
+      | inr does ↦
+          let done = subst (λ s. Does old.step_limit (mode_of old) (cells t a) (record old.now { schema = s }) text None command (Err does.0)) (as_others serves.schema) does.1 in
+          absurd (elim (row_refused (task_of t beside old a) (mode_of old) at (terms t) (width t) db does.0 serves.unlimited refl (λ _ why. unsourced _ (are_accepted t a) why) knows.alone (refers beside later) (knows.on_rows old a text _ done)) [
+            | inl refused ↦
+                let rule = subst (λ ns. IsRefused (with_others beside) Enforced db (record { table = table_at t; gone = []; news = ns }) refused.0) (row_is t at beside knows db a) refused.1 in
+                not_refused t at beside later knows guards db others a are fresh id id_is free (subst (λ s. Keeps Unique s db) (as_others serves.schema) (live.obeys.rules Unique)) fits refused.0 rule
+            | inr long ↦ not_long t at beside later knows guards db others a are fresh id id_is free short long.0 (subst (λ ns. Has ns long.0) (row_is t at beside knows db a) long.1) long.2
+          ])
+    ]
+
+-- ---- a table with a key
+
+-- no other row has the key, so none has the rowid
+free_key : {A : Type 0} (t : Table A) (key : A → ℕ) → ((row : Row) (x : A) → shown t row ≡ cells t x → rowid row ≡ Int (pos (key x)))
+    → ((x a : A) → key x ≡ key a → AreSameAt (order t) (cells t x) (cells t a)) → (db : Trees) (others : List A) (a : A) (new : Row) → rowid new ≡ Int (pos (key a))
+    → IsPermutation (map (cells t) others) (rows_in t db) → IsNew t others a → is_taken (db t.tree) new ≡ false
+free_key t key read same db others a new is are fresh = free_of (db t.tree) new (λ other there equal.
+    let it = other_row t db others a are fresh other there in
+    let ints = equal_cmp (pos (key it.0)) (pos (key a)) (subst₂ (λ v w. is_eq (value_cmp v w) ≡ true) (read other it.0 it.1) is equal) in
+    it.2.0 (same it.0 a (let e : key it.0 ≡ key a = cc in e)))
+
+number_small : (n : ℕ) → is_number (number_cell n) ≡ true → n ≤ 4294967295
+unfolding is_number
+number_small n h = grind (arith, ints, h)
+
+-- the key of a row that fits is a rowid
+fits_key : (n : ℕ) (more both : Bool) → (is_number (number_cell n) && more) && both ≡ true → fits_i64 (pos n) ≡ true
+fits_key n more both h =
+    let small = number_small n (and_parts (is_number (number_cell n)) more (and_parts (is_number (number_cell n) && more) both h).0).0 in
+    lt-ltb _ _ (omega (arith, small))
 
 -- an act that is new to the table is taken
-pub takes_act : (old new : State) (acts : List WideAct) (a : WideAct) (e : Error) → IsServing old → IsDatabase old.now → IsPermutation (map stored_act acts) (act_rows old.now.trees) → IsNewAct acts a → fits_i64 a.n ≡ true → length a.body ≤ longest_body
-    → ExecutesInside 0 insert_act (act_values a) old new (Err e) → IsExcused old new e
-takes_act old new acts a e serves live are fresh fits short h =
-    let db = old.now.trees in
-    let command = Insert 0 (Values act_terms 7) in
-    let text = statement_of insert_act (understood book_schema insert_act) in
-    let task : Task = record { limit = old.step_limit; keys = Enforced; schema = book_schema; table = record acts_table { tree = 0 }; params = act_values a } in
-    elim (fails_for insert_act (act_values a) old new book_schema serves.schema command insert_act_is insert_act_plain insert_act_whole e serves.is_open (placed old 0 _ e) (stays old 0 _) refl h) [
-      | inl excused ↦ excused
-      | inr does ↦
-          let done = subst (λ s. Does old.step_limit (mode_of old) (act_values a) (record old.now { schema = s }) text None command (Err does.0)) serves.schema does.1 in
-          absurd (elim (row_refused task (mode_of old) 0 act_terms 7 db does.0 serves.unlimited refl (λ _ h. unsourced h) (λ _ _. refl) refers done) [
-            | inl refused ↦
-                let rule = subst (λ ns. IsRefused book_schema Enforced db (record { table = record acts_table { tree = 0 }; gone = []; news = ns }) refused.0) (row_act db a) refused.1 in
-                not_refused_act db acts a are fresh (subst (λ s. Keeps Unique s db) serves.schema (live.obeys.rules Unique)) fits refused.0 rule
-            | inr long ↦ not_long_act db acts a are fresh short long.0 (subst (λ ns. Has ns long.0) (row_act db a) long.1) long.2
-          ])
-    ]
-
--- ---- a record
-
-module _ (db : Trees) (records : List WideRecord) (r : WideRecord) (are : IsPermutation (map stored_record records) (db 2)) (new : IsNewRecord records r) where
-  abbrev at_records : Table
-  at_records = record records_table { tree = 2 }
-
-  other_record : (row : Row) → Has (db 2) row → (x : WideRecord) × (row ≡ stored_record x) × ((x.act ≢ r.act) × (x.household ≡ r.household → x.number ≢ r.number))
-  other_record = each_of stored_record _ records (db 2) are new
-
-  free_record : is_taken (db 2) (stored_record r) ≡ false
-  free_record = free_of (db 2) (stored_record r) (λ other there same.
-      let it = other_record other there in it.2.0 (equal_cmp it.0.act r.act (subst (λ s. is_eq (value_cmp (rowid s) (Int r.act)) ≡ true) it.1 same)))
-
-  key_record : (other : Row) → Has (db 2) other → agree plain (2 ∷ 3 ∷ []) other (2 ∷ 3 ∷ []) (stored_record r) ≡ true → ⊥
-  key_record other there both =
-      let it = other_record other there in
-      let parts = two_keys it.0.household r.household it.0.number r.number (subst (λ s. agree plain (2 ∷ 3 ∷ []) s (2 ∷ 3 ∷ []) (stored_record r) ≡ true) it.1 both) in
-      it.2.1 parts.0 parts.1
-
-  others_record : (es : List Row) (t : Table) → Has book_schema.tables t → t.tree ≢ 2 → with_tree db 2 es t.tree ≡ db t.tree
-  others_record es t (inl is) other = subst (λ (s : Table). with_tree db 2 es s.tree ≡ db s.tree) (sym is) refl
-  others_record es t (inr (inl is)) other = absurd (other (ap (λ (s : Table). s.tree) is))
-  others_record es t (inr (inr (inl is))) other = subst (λ (s : Table). with_tree db 2 es s.tree ≡ db s.tree) (sym is) refl
-  others_record es t (inr (inr (inr none))) other = absurd none
-
-  unique_record : Keeps Unique book_schema db → Keeps Unique book_schema (with_tree db 2 (put_row (stored_record r) (db 2)))
-  unique_record = unique_kept book_schema db _ at_records (db 2) [] (stored_record r ∷ [])
-      (turned db at_records (stored_record r) (inr (inl refl)) free_record (others_record _) refl)
-      (rw (unclashed (2 ∷ 3 ∷ []) (db 2) r.act (stored_record r) refl key_record) refl)
-
-  abbrev edit_record : Edit
-  edit_record = record { table = at_records; gone = []; news = stored_record r ∷ [] }
-
-  not_refused_record : Keeps Unique book_schema db → fits_i64 r.act ≡ true → (why : Refusal) → IsRefused book_schema Enforced db edit_record why → ⊥
-  not_refused_record keeps fits (Violates Datatype) h = true≢false (sym (typed_record db r r.event r.notice r.done) ∙ h)
-  not_refused_record keeps fits (Violates NotNull) h = true≢false h
-  not_refused_record keeps fits (Violates Check) h = true≢false h
-  not_refused_record keeps fits (Violates PrimaryKey) h = true≢false (rw free_record at h)
-  not_refused_record keeps fits (Violates Unique) h = h (unique_record keeps)
-  not_refused_record keeps fits (Violates ForeignKey) h = h
-  not_refused_record keeps fits Mismatch h = true≢false h
-  not_refused_record keeps fits NoRowid h = true≢false (rw fits at h)
-  not_refused_record keeps fits BadReference h = true≢false h
-  not_refused_record keeps fits TooDeep h = h
-
-  not_long_record : (row : Row) → Has edit_record.news row → IsOversized book_schema at_records row → ⊥
-  not_long_record row (inr none) h = absurd none
-  not_long_record row (inl is) (inl h) = subst (λ s. ¬ IsStorableRow (table_reals at_records) s) is h (
-    storable (stored_record r) (omega arith) (omega arith) (
-      whole_number r.act,
-      (
-        null_number,
-        (
-          whole_number r.household,
-          (
-            whole_number r.number,
-            (
-              whole_number r.kind,
-              (
-                whole_number r.first,
-                (
-                  whole_number r.corrects,
-                  (
-                    whole_number r.unit,
-                    (
-                      whole_number r.persons,
-                      (
-                        whole_number r.size,
-                        (
-                          whole_number r.extremely,
-                          (
-                            whole_number r.annual,
-                            (
-                              whole_number r.adjusted,
-                              (
-                                whole_number r.ttp,
-                                (
-                                  whole_number r.contract_rent,
-                                  (
-                                    whole_number r.utility,
-                                    (
-                                      whole_number r.assistance,
-                                      (number_or_none r.event, (number_or_none r.notice, (number_or_none r.done, tt))),
-                                    ),
-                                  ),
-                                ),
-                              ),
-                            ),
-                          ),
-                        ),
-                      ),
-                    ),
-                  ),
-                ),
-              ),
-            ),
-          ),
-        ),
-      ),
-    )
-        (subst (λ n. n ≤ 10 ^ 9) (sym (short_record db r r.event r.notice r.done)) (omega arith)),
-    omega arith,
-  )
-  not_long_record row (inl is) (inr (i, inl i_is, of, h)) = apart-0-2 (sym (ap (λ (k : Index). k.table) i_is) ∙ of)
-  not_long_record row (inl is) (inr (i, inr (inl i_is), of, h)) =
-      subst₂ (λ (k : Index) s. ¬ IsStorable (index_reals (table_reals at_records) k.columns) (entry_of k.columns s)) i_is is h
-      (storable (Int r.household ∷ Int r.number ∷ Int r.act ∷ []) (omega arith) (omega arith) (whole_number r.household, (whole_number r.number, (whole_number r.act, tt))) (omega arith))
-  not_long_record row (inl is) (inr (i, inr (inr (inl i_is)), of, h)) = apart-4-2 (sym (ap (λ (k : Index). k.table) i_is) ∙ of)
-  not_long_record row (inl is) (inr (i, inr (inr (inr none)), of, h)) = none
+pub takes_act : (old new : State) (others : List ActRow) (a : ActRow) (e : Error) → IsServing old → IsDatabase old.now → IsPermutation (map (cells acts) others) (rows_in acts old.now.trees) → IsNew acts others a
+    → fits acts (cells acts a) ≡ true → length a.body ≤ longest_body → ExecutesInside 0 (insert_text acts) (cells acts a) old new (Err e) → IsExcused old new e
+takes_act old new others a e serves live are fresh fit short h =
+    takes acts 0 old new serves (acts_understood (others_in serves.schema) serves.schema.later) (acts_guarded (others_in serves.schema) serves.schema.on_later) others a (pos a.n) e live are fresh refl
+    (free_key acts (λ x. x.n) (λ row x is. ap (λ (r : Row). column r 0) is) (λ x a is. (ap (λ n. Int (pos n)) is, tt)) old.now.trees others a (stored acts old.now.trees a) refl are fresh)
+    (fits_key a.n _ _ fit) (omega (arith, stored_size acts.key acts.columns (next_rowid (old.now.trees 0)) a, short)) h
 
 -- a record that is new to the table is taken
-pub takes_record : (old new : State) (records : List WideRecord) (r : WideRecord) (e : Error) → IsServing old → IsDatabase old.now → IsPermutation (map stored_record records) (record_rows old.now.trees) → IsNewRecord records r → fits_i64 r.act ≡ true
-    → ExecutesInside 0 insert_record (record_values r) old new (Err e) → IsExcused old new e
-takes_record old new records r e serves live are fresh fits h =
-    let db = old.now.trees in
-    let command = Insert 1 (Values record_terms 20) in
-    let text = statement_of insert_record (understood book_schema insert_record) in
-    let task : Task = record { limit = old.step_limit; keys = Enforced; schema = book_schema; table = record records_table { tree = 2 }; params = record_values r } in
-    elim (fails_for insert_record (record_values r) old new book_schema serves.schema command insert_record_is insert_record_plain insert_record_whole e serves.is_open (placed old 1 _ e) (stays old 1 _) refl h) [
-      | inl excused ↦ excused
-      | inr does ↦
-          let done = subst (λ s. Does old.step_limit (mode_of old) (record_values r) (record old.now { schema = s }) text None command (Err does.0)) serves.schema does.1 in
-          absurd (elim (row_refused task (mode_of old) 1 record_terms 20 db does.0 serves.unlimited refl (λ why. unsourced_record db r why r.event r.notice r.done) (λ _ _. refl) refers done) [
-            | inl refused ↦
-                let rule = subst (λ ns. IsRefused book_schema Enforced db (record { table = record records_table { tree = 2 }; gone = []; news = ns }) refused.0) (row_record db r) refused.1 in
-                not_refused_record db records r are fresh (subst (λ s. Keeps Unique s db) serves.schema (live.obeys.rules Unique)) fits refused.0 rule
-            | inr long ↦ not_long_record db records r are fresh long.0 (subst (λ ns. Has ns long.0) (row_record db r) long.1) long.2
-          ])
-    ]
+pub takes_record : (old new : State) (others : List Record) (r : Record) (e : Error) → IsServing old → IsDatabase old.now → IsPermutation (map (cells records) others) (rows_in records old.now.trees) → IsNew records others r
+    → fits records (cells records r) ≡ true → ExecutesInside 0 (insert_text records) (cells records r) old new (Err e) → IsExcused old new e
+takes_record old new others r e serves live are fresh fit h =
+    takes records 1 old new serves (records_understood (others_in serves.schema) serves.schema.later) (records_guarded (others_in serves.schema) serves.schema.on_later) others r (pos r.act) e live are fresh refl
+    (free_key records (λ x. x.act) (λ row x is. ap (λ (s : Row). column s 0) is) (λ x a is. (ap (λ n. Int (pos n)) is, tt)) old.now.trees others r (stored records old.now.trees r) refl are fresh)
+    (fits_key r.act _ _ fit) (omega (arith, stored_size records.key records.columns (next_rowid (old.now.trees 2)) r)) h
 
--- ---- a line
+-- ---- a table without one
 
 -- rows that are numbered from n on have no number as high as the next
 module _ (new : Row) (m : ℕ) (is : rowid new ≡ Int (pos m)) where
@@ -444,123 +425,29 @@ one_more : (n : ℕ) (rows : List Row) (new : Row) → AreNumbered n rows → ro
 one_more n [] new h is = (is ∙ ap (λ k. Int (pos k)) (omega arith), tt)
 one_more n (row ∷ rows) new h is = (h.0, one_more (n + 1) rows new h.1 (is ∙ ap (λ k. Int (pos k)) (omega arith)))
 
-module _ (db : Trees) (l : WideLine) (more : ℕ) (room : HasNumbers (db 4) (suc more)) where
-  next_is : rowid (numbered_line db l) ≡ Int (pos (1 + length (db 4)))
+module _ (db : Trees) (l : Line) (more : ℕ) (room : HasNumbers (db 4) (suc more)) where
+  next_is : rowid (stored lines db l) ≡ Int (pos (1 + length (db 4)))
   next_is = ap Int (next_number 1 (db 4) room.numbered)
 
-  free_line : is_taken (db 4) (numbered_line db l) ≡ false
-  free_line = last_free (numbered_line db l) (1 + length (db 4)) next_is 1 (db 4) room.numbered (omega arith)
+  free_line : is_taken (db 4) (stored lines db l) ≡ false
+  free_line = last_free (stored lines db l) (1 + length (db 4)) next_is 1 (db 4) room.numbered (omega arith)
 
   fits_next : fits_i64 (next_rowid (db 4)) ≡ true
   fits_next = ap fits_i64 (next_number 1 (db 4) room.numbered) ∙ lt-ltb _ _ (omega (arith, room.left))
 
   -- the lines have one number less
-  pub room_left : (new : Trees) → new 4 ≡ put_row (numbered_line db l) (db 4) → HasNumbers (new 4) more
+  pub room_left : (new : Trees) → new 4 ≡ put_row (stored lines db l) (db 4) → HasNumbers (new 4) more
   room_left new is =
-      let last : new 4 ≡ db 4 ++ numbered_line db l ∷ [] = is ∙ put_last (numbered_line db l) (1 + length (db 4)) next_is 1 (db 4) room.numbered (omega arith) in
+      let last : new 4 ≡ db 4 ++ stored lines db l ∷ [] = is ∙ put_last (stored lines db l) (1 + length (db 4)) next_is 1 (db 4) room.numbered (omega arith) in
       subst (λ rows. HasNumbers rows more) (sym last) (record {
-        numbered = one_more 1 (db 4) (numbered_line db l) room.numbered next_is;
-        left = omega (arith, room.left, length-append (db 4) (numbered_line db l ∷ []));
+        numbered = one_more 1 (db 4) (stored lines db l) room.numbered next_is;
+        left = omega (arith, room.left, length-append (db 4) (stored lines db l ∷ []));
       })
 
-module _ (db : Trees) (lines : List WideLine) (l : WideLine) (are : IsPermutation (map line_values lines) (without_rowids (db 4))) (new : IsNewLine lines l) (more : ℕ) (room : HasNumbers (db 4) (suc more)) where
-  abbrev at_lines : Table
-  at_lines = record lines_table { tree = 4 }
-
-  other_line : (row : Row) → Has (db 4) row → (x : WideLine) × (drop 1 row ≡ line_values x) × (x.act ≡ l.act → x.place ≢ l.place)
-  other_line row there = each_of line_values _ lines (without_rowids (db 4)) are new (drop 1 row) (mapped_has (drop 1) (db 4) row there)
-
-  -- the first column of a row says nothing of its key
-  behind : (row : Row) (values : Row) → drop 1 row ≡ values → agree plain (1 ∷ 2 ∷ []) row (1 ∷ 2 ∷ []) (numbered_line db l) ≡ agree plain (0 ∷ 1 ∷ []) values (0 ∷ 1 ∷ []) (line_values l)
-  behind [] values is = rw (← is) refl
-  behind (v ∷ row) values is = rw (← is) refl
-
-  key_line : (other : Row) → Has (db 4) other → agree plain (1 ∷ 2 ∷ []) other (1 ∷ 2 ∷ []) (numbered_line db l) ≡ true → ⊥
-  key_line other there both =
-      let it = other_line other there in
-      let parts = two_keys it.0.act l.act it.0.place l.place (sym (behind other (line_values it.0) it.1) ∙ both) in
-      it.2 parts.0 parts.1
-
-  others_line : (es : List Row) (t : Table) → Has book_schema.tables t → t.tree ≢ 4 → with_tree db 4 es t.tree ≡ db t.tree
-  others_line es t (inl is) other = subst (λ (s : Table). with_tree db 4 es s.tree ≡ db s.tree) (sym is) refl
-  others_line es t (inr (inl is)) other = subst (λ (s : Table). with_tree db 4 es s.tree ≡ db s.tree) (sym is) refl
-  others_line es t (inr (inr (inl is))) other = absurd (other (ap (λ (s : Table). s.tree) is))
-  others_line es t (inr (inr (inr none))) other = absurd none
-
-  unique_line : Keeps Unique book_schema db → Keeps Unique book_schema (with_tree db 4 (put_row (numbered_line db l) (db 4)))
-  unique_line = unique_kept book_schema db _ at_lines (db 4) [] (numbered_line db l ∷ [])
-      (turned db at_lines (numbered_line db l) (inr (inr (inl refl))) (free_line db l more room) (others_line _) refl)
-      (rw (unclashed (1 ∷ 2 ∷ []) (db 4) (next_rowid (db 4)) (numbered_line db l) refl key_line) refl)
-
-  abbrev edit_line : Edit
-  edit_line = record { table = at_lines; gone = []; news = numbered_line db l ∷ [] }
-
-  not_refused_line : Keeps Unique book_schema db → (why : Refusal) → IsRefused book_schema Enforced db edit_line why → ⊥
-  not_refused_line keeps (Violates Datatype) h = true≢false h
-  not_refused_line keeps (Violates NotNull) h = true≢false h
-  not_refused_line keeps (Violates Check) h = true≢false h
-  not_refused_line keeps (Violates PrimaryKey) h = true≢false (rw (free_line db l more room) at h)
-  not_refused_line keeps (Violates Unique) h = h (unique_line keeps)
-  not_refused_line keeps (Violates ForeignKey) h = h
-  not_refused_line keeps Mismatch h = true≢false h
-  not_refused_line keeps NoRowid h = true≢false (rw (fits_next db l more room) at h)
-  not_refused_line keeps BadReference h = true≢false h
-  not_refused_line keeps TooDeep h = h
-
-  not_long_line : (row : Row) → Has edit_line.news row → IsOversized book_schema at_lines row → ⊥
-  not_long_line row (inr none) h = absurd none
-  not_long_line row (inl is) (inl h) = subst (λ r. ¬ IsStorableRow (table_reals at_lines) r) is h (
-    storable (numbered_line db l) (omega arith) (omega arith) (
-      whole_number (next_rowid (db 4)),
-      (
-        whole_number l.act,
-        (
-          whole_number l.place,
-          (
-            whole_number l.month,
-            (
-              whole_number l.household,
-              (
-                whole_number l.for_month,
-                (
-                  whole_number l.first,
-                  (
-                    whole_number l.last,
-                    (whole_number l.old, (whole_number l.new, (whole_number l.amount, tt))),
-                  ),
-                ),
-              ),
-            ),
-          ),
-        ),
-      ),
-    )
-        (omega arith),
-    omega arith,
-  )
-  not_long_line row (inl is) (inr (i, inl i_is, of, h)) = apart-0-4 (sym (ap (λ (k : Index). k.table) i_is) ∙ of)
-  not_long_line row (inl is) (inr (i, inr (inl i_is), of, h)) = apart-2-4 (sym (ap (λ (k : Index). k.table) i_is) ∙ of)
-  not_long_line row (inl is) (inr (i, inr (inr (inl i_is)), of, h)) =
-      subst₂ (λ (k : Index) r. ¬ IsStorable (index_reals (table_reals at_lines) k.columns) (entry_of k.columns r)) i_is is h
-      (storable (Int l.act ∷ Int l.place ∷ Int (next_rowid (db 4)) ∷ []) (omega arith) (omega arith) (whole_number l.act, (whole_number l.place, (whole_number (next_rowid (db 4)), tt))) (omega arith))
-  not_long_line row (inl is) (inr (i, inr (inr (inr none)), of, h)) = none
-
 -- a line that is new to the table is taken
-pub takes_line : (old new : State) (lines : List WideLine) (l : WideLine) (more : ℕ) (e : Error) → IsServing old → IsDatabase old.now → IsPermutation (map line_values lines) (line_rows old.now.trees) → IsNewLine lines l → HasNumbers (old.now.trees 4) (suc more)
-    → ExecutesInside 0 insert_line (line_values l) old new (Err e) → IsExcused old new e
-takes_line old new lines l more e serves live are fresh room h =
+pub takes_line : (old new : State) (others : List Line) (l : Line) (more : ℕ) (e : Error) → IsServing old → IsDatabase old.now → IsPermutation (map (cells lines) others) (rows_in lines old.now.trees) → IsNew lines others l
+    → HasNumbers (old.now.trees 4) (suc more) → ExecutesInside 0 (insert_text lines) (cells lines l) old new (Err e) → IsExcused old new e
+takes_line old new others l more e serves live are fresh room h =
     let db = old.now.trees in
-    let command = Insert 2 (Values line_terms 11) in
-    let text = statement_of insert_line (understood book_schema insert_line) in
-    let task : Task = record { limit = old.step_limit; keys = Enforced; schema = book_schema; table = record lines_table { tree = 4 }; params = line_values l } in
-    elim (fails_for insert_line (line_values l) old new book_schema serves.schema command insert_line_is insert_line_plain insert_line_whole e serves.is_open (placed old 2 _ e) (stays old 2 _) refl h) [
-      | inl excused ↦ excused
-      | inr does ↦
-          let done = subst (λ s. Does old.step_limit (mode_of old) (line_values l) (record old.now { schema = s }) text None command (Err does.0)) serves.schema does.1 in
-          absurd (elim (row_refused task (mode_of old) 2 line_terms 11 db does.0 serves.unlimited refl (λ _ h. unsourced h) (λ _ _. refl) refers done) [
-            | inl refused ↦
-                let rule = subst (λ ns. IsRefused book_schema Enforced db (record { table = record lines_table { tree = 4 }; gone = []; news = ns }) refused.0) (row_line db l) refused.1 in
-                not_refused_line db lines l are fresh more room (subst (λ s. Keeps Unique s db) serves.schema (live.obeys.rules Unique)) refused.0 rule
-            | inr long ↦ not_long_line db lines l are fresh more room long.0 (subst (λ ns. Has ns long.0) (row_line db l) long.1) long.2
-          ])
-    ]
+    takes lines 2 old new serves (lines_understood (others_in serves.schema) serves.schema.later) (lines_guarded (others_in serves.schema) serves.schema.on_later) others l (next_rowid (db 4)) e live are fresh refl (free_line db l more room) (fits_next db l more room)
+    (omega (arith, stored_size lines.key lines.columns (next_rowid (db 4)) l)) h

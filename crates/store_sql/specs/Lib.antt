@@ -1,6 +1,7 @@
-pub mod Wide
-pub mod Rows
+pub mod Cells
+pub mod Tables
+pub mod Columns
 pub mod Schema
-pub mod Texts
 pub mod Trees
 pub mod Takes
+pub mod Types

@@ -1,79 +1,52 @@
--- The schema of a book's file: the tables acts, records and lines, which are STRICT.
-use Rattle.std.specs.Prelude.{true, false, Bool, Option, None, Some, codes, ℕ, List, [], ◌∷◌}
-use Rattle.sqlite.specs.declared.types.Value.TheVariants.{Null}
-use Rattle.sqlite_schema.specs.declared.schema.Column.{Column}
-use Rattle.sqlite_schema.specs.declared.schema.Kind.{Kind}
-use Rattle.sqlite_value.specs.Keys.{plain}
-use Rattle.sqlite.specs.Collation.TheVariants.{Binary}
-use Rattle.sqlite.specs.Table.{Table}
+-- The schema of a book's file: its three tables, which are STRICT, and what else may stand beside them.
+use Rattle.std.specs.Prelude.{◌≡◌, ℕ, nat_lt, List, [], ◌∷◌, ◌++◌, take, drop, length, Bool, true, ◌&&◌, ◌==◌}
+use Rattle.std.specs.List.{list_all}
 use Rattle.sqlite.specs.Schema.{Schema}
-use Rattle.sqlite.specs.Kind.TheVariants.{Integer, Text}
+use Rattle.sqlite_schema.specs.declared.schema.{Table.Table, Index.Index, View.View}
 use Rattle.sqlite.specs.Change.{created}
-
-abbrev column : List ℕ → Kind → Bool → Column
-column name kind not_null = record { name = name; kind = kind; is_strict = true; not_null = not_null; default = Null; collation = Binary }
-
--- a number, which is always there
-abbrev number : List ℕ → Column
-number name = column name Integer true
-
--- a number that may be NULL; so stands the key, which the rowid is
-abbrev perhaps : List ℕ → Column
-perhaps name = column name Integer false
-
--- a table with these columns, the place of an INTEGER PRIMARY KEY among them or none, and the places in a row of the
--- PRIMARY KEY and of one UNIQUE; a row has its rowid at place 0 and its columns after it
-abbrev table : List ℕ → List Column → Option ℕ → List ℕ → List ℕ → Table
-table name columns key primary unique = record {
-  name = name;
-  tree = 0;
-  columns = columns;
-  key = key;
-  primary = primary;
-  uniques = unique ∷ [];
-  orders = plain ∷ [];
-  checks = [];
-  references = [];
-  computed = [];
-  stamps = record { places = []; terms = []; formats = [] };
-  is_counted = false;
-}
-
--- by the act's number, and no two of one clerk and request
-abbrev pub acts_table : Table
-acts_table =
-    table (codes "acts")
-    (perhaps (codes "n") ∷ number (codes "session") ∷ number (codes "clerk") ∷ number (codes "request") ∷ number (codes "day") ∷ column (codes "body") Text true ∷ [])
-    (Some 0) (0 ∷ []) (3 ∷ 4 ∷ [])
-
--- by the act's number, and no two of one household and number
-abbrev pub records_table : Table
-records_table =
-    table (codes "records")
-    (perhaps (codes "act") ∷ number (codes "household") ∷ number (codes "number") ∷ number (codes "kind") ∷ number (codes "first") ∷ number (codes "corrects")
-    ∷ number (codes "unit") ∷ number (codes "persons") ∷ number (codes "size") ∷ number (codes "extremely") ∷ number (codes "annual") ∷ number (codes "adjusted")
-    ∷ number (codes "ttp") ∷ number (codes "contract_rent") ∷ number (codes "utility") ∷ number (codes "assistance")
-    ∷ perhaps (codes "event") ∷ perhaps (codes "notice") ∷ perhaps (codes "done") ∷ [])
-    (Some 0) (0 ∷ []) (2 ∷ 3 ∷ [])
-
--- by the act's number and the place among its lines
-abbrev pub lines_table : Table
-lines_table =
-    table (codes "lines")
-    (number (codes "act") ∷ number (codes "place") ∷ number (codes "month") ∷ number (codes "household") ∷ number (codes "for_month")
-    ∷ number (codes "first") ∷ number (codes "last") ∷ number (codes "old") ∷ number (codes "new") ∷ number (codes "amount") ∷ [])
-    None (1 ∷ 2 ∷ []) (1 ∷ 2 ∷ [])
+use Rattle.store_sql.specs.Tables.{schema_table}
+use Rattle.store_sql.specs.Columns.{acts, records, lines}
 
 abbrev pub no_schema : Schema
 no_schema = record { tables = []; indexes = []; views = [] }
 
 -- with the first table alone, and with the first two
 abbrev pub acts_schema : Schema
-acts_schema = created no_schema acts_table
+acts_schema = created no_schema (schema_table acts)
 
 abbrev pub records_schema : Schema
-records_schema = created acts_schema records_table
+records_schema = created acts_schema (schema_table records)
 
 -- with the three tables and the indexes that guard their keys, and nothing else
 abbrev pub book_schema : Schema
-book_schema = created records_schema lines_table
+book_schema = created records_schema (schema_table lines)
+
+-- what stands behind the three tables and their indexes, and the views and triggers
+pub record Others : Type 0 where
+  pub tables : List Table
+  pub indexes : List Index
+  pub views : List View
+
+abbrev pub others_of : Schema → Others
+others_of schema = record { tables = drop 3 schema.tables; indexes = drop 3 schema.indexes; views = schema.views }
+
+abbrev pub with_others : Others → Schema
+with_others others = record { tables = book_schema.tables ++ others.tables; indexes = book_schema.indexes ++ others.indexes; views = others.views }
+
+-- each in a later tree than this one and than those before it, and referring to no table
+abbrev pub are_later : ℕ → List Table → Bool
+are_later tree [] = true
+are_later tree (t ∷ ts) = nat_lt tree t.tree && ((length t.references == 0) && are_later t.tree ts)
+
+-- none is on a table that stands in this tree or before it
+abbrev pub are_on_later : ℕ → List Index → Bool
+are_on_later tree indexes = list_all (λ i. nat_lt tree i.table) indexes
+
+-- The three tables and their indexes come first, as they are made, and nothing else in the file touches them: the other
+-- tables stand in later trees, refer to none, and have the other indexes. (A trigger on a table takes it out of the
+-- schema's tables.)
+pub record HasTables (schema : Schema) : Type 0 where
+  pub tables : take 3 schema.tables ≡ book_schema.tables
+  pub later : are_later 5 (drop 3 schema.tables) ≡ true
+  pub indexes : take 3 schema.indexes ≡ book_schema.indexes
+  pub on_later : are_on_later 5 (drop 3 schema.indexes) ≡ true

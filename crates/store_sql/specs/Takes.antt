@@ -1,13 +1,13 @@
 -- Which rows the tables of a book's file take, and why a statement that they take fails all the same.
-use Rattle.std.specs.Prelude.{◌≡◌, ◌≢◌, ◌⊎◌, ◌<◌, ℕ, ◌+◌, ◌^◌, pos, ⊤, List, [], ◌∷◌, All, None, length, IsTrue}
+use Rattle.std.specs.Prelude.{◌≡◌, ◌⊎◌, ◌<◌, ℕ, ◌+◌, ◌^◌, pos, ⊤, List, [], ◌∷◌, All, None, length, IsTrue}
 use Rattle.sqlite.specs.declared.types.Value.TheVariants.{Int}
-use Rattle.sqlite.specs.Order.{Row}
+use Rattle.sqlite.specs.Order.{Row, column}
 use Rattle.sqlite.specs.Tree.{rowid}
 use Rattle.sqlite.specs.Disk.{MoreFaults}
 use Rattle.sqlite.specs.State.{State}
 use Rattle.sqlite.specs.declared.error.{Error.Error, Error.TheVariants.SqliteFailure, ErrorCode.TheVariants.OutOfMemory}
-use Rattle.store_sql.specs.declared.wide.{WideAct.WideAct, WideRecord.WideRecord, WideLine.WideLine}
-use Rattle.store_sql.specs.Schema.{book_schema}
+use Rattle.store_sql.specs.Tables.{Table, cells, order}
+use Rattle.store_sql.specs.Schema.{HasTables}
 
 -- memory ran out, or the store counted a fault
 abbrev pub IsExcused : State → State → Error → Type 0
@@ -17,19 +17,17 @@ IsExcused old new e = (e ≡ SqliteFailure OutOfMemory) ⊎ MoreFaults old.fault
 pub record IsServing (s : State) : Type 0 where
   pub is_open : IsTrue s.is_open
   pub unlimited : s.step_limit ≡ None
-  pub schema : s.now.schema ≡ book_schema
+  pub schema : HasTables s.now.schema
 
--- none of the acts has the number of this one, nor its clerk and request
-abbrev pub IsNewAct : List WideAct → WideAct → Type 0
-IsNewAct acts act = All (λ other. (other.n ≢ act.n) × (other.clerk ≡ act.clerk → other.request ≢ act.request)) acts
+-- the rows are the same at these places
+abbrev pub AreSameAt : List ℕ → Row → Row → Type 0
+AreSameAt [] a b = ⊤
+AreSameAt (place ∷ places) a b = (column a place ≡ column b place) × AreSameAt places a b
 
--- none of the records has the act of this one, nor its household and number
-abbrev pub IsNewRecord : List WideRecord → WideRecord → Type 0
-IsNewRecord records made = All (λ other. (other.act ≢ made.act) × (other.household ≡ made.household → other.number ≢ made.number)) records
-
--- none of the lines has the act and the place of this one
-abbrev pub IsNewLine : List WideLine → WideLine → Type 0
-IsNewLine lines line = All (λ other. other.act ≡ line.act → other.place ≢ line.place) lines
+-- none of these has the key of this one, nor the same in the two columns in which no two rows are the same
+abbrev pub IsNew : {A : Type 0} → Table A → List A → A → Type 0
+IsNew t others new =
+    All (λ other. (AreSameAt (order t) (cells t other) (cells t new) → ⊥) × (AreSameAt t.unique (cells t other) (cells t new) → ⊥)) others
 
 -- a row takes at most a billion bytes, of which 126 are for the numbers of an act and for where its columns end
 abbrev pub longest_body : ℕ

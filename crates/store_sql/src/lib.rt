@@ -1,9 +1,12 @@
-//! The three tables of a book's file: their schema, the texts of the statements on them, what each text means, and the
-//! rows as they are stored.
+//! The three tables of a book's file: their columns, the texts of the statements on them, what each text means, and the rows
+//! of the book as they are stored.
 #![tactic(auto)]
 
-mod wide;
-mod widening;
+mod cells;
+mod columns;
+mod rows;
+mod types;
 
-pub use wide::{WideAct, WideLine, WideRecord};
-pub use widening::{wide_day, wide_line, wide_record};
+pub use cells::number_at;
+pub use columns::{ACT_COLUMNS, LINE_COLUMNS, RECORD_COLUMNS, SqlColumn};
+pub use rows::{StoredRow, act_cells, line_cells, record_cells};

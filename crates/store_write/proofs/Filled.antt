@@ -1,16 +1,17 @@
 -- How the INSERTs of a batch come together.
 use Rattle.std.proofs.lemmas.List.{map-append, take_more}
 use Rattle.voucher_core.specs.declared.line.Line.{Line}
-use Rattle.store_sql.specs.Wide.{wide_line}
+use Rattle.record_history.specs.declared.records.Record.{Record}
+use Rattle.book_rows.specs.declared.rows.ActRow.{ActRow}
 use Rattle.std.proofs.Common.{◌+◌, ◌<◌, get_or, take, length, ap, ◌≡◌, ℕ, List, [], ◌∷◌, ◌++◌, Result, Ok, Err, Bool, true, false, IsTrue, refl, sym, subst, ◌∙◌, append_assoc, append-nil, IsPermutation}
+use Rattle.std.specs.List.{AllByRecursion}
 use Rattle.std.proofs.lemmas.List.Sorted.{IsPermutation-refl, IsPermutation-trans, IsPermutation-append_left}
 use Rattle.sqlite.specs.Order.{Row}
 use Rattle.sqlite.specs.Tree.{Trees}
 use Rattle.sqlite.specs.State.{State, Executes, ExecutesInside}
-use Rattle.store_sql.specs.declared.wide.{WideAct.WideAct, WideRecord.WideRecord, WideLine.WideLine}
-use Rattle.store_sql.specs.Rows.{act_values, stored_act, record_values, stored_record, line_values}
-use Rattle.store_sql.specs.Schema.{no_schema, book_schema}
-use Rattle.store_sql.specs.Texts.{insert_act, insert_record, insert_line}
+use Rattle.store_sql.specs.Tables.{cells, fits, insert_text}
+use Rattle.store_sql.specs.Columns.{acts, records, lines}
+use Rattle.store_sql.specs.Schema.{no_schema, HasTables}
 use Rattle.store_sql.specs.Trees.{Adds}
 use Rattle.store_sql.proofs.Meanings.{insert_act_lacks}
 use Rattle.store_sql.proofs.Inserts.{puts_act, puts_record, puts_line}
@@ -44,24 +45,24 @@ fills_then a b c d e f o m n one two = record {
   inside = λ h. two.inside (one.inside h);
   schema = two.schema ∙ one.schema;
   live = λ h. two.live (one.live h);
-  rows = λ has. adds_then a b c d e f _ _ _ (one.rows has) (two.rows (one.schema ∙ has));
+  rows = λ has. adds_then a b c d e f _ _ _ (one.rows has) (two.rows (subst HasTables (sym one.schema) has));
 }
 
 module _ (old new : State) where
-  fills : (sql : List ℕ) (params : Row) (a b c : List Row) → Inserts sql params old new → (old.now.schema ≡ book_schema → Adds a b c old.now.trees new.now.trees) → Fills a b c old new
+  fills : (sql : List ℕ) (params : Row) (a b c : List Row) → Inserts sql params old new → (HasTables old.now.schema → Adds a b c old.now.trees new.now.trees) → Fills a b c old new
   fills sql params a b c h rows = record { inside = λ _. h.inside; schema = h.schema; live = λ _. h.live; rows = rows }
 
-  pub fills_act : (a : WideAct) → Inserts insert_act (act_values a) old new → Fills (stored_act a ∷ []) [] [] old new
+  pub fills_act : (a : ActRow) → Inserts (insert_text acts) (cells acts a) old new → Fills (cells acts a ∷ []) [] [] old new
   fills_act a h = fills _ _ _ _ _ h (λ has. puts_act old new a 1 has h.ran)
 
-  pub fills_record : (r : WideRecord) → Inserts insert_record (record_values r) old new → Fills [] (stored_record r ∷ []) [] old new
+  pub fills_record : (r : Record) → Inserts (insert_text records) (cells records r) old new → Fills [] (cells records r ∷ []) [] old new
   fills_record r h = fills _ _ _ _ _ h (λ has. puts_record old new r 1 has h.ran)
 
-  pub fills_line : (l : WideLine) → Inserts insert_line (line_values l) old new → Fills [] [] (line_values l ∷ []) old new
+  pub fills_line : (l : Line) → Inserts (insert_text lines) (cells lines l) old new → Fills [] [] (cells lines l ∷ []) old new
   fills_line l h = fills _ _ _ _ _ h (λ has. puts_line old new l 1 has h.ran)
 
-  pub known_act : (params : Row) → Inserts insert_act params old new → old.now.schema ≡ no_schema → ⊥
-  known_act params h = means_something insert_act params old new no_schema 1 _ insert_act_lacks h.ran
+  pub known_act : (params : Row) → Inserts (insert_text acts) params old new → old.now.schema ≡ no_schema → ⊥
+  known_act params h = means_something (insert_text acts) params old new no_schema 1 _ insert_act_lacks h.ran
 
 pub batch_fills : (act : Row) (made lines : List Row) (a b c d : State) → Fills (act ∷ []) [] [] a b → Fills [] made [] b c → Fills [] [] lines c d → Fills (act ∷ []) made lines a d
 batch_fills act made lines a b c d one two three =
@@ -77,10 +78,20 @@ is_inside true ended went = refl
 is_inside false ended went = let stopped = (ended refl).0 in absurd (cc)
 
 -- the lines so far, and one more
-pub lines_more : (a b c : State) (lines : List Line) (i : ℕ) (line : Line) (wide : WideLine) → line ≡ get_or lines i line → wide ≡ wide_line line → i < length lines → Fills [] [] (line_part (take i lines)) a b
-    → Fills [] [] (line_values wide ∷ []) b c → Fills [] [] (line_part (take (i + 1) lines)) a c
-lines_more a b c lines i line wide is wide_is within one two =
-    let last : get_or lines i line ∷ [] ≡ line ∷ [] = ap (λ x. x ∷ []) (sym is) in
-    let parts = ap line_part (take_more lines i line within ∙ ap (λ l. take i lines ++ l) last) ∙ map-append (λ (x : Line). line_values (wide_line x)) (take i lines) (line ∷ []) in
-    let here : line_values wide ∷ [] ≡ line_values (wide_line line) ∷ [] = ap (λ w. line_values w ∷ []) wide_is in
-    subst (λ l. Fills [] [] l a c) (sym (parts ∙ ap (λ l. line_part (take i lines) ++ l) (sym here))) (fills_then [] [] (line_part (take i lines)) [] [] (line_values wide ∷ []) a b c one two)
+lines_so : (made : List Line) (i : ℕ) (line : Line) → line ≡ get_or made i line → i < length made → line_part (take (i + 1) made) ≡ line_part (take i made) ++ cells lines line ∷ []
+lines_so made i line is within =
+    ap line_part (take_more made i line within ∙ ap (λ x. take i made ++ x ∷ []) (sym is)) ∙ map-append (cells lines) (take i made) (line ∷ [])
+
+pub lines_more : (a b c : State) (made : List Line) (i : ℕ) (line : Line) → line ≡ get_or made i line → i < length made → Fills [] [] (line_part (take i made)) a b → Fills [] [] (cells lines line ∷ []) b c
+    → Fills [] [] (line_part (take (i + 1) made)) a c
+lines_more a b c made i line is within one two =
+    subst (λ l. Fills [] [] l a c) (sym (lines_so made i line is within)) (fills_then [] [] (line_part (take i made)) [] [] (cells lines line ∷ []) a b c one two)
+
+pub fit_more : (made : List Line) (i : ℕ) (line : Line) → line ≡ get_or made i line → i < length made → AllByRecursion (λ row. fits lines row ≡ true) (line_part (take i made)) → fits lines (cells lines line) ≡ true
+    → AllByRecursion (λ row. fits lines row ≡ true) (line_part (take (i + 1) made))
+fit_more made i line is within before fit =
+    subst (AllByRecursion (λ row. fits lines row ≡ true)) (sym (lines_so made i line is within)) (all_push (λ row. fits lines row ≡ true) (line_part (take i made)) (cells lines line) before fit)
+  where
+    all_push : (P : Row → Type 0) (rows : List Row) (row : Row) → AllByRecursion P rows → P row → AllByRecursion P (rows ++ row ∷ [])
+    all_push P [] row before here = (here, tt)
+    all_push P (r ∷ rows) row before here = (before.0, all_push P rows row before.1 here)

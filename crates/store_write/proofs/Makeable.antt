@@ -23,11 +23,11 @@ use Rattle.sqlite_catalog.specs.Calls.{RefusesTable}
 use Rattle.sqlite_value.specs.Order.{value_cmp}
 use Rattle.sqlite_trees.specs.Sound.{fits_kind, is_free_name, begins, same_name}
 use Rattle.sqlite_tied.specs.Compute.{everything}
-use Rattle.store_sql.specs.Schema.{no_schema, acts_schema, records_schema, acts_table, records_table, lines_table}
-use Rattle.store_sql.specs.Texts.{create_acts, create_records, create_lines}
+use Rattle.store_sql.specs.Tables.{schema_table, create_text}
+use Rattle.store_sql.specs.Columns.{acts, records, lines}
+use Rattle.store_sql.specs.Schema.{no_schema, acts_schema, records_schema}
 use Rattle.store_sql.specs.Takes.{IsExcused}
-use Rattle.store_sql.proofs.Meanings.{create_acts_is, create_acts_plain, create_records_is, create_records_plain, create_lines_is, create_lines_plain}
-use Rattle.store_sql.proofs.Wholes.{IsWhole, create_acts_whole, create_records_whole, create_lines_whole}
+use Rattle.store_sql.proofs.Meanings.{IsWhole, acts_made, records_made, lines_made}
 use Rattle.store_sql.proofs.Parts.{same_value}
 use Rattle.store_sql.proofs.Refusals.{fails_for}
 use Rattle.store_sql.proofs.Creates.{makes}
@@ -115,49 +115,49 @@ of_one : {X : Type 0} (P : X → Type 0) (one : X) → P one → (x : X) → Has
 of_one P one holds x (inl is) = subst P (sym is) holds
 of_one P one holds x (inr none) = absurd none
 
-acts_makeable : IsMakeable no_schema create_acts acts_table
+acts_makeable : IsMakeable no_schema (create_text acts) (schema_table acts)
 unfolding everything fits_kind is_free_name begins same_name value_cmp lib.Utf8.encode lib.Ieee.is_nan lib.Ieee.lt
 acts_makeable = record {
-  text = (create_acts, (refl, refl));
-  name = (acts_table.name, (refl, refl));
+  text = ((create_text acts), (refl, refl));
+  name = ((schema_table acts).name, (refl, refl));
   free = refl;
   unused = of_one (λ (index : Index). is_used no_schema index.name ≡ false) _ refl;
   own = refl;
   trees = omega arith;
   reals = omega arith;
-  keys = of_one (λ key. index_reals (table_reals acts_table) key < 2 ^ 64) _ (omega arith);
+  keys = of_one (λ key. index_reals (table_reals (schema_table acts)) key < 2 ^ 64) _ (omega arith);
   formed = refl;
   fit = refl;
   short = omega arith;
 }
 
-records_makeable : IsMakeable acts_schema create_records records_table
+records_makeable : IsMakeable acts_schema (create_text records) (schema_table records)
 unfolding everything fits_kind is_free_name begins same_name value_cmp lib.Utf8.encode lib.Ieee.is_nan lib.Ieee.lt
 records_makeable = record {
-  text = (create_records, (refl, refl));
-  name = (records_table.name, (refl, refl));
+  text = ((create_text records), (refl, refl));
+  name = ((schema_table records).name, (refl, refl));
   free = refl;
   unused = of_one (λ (index : Index). is_used acts_schema index.name ≡ false) _ refl;
   own = refl;
   trees = omega arith;
   reals = omega arith;
-  keys = of_one (λ key. index_reals (table_reals records_table) key < 2 ^ 64) _ (omega arith);
+  keys = of_one (λ key. index_reals (table_reals (schema_table records)) key < 2 ^ 64) _ (omega arith);
   formed = refl;
   fit = refl;
   short = omega arith;
 }
 
-lines_makeable : IsMakeable records_schema create_lines lines_table
+lines_makeable : IsMakeable records_schema (create_text lines) (schema_table lines)
 unfolding everything fits_kind is_free_name begins same_name value_cmp lib.Utf8.encode lib.Ieee.is_nan lib.Ieee.lt
 lines_makeable = record {
-  text = (create_lines, (refl, refl));
-  name = (lines_table.name, (refl, refl));
+  text = ((create_text lines), (refl, refl));
+  name = ((schema_table lines).name, (refl, refl));
   free = refl;
   unused = of_one (λ (index : Index). is_used records_schema index.name ≡ false) _ refl;
   own = refl;
   trees = omega arith;
   reals = omega arith;
-  keys = of_one (λ key. index_reals (table_reals lines_table) key < 2 ^ 64) _ (omega arith);
+  keys = of_one (λ key. index_reals (table_reals (schema_table lines)) key < 2 ^ 64) _ (omega arith);
   formed = refl;
   fit = refl;
   short = omega arith;
@@ -165,21 +165,21 @@ lines_makeable = record {
 
 -- the first, the second and the third, each after those before it
 module _ (a new : State) (e : Error) (empty : a.now.schema ≡ no_schema) where
-  pub acts_by_fault : IsTrue a.is_open → ExecutesInside 0 create_acts [] a new (Err e) → IsExcused a new e
-  acts_by_fault is_open = created_by_fault no_schema create_acts acts_table create_acts_is.0 create_acts_is.1 create_acts_is.2 create_acts_plain create_acts_whole acts_makeable refl a new e is_open empty
+  pub acts_by_fault : IsTrue a.is_open → ExecutesInside 0 (create_text acts) [] a new (Err e) → IsExcused a new e
+  acts_by_fault is_open = created_by_fault no_schema (create_text acts) (schema_table acts) acts_made.is acts_made.text acts_made.defined acts_made.plain acts_made.whole acts_makeable refl a new e is_open empty
 
-  module _ (b : State) (first : Ran create_acts a b) where
+  module _ (b : State) (first : Ran (create_text acts) a b) where
     has_acts : b.now.schema ≡ acts_schema
-    has_acts = (makes create_acts no_schema acts_table create_acts_is.0 create_acts_is.1 create_acts_plain create_acts_is.2 refl a b first.0 empty first.1).schema_is
+    has_acts = (makes (create_text acts) no_schema (schema_table acts) acts_made.is acts_made.text acts_made.plain acts_made.defined refl a b first.0 empty first.1).schema_is
 
-    pub records_by_fault : a.faults ≤ b.faults → IsTrue b.is_open → ExecutesInside 0 create_records [] b new (Err e) → IsExcused a new e
+    pub records_by_fault : a.faults ≤ b.faults → IsTrue b.is_open → ExecutesInside 0 (create_text records) [] b new (Err e) → IsExcused a new e
     records_by_fault later is_open h =
-        excused_from a b new e later (created_by_fault acts_schema create_records records_table create_records_is.0 create_records_is.1 create_records_is.2 create_records_plain create_records_whole records_makeable refl b new e is_open has_acts h)
+        excused_from a b new e later (created_by_fault acts_schema (create_text records) (schema_table records) records_made.is records_made.text records_made.defined records_made.plain records_made.whole records_makeable refl b new e is_open has_acts h)
 
-    module _ (c : State) (second : Ran create_records b c) where
+    module _ (c : State) (second : Ran (create_text records) b c) where
       has_records : c.now.schema ≡ records_schema
-      has_records = (makes create_records acts_schema records_table create_records_is.0 create_records_is.1 create_records_plain create_records_is.2 refl b c second.0 has_acts second.1).schema_is
+      has_records = (makes (create_text records) acts_schema (schema_table records) records_made.is records_made.text records_made.plain records_made.defined refl b c second.0 has_acts second.1).schema_is
 
-      pub lines_by_fault : a.faults ≤ c.faults → IsTrue c.is_open → ExecutesInside 0 create_lines [] c new (Err e) → IsExcused a new e
+      pub lines_by_fault : a.faults ≤ c.faults → IsTrue c.is_open → ExecutesInside 0 (create_text lines) [] c new (Err e) → IsExcused a new e
       lines_by_fault later is_open h =
-          excused_from a c new e later (created_by_fault records_schema create_lines lines_table create_lines_is.0 create_lines_is.1 create_lines_is.2 create_lines_plain create_lines_whole lines_makeable refl c new e is_open has_records h)
+          excused_from a c new e later (created_by_fault records_schema (create_text lines) (schema_table lines) lines_made.is lines_made.text lines_made.defined lines_made.plain lines_made.whole lines_makeable refl c new e is_open has_records h)

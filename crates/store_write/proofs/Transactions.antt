@@ -5,9 +5,9 @@ use Rattle.sqlite.specs.Tree.{Trees}
 use Rattle.sqlite.specs.declared.error.Error.{Error}
 use Rattle.sqlite.specs.{Effect.Database, Effect.IsDatabase, State.State, State.Shows, State.IsRolledBack, State.KeepsCommit, Steps.FailsToCommit}
 use Rattle.book_rows.specs.declared.rows.Batch.{Batch}
-use Rattle.store_sql.specs.Schema.{no_schema, book_schema}
+use Rattle.store_sql.specs.Schema.{no_schema, HasTables}
 use Rattle.store_sql.specs.Trees.{Adds}
-use Rattle.store_write.specs.Effects.{Fills, Settles, Lands, Undoes, BatchTrees, IsMade, Makes, MadeTrees, act_part, made_part, line_part}
+use Rattle.store_write.specs.Effects.{Fills, Settles, Lands, AllFit, Undoes, BatchTrees, IsMade, Makes, MadeTrees, act_part, made_part, line_part}
 
 module _ (old mid new : State) (alone : old.in_transaction ≡ false) (kept : KeepsCommit old mid) where
   pub rolled_back : (IsTrue old.is_open → old.now ≡ old.committed) → IsRolledBack mid new → Undoes old new
@@ -24,12 +24,13 @@ module _ (old mid new : State) (alone : old.in_transaction ≡ false) (kept : Ke
   settles : Shows mid new mid.now mid.now false → Settles old new
   settles shown = record { was_open = kept.was_open shown.was_open; is_open = shown.is_open; was_alone = alone; alone = shown.mode; settled = shown.committed_is ∙ sym shown.now_is }
 
-  pub lands : (batch : Batch) → Fills (act_part batch.act) (made_part batch.made) (line_part batch.lines) old mid → IsDatabase mid.now → (old.now.schema ≡ no_schema → ⊥) → Shows mid new mid.now mid.now false → Lands old new batch
-  lands batch filled live known shown = record {
+  pub lands : (batch : Batch) → Fills (act_part batch.act) (made_part batch.made) (line_part batch.lines) old mid → IsDatabase mid.now → AllFit batch → (old.now.schema ≡ no_schema → ⊥) → Shows mid new mid.now mid.now false → Lands old new batch
+  lands batch filled live fit known shown = record {
     settles = settles shown;
     known = known;
     schema = ap (λ (d : Database). d.schema) shown.now_is ∙ filled.schema;
     live = subst IsDatabase (sym shown.now_is) live;
+    fit = fit;
     rows = λ has. subst (Adds (act_part batch.act) (made_part batch.made) (line_part batch.lines) old.now.trees) (sym (ap (λ (d : Database). d.trees) shown.now_is)) (filled.rows has);
   }
 
@@ -37,10 +38,11 @@ module _ (old mid new : State) (alone : old.in_transaction ≡ false) (kept : Ke
   makes made shown = record { settles = settles shown; made = λ none. subst IsMade (sym shown.now_is) (made none) }
 
 -- what the commit may write
-pub batch_trees : (old mid : State) (batch : Batch) (trees : Trees) → (mid.now.schema ≡ old.now.schema) → (old.now.schema ≡ book_schema → Adds (act_part batch.act) (made_part batch.made) (line_part batch.lines) old.now.trees mid.now.trees) → IsDatabase mid.now → (old.now.schema ≡ no_schema → ⊥)
+pub batch_trees : (old mid : State) (batch : Batch) (trees : Trees) → (mid.now.schema ≡ old.now.schema) → (HasTables old.now.schema → Adds (act_part batch.act) (made_part batch.made) (line_part batch.lines) old.now.trees mid.now.trees) → IsDatabase mid.now → AllFit batch → (old.now.schema ≡ no_schema → ⊥)
     → trees ≡ mid.now.trees → BatchTrees old batch trees
-batch_trees old mid batch trees schema rows live known is = record {
+batch_trees old mid batch trees schema rows live fit known is = record {
   known = known;
+  fit = fit;
   live = subst IsDatabase (λ i. record { schema = schema i; trees = sym is i }) live;
   rows = λ has. subst (Adds (act_part batch.act) (made_part batch.made) (line_part batch.lines) old.now.trees) (sym is) (rows has);
 }

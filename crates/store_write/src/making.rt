@@ -6,7 +6,11 @@ ghost use Rattle.store_sql.specs.Schema.{no_schema};
 ghost use Rattle.store_sql.specs.Takes.{IsExcused};
 ghost use Rattle.store_write.specs.Effects.{Ran, IsMade, Makes, Undoes, MadeTrees};
 
+use book_rows::ActRow;
+use record_history::Record;
 use sqlite::{Alter, Connection, Error, Transaction};
+use store_sql::StoredRow;
+use voucher_core::Line;
 
 fn create<S: Alter>(tx: &mut Transaction<'_, S>, sql: &str) -> Result<(), Error>
     ensures same_reference { tx.new.conn.ghost_name ≡ tx.old.conn.ghost_name }
@@ -30,18 +34,9 @@ fn create_tables<S: Alter>(tx: &mut Transaction<'_, S>) -> Result<(), Error>
     ensures kept { HasCleanDisk (state S.Store tx.new.conn.now) → KeepsCommit (state S.Store tx.old.conn.now) (state S.Store tx.new.conn.now) }
     ensures survives { Survives (state S.Store tx.old.conn.now) (state S.Store tx.new.conn.now) (λ _. ⊥) }
 {
-    create(
-        tx,
-        "CREATE TABLE acts (n INTEGER PRIMARY KEY, session INTEGER NOT NULL, clerk INTEGER NOT NULL, request INTEGER NOT NULL, day INTEGER NOT NULL, body TEXT NOT NULL, UNIQUE (clerk, request)) STRICT",
-    )?;
-    create(
-        tx,
-        "CREATE TABLE records (act INTEGER PRIMARY KEY, household INTEGER NOT NULL, number INTEGER NOT NULL, kind INTEGER NOT NULL, first INTEGER NOT NULL, corrects INTEGER NOT NULL, unit INTEGER NOT NULL, persons INTEGER NOT NULL, size INTEGER NOT NULL, extremely INTEGER NOT NULL, annual INTEGER NOT NULL, adjusted INTEGER NOT NULL, ttp INTEGER NOT NULL, contract_rent INTEGER NOT NULL, utility INTEGER NOT NULL, assistance INTEGER NOT NULL, event INTEGER, notice INTEGER, done INTEGER, UNIQUE (household, number)) STRICT",
-    )?;
-    create(
-        tx,
-        "CREATE TABLE lines (act INTEGER NOT NULL, place INTEGER NOT NULL, month INTEGER NOT NULL, household INTEGER NOT NULL, for_month INTEGER NOT NULL, first INTEGER NOT NULL, last INTEGER NOT NULL, old INTEGER NOT NULL, new INTEGER NOT NULL, amount INTEGER NOT NULL, PRIMARY KEY (act, place)) STRICT",
-    )
+    create(tx, ActRow::create_text())?;
+    create(tx, Record::create_text())?;
+    create(tx, Line::create_text())
 }
 
 /// Makes the three tables by one transaction: all of them, or none.

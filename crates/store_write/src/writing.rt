@@ -5,7 +5,7 @@ ghost use Rattle.sqlite.specs.{State.HasCleanDisk, State.KeepsCommit, State.Surv
 ghost use Rattle.store_sql.specs.Schema.{no_schema};
 ghost use Rattle.store_sql.specs.Takes.{IsExcused, IsServing};
 ghost use Rattle.store_write.specs.Causes.{Takes};
-ghost use Rattle.store_write.specs.Effects.{Fills, Lands, Undoes, BatchTrees, act_part, made_part, line_part};
+ghost use Rattle.store_write.specs.Effects.{Fills, Lands, AllFit, Undoes, BatchTrees, act_part, made_part, line_part};
 
 use crate::inserting::{insert_act, insert_lines, insert_made};
 use book_rows::Batch;
@@ -15,6 +15,7 @@ use sqlite::{Alter, Connection, Error, Transaction};
 fn fill<S: Alter>(tx: &mut Transaction<'_, S>, batch: &Batch) -> Result<(), Error>
     ensures same_reference { tx.new.conn.ghost_name ≡ tx.old.conn.ghost_name }
     ensures filled { HasCleanDisk (state S.Store tx.new.conn.now) → OnOk result (Fills (act_part batch.now.act) (made_part batch.now.made) (line_part batch.now.lines) (state S.Store tx.old.conn.now) (state S.Store tx.new.conn.now)) }
+    ensures fit { OnOk result (AllFit batch.now) }
     ensures live { HasCleanDisk (state S.Store tx.new.conn.now) → OnOk result (IsDatabase (state S.Store tx.new.conn.now).now) }
     ensures known { HasCleanDisk (state S.Store tx.new.conn.now) → OnOk result ((state S.Store tx.old.conn.now).now.schema ≡ no_schema → ⊥) }
     ensures cause { HasCleanDisk (state S.Store tx.new.conn.now) → IfErr result (λ e. IsServing (state S.Store tx.old.conn.now) → IsDatabase (state S.Store tx.old.conn.now).now → IsTrue (state S.Store tx.old.conn.now).in_transaction → Takes (state S.Store tx.old.conn.now).now.trees batch.now → IsExcused (state S.Store tx.old.conn.now) (state S.Store tx.new.conn.now) e) }

@@ -1,13 +1,11 @@
-use Rattle.std.proofs.Common.{[], not, sym, subst, ap, ◌∙◌, arith, rules}
-use Rattle.sqlite.specs.{Held.state, State.HasCleanDisk, State.IsUnchanged, Effect.Database}
-use Rattle.store_sql.specs.Rows.{act_values}
-use Rattle.store_sql.specs.Texts.{select_acts}
-use Rattle.store_sql.proofs.Selects.{shows_acts}
-use Rattle.store_write.proofs.Causes.{excused_from}
-use Rattle.store_read.specs.Asking.{AreActs, ListsActs}
+use Rattle.std.proofs.Common.{ℕ, List, [], not, ap, subst, ◌∙◌, arith}
+use Rattle.sqlite.specs.{Held.state, State.IsNotRun}
+use Rattle.store_sql.specs.Columns.{acts}
+use Rattle.store_sql.proofs.Meanings.{others_in, as_others, acts_understood}
+use Rattle.store_sql.proofs.Selects.{shows_rows}
 use Rattle.store_read.proofs.Texts.{lacks, acts_only_read}
-use Rattle.store_read.proofs.Asked.{not_run, ended_undoes, asks}
-use Rattle.store_read.proofs.Refused.{asks_acts, acts_in_turn, acts_not_run, serves_on}
+use Rattle.store_read.proofs.Asked.{not_run, ended_undoes, whenever}
+use Rattle.store_read.proofs.Refused.{asks_rows, not_prepared}
 use Rattle.store_read.proofs.asking.ask_acts.Goals as goal
 
 pub returns-in-Err-clause-undone : goal.returns-in-Err-clause-undone
@@ -16,33 +14,21 @@ returns-in-Err-clause-undone g c clean =
     let new = state g.S.Store c.prepare.new.self in
     ended_undoes old new (c.requires.alone, c.is_autocommit-is_alone.ensures.settled (c.is_autocommit-is_alone.ensures.value ∙ ap not c.requires.alone)) (not_run old new _ [] _ (c.in-Err.ensures.err clean []))
 
-pub returns-in-Ok-clause-known : goal.returns-in-Ok-clause-known
-returns-in-Ok-clause-known g c clean none =
-    lacks c.args.conn.now.schema _ none (c.in_default.ensures.shape (omega (arith, c.read_rows.ensures.survives.clean, clean)))
-
-pub read_rows-requires-clause-reads : goal.read_rows-requires-clause-reads
-read_rows-requires-clause-reads g c = acts_only_read
-
-pub returns-in-Ok-clause-shown : goal.returns-in-Ok-clause-shown
-returns-in-Ok-clause-shown g c clean =
-    let all = asks g.S.Store act_values select_acts AreActs c.prepare.new.self c.read_rows.new.conn _ (rw c.in-Ok.is at (c.read_rows.ensures.shown clean)) (λ last now rows has h one acts are rise. one acts (shows_acts last now rows has h acts are rise)) in
-    search rules
-
-pub read_rows-requires-clause-refused : goal.read_rows-requires-clause-refused
-read_rows-requires-clause-refused g c old new e serves = asks_acts (state g.S.Store old) (state g.S.Store new) e serves
-
 pub returns-in-Err-clause-cause : goal.returns-in-Err-clause-cause
-returns-in-Err-clause-cause g c clean serves acts lists =
-    acts_not_run (state g.S.Store c.args.conn.now) (state g.S.Store c.prepare.new.self) _ serves (c.in-Err.ensures.err clean [])
+returns-in-Err-clause-cause g c clean serves =
+    let old = state g.S.Store c.args.conn.now in
+    let new = state g.S.Store c.prepare.new.self in
+    not_prepared acts 0 old new c.in-Err.error serves (acts_understood (others_in serves.schema) serves.schema.later) (subst (λ (sql : List ℕ). IsNotRun old new sql [] c.in-Err.error) c.select_text.ensures (c.in-Err.ensures.err clean []))
 
-pub returns-in-Err-read_rows-clause-cause : goal.returns-in-Err-read_rows-clause-cause
-returns-in-Err-read_rows-clause-cause g c clean serves acts lists =
-    let old = c.args.conn.now in
-    let mid = c.prepare.new.self in
-    let did = c.read_rows.ensures in
-    let early : HasCleanDisk (state g.S.Store mid) = omega (arith, did.survives.clean, clean) in
-    let same : IsUnchanged (state g.S.Store old) (state g.S.Store mid) = (c.in_default.ensures.ok early).1 in
-    let serving = serves_on (state g.S.Store old) (state g.S.Store mid) serves same c.prepare.ensures.survives.limit in
-    let there : ListsActs (state g.S.Store mid).now.trees acts = subst (λ (d : Database). ListsActs d.trees acts) (sym same.0.now_is) lists in
-    excused_from (state g.S.Store old) (state g.S.Store mid) (state g.S.Store c.read_rows.new.conn) _ c.prepare.ensures.survives.counts
-    (c.in-Err-read_rows.ensures.cause clean serving acts (acts_in_turn g.S.Store mid serving.schema acts there))
+pub returns-clause-known : goal.returns-clause-known
+returns-clause-known g c clean =
+    whenever c.ask.result (λ none. lacks c.args.conn.now.schema c.select_text.result.now _ c.select_text.ensures none (c.in_default.ensures.shape (omega (arith, c.ask.ensures.survives.clean, clean))))
+
+pub ask-requires-clause-reads : goal.ask-requires-clause-reads
+ask-requires-clause-reads g c = acts_only_read
+
+pub ask-requires-clause-refused : goal.ask-requires-clause-refused
+ask-requires-clause-refused g c old new e serves = asks_rows acts 0 (state g.S.Store old) (state g.S.Store new) e serves (acts_understood (others_in serves.schema) serves.schema.later)
+
+pub ask-requires-clause-shows : goal.ask-requires-clause-shows
+ask-requires-clause-shows g c old new rows listed has = shows_rows acts 0 (others_in has) (acts_understood (others_in has) has.later) (state g.S.Store old) (state g.S.Store new) rows listed (as_others has)

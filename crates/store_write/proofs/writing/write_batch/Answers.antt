@@ -16,7 +16,7 @@ returns-clause-survives g c =
     let whole = survives_then (state g.S.Store old) (state g.S.Store mid) (state g.S.Store end) _ _ P (λ _ db none. absurd none)
     (λ clean db is.
     let earlier : HasCleanDisk (state g.S.Store mid) = omega (arith, c.commit.ensures.survives.clean, clean) in
-    batch_trees (state g.S.Store old) (state g.S.Store mid) c.args.batch.now db (rw begun at (filled.filled earlier)).schema (rw begun at (filled.filled earlier)).rows (filled.live earlier) (rw begun at (filled.known earlier)) is)
+    batch_trees (state g.S.Store old) (state g.S.Store mid) c.args.batch.now db (rw begun at (filled.filled earlier)).schema (rw begun at (filled.filled earlier)).rows (filled.live earlier) filled.fit (rw begun at (filled.known earlier)) is)
     (survives_begin g.S.Store old (state g.S.Store mid) _ (rw begun at filled.survives)) c.commit.ensures.survives in
     let same : end ≡ c.conn-2-1.given.0 = search rules in
     subst (λ h. Survives (state g.S.Store old) (state g.S.Store h) P) same whole
