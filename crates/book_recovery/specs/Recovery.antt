@@ -19,6 +19,12 @@ pub record HoldsBook (image : Image) (book : Book) : Type 0 where
 abbrev pub HoldsABook : Image → Type 0
 HoldsABook image = (book : Book) × HoldsBook image book
 
+-- the file and its log hold trees that a stop may leave, whatever they are
+pub record HoldsTrees (s : State) (image : Image) : Type 0 where
+  pub trees : Trees
+  pub left : s.may_leave trees
+  pub held : HoldsDatabase image trees
+
 -- the file and its log hold a book that a stop may leave
 pub record HoldsLeft (s : State) (image : Image) : Type 0 where
   pub book : Book

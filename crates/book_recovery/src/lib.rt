@@ -14,7 +14,7 @@ ghost use Rattle.sqlite.specs.WalReads.{AreClean};
 ghost use Rattle.book_rows.specs.Book.{Book, IsBatch, IsBefore};
 ghost use Rattle.keeper_core.specs.{Keeping.LoadCause, declared.keeper.Loaded.TheVariants.Failed};
 ghost use Rattle.keeper_sqlite.specs.Told.{Holds, TellsCrash};
-ghost use Rattle.book_recovery.specs.Recovery.{HoldsBook, HoldsABook, HoldsLeft, IsWell, FindsBook, GivesAcknowledged, LeavesABook, Recovers, IsKept, GivesRows, GivesAfter, IsUnopened, IsLeftBy, HasABook, IsUnopenedAgain, IsUnopenedAfter};
+ghost use Rattle.book_recovery.specs.Recovery.{HoldsBook, HoldsABook, HoldsLeft, HoldsTrees, IsWell, FindsBook, GivesAcknowledged, LeavesABook, Recovers, IsKept, GivesRows, GivesAfter, IsUnopened, IsLeftBy, HasABook, IsUnopenedAgain, IsUnopenedAfter};
 
 use book_rows::Batch;
 use keeper_core::{Committed, Keeper, Loaded};
@@ -63,12 +63,14 @@ pub fn reopen<D: Disk + Drop>(
 /// Gives the two files of a keeper as they are, with nothing written.
 ///
 /// Whatever a stop may leave of them holds the book that the keeper tells. Where it tells none, that holds a book that it says a
-/// stop may leave.
+/// stop may leave. A keeper that tells nothing has its files left alone too.
 pub fn stop<D: Disk + Drop>(keeper: SqliteKeeper<FileStore<D>>) -> Files<D>
     ensures told { AreClean D.Disk result.log result.db → (book : Book) → Holds (file_state keeper.file) keeper.is_beside book
         → (left : Image) → outcomes D.Disk result.log result.db left → HoldsBook left book }
     ensures left { AreClean D.Disk result.log result.db → LeavesABook keeper
         → (left : Image) → outcomes D.Disk result.log result.db left → ∥ HoldsLeft (file_state keeper.file) left ∥₁ }
+    ensures leaves { AreClean D.Disk result.log result.db
+        → (left : Image) → outcomes D.Disk result.log result.db left → ∥ HoldsTrees (file_state keeper.file) left ∥₁ }
     ensures honest { AreClean D.Disk result.log result.db → HasCleanDisk (file_state keeper.file) }
 {
     let connection = keeper.release();

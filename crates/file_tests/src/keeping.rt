@@ -189,14 +189,27 @@ fn nothing_stands_beside_the_tables_of_a_book(rt: HostRuntime) {
     assert!(rt; !is_flagged(&rt, alloc, again));
 }
 
-/// A file with a table, an index or a view beside the three tables is served, and the flag says what it has.
+/// A file with a table that refers to none, its index, or a view beside the three tables is a book's all the same.
+#[test]
+fn others_that_touch_no_table_of_a_book(rt: HostRuntime) {
+    let alloc = rt.alloc();
+    for other in [
+        "CREATE TABLE notes (n INTEGER UNIQUE) STRICT",
+        "CREATE VIEW clerks AS SELECT clerk FROM acts",
+    ] {
+        let mut conn = written(&rt, alloc);
+        assert!(rt; conn.execute(other, &[]).is_ok());
+        assert!(rt; !is_flagged(&rt, alloc, conn), "{other}");
+    }
+}
+
+/// A file with an index on a table of a book, or with a table that refers to one, is served, and the flag says what it has.
 #[test]
 fn file_with_something_beside_is_served_and_flagged(rt: HostRuntime) {
     let alloc = rt.alloc();
     for other in [
-        "CREATE TABLE notes (n INTEGER) STRICT",
+        "CREATE TABLE notes (n INTEGER REFERENCES acts (n)) STRICT",
         "CREATE INDEX by_session ON acts (session)",
-        "CREATE VIEW clerks AS SELECT clerk FROM acts",
     ] {
         let mut conn = written(&rt, alloc);
         assert!(rt; conn.execute(other, &[]).is_ok());

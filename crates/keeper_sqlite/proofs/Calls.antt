@@ -5,22 +5,22 @@ use Rattle.sqlite.specs.Tree.{Trees}
 use Rattle.sqlite_disk.specs.Disk.{MoreFaults}
 use Rattle.sqlite_value.specs.Order.{Row}
 use Rattle.sqlite.specs.{Effect.Database, Effect.IsDatabase, State.State, State.HasCleanDisk, State.Survives}
+use Rattle.sqlite.specs.declared.error.Error.{Error}
 use Rattle.book_rows.specs.declared.{rows.Batch.Batch, tables.Tables.Tables}
 use Rattle.book_rows.specs.Book.{Book, book_of, empty_book, IsBatch, IsBefore, appended}
 use Rattle.keeper_core.specs.Keeping.{BadRow, Keeps, Gives, Commits, LeavesTold, LeavesOrCommits}
 use Rattle.keeper_core.specs.declared.keeper.{Loaded.Loaded, Committed.Committed}
-use Rattle.store_sql.specs.declared.wide.{WideAct.WideAct, WideRecord.WideRecord, WideLine.WideLine}
-use Rattle.store_sql.specs.Wide.{wide_act, wide_record, wide_line}
-use Rattle.store_sql.specs.Rows.{line_values, stored_act, stored_record}
-use Rattle.store_sql.specs.Schema.{no_schema, book_schema}
+use Rattle.store_sql.specs.Tables.{cells}
+use Rattle.store_sql.specs.Columns.{acts, records, lines}
+use Rattle.store_sql.specs.Schema.{no_schema, book_schema, HasTables}
 use Rattle.store_sql.specs.Trees.{StandsFor, HoldsNone}
 use Rattle.store_write.specs.Effects.{Undoes, IsMade, Makes, MadeTrees, Lands, BatchTrees}
 use Rattle.store_read.specs.declared.asking.AskedRows.{AskedRows}
 use Rattle.store_read.specs.Asking.{AreAsked}
-use Rattle.store_decode.specs.Ranges.{Narrows, IsInRange, first_bad, row_of}
-use Rattle.keeper_sqlite.specs.Told.{IsBookIn, IsBadIn, IsReady, Holds, HoldsBad, IsWell, TellsCrash, MayLeave, MaySpoil, CrashLeaves, TellsNoMore, TellsOn, GoesOn, StaysOpen, IsFileOf, LeavesBooks, IsSettled, IsAnswer, IsOwn, Notes}
-use Rattle.keeper_sqlite.proofs.Landing.{act_only, record_only, line_only}
-use Rattle.keeper_sqlite.proofs.Books.{book_once, schemas_differ, rows_once, exclusive}
+use Rattle.store_decode.specs.Read.{Narrows, first_bad}
+use Rattle.keeper_sqlite.specs.Told.{IsBookIn, IsBadIn, IsReady, Holds, HoldsBad, IsWell, TellsCrash, MayLeave, MaySpoil, CrashLeaves, TellsNoMore, TellsOn, GoesOn, StaysOpen, IsFileOf, LeavesBooks, IsSettled, IsOwn, Notes, IsTold, IsUnloadedByFault}
+use Rattle.store_sql.proofs.Standing.{one_act, one_record, one_line}
+use Rattle.keeper_sqlite.proofs.Books.{book_once, made_has, schemas_differ, rows_once, exclusive}
 use Rattle.keeper_sqlite.proofs.Batches.{rows_before, book_after, bad_before}
 
 -- ---- what a call answered
@@ -111,7 +111,7 @@ then_no_more a b c p q r one two = record {
 
 -- ---- the flag
 
--- a book's file has the three tables alone
+-- a book's file has the three tables, and nothing that touches them
 pub book_own : (s : State) (book : Book) → IsBookIn s.now book → IsOwn s.now.schema
 book_own s book (inl p) = inr p.schema
 book_own s book (inr none) = inl none.0
@@ -203,58 +203,76 @@ module _ {X Y : Type 0} (f : X → Y) (only : (a b : X) → f a ≡ f b → a �
       let more = map_only xs ys later in
       λ i. one i ∷ more i
 
-book_is : (tables : Tables) (book : Book) → map wide_act tables.acts.items ≡ map wide_act book.acts → map wide_record tables.records.items ≡ map wide_record book.records → map wide_line tables.lines.items ≡ map wide_line book.lines → book_of tables ≡ book
+book_is : (tables : Tables) (book : Book) → map (cells acts) tables.acts.items ≡ map (cells acts) book.acts → map (cells records) tables.records.items ≡ map (cells records) book.records → map (cells lines) tables.lines.items ≡ map (cells lines) book.lines → book_of tables ≡ book
 book_is tables book acts_are records_are lines_are =
-    let acts = map_only wide_act (λ a b e. act_only a b (ap stored_act e)) tables.acts.items book.acts acts_are in
-    let records = map_only wide_record (λ a b e. record_only a b (ap stored_record e)) tables.records.items book.records records_are in
-    let lines = map_only wide_line (λ a b e. line_only a b (ap line_values e)) tables.lines.items book.lines lines_are in
-    λ i. record { acts = acts i; records = records i; lines = lines i }
+    let one = map_only (cells acts) one_act tables.acts.items book.acts acts_are in
+    let two = map_only (cells records) one_record tables.records.items book.records records_are in
+    let three = map_only (cells lines) one_line tables.lines.items book.lines lines_are in
+    λ i. record { acts = one i; records = two i; lines = three i }
 
 none_some : {X : Type 0} (o : Option X) (x : X) → o ≡ None → o ≡ Some x → ⊥
 none_some o x p q = let e : None ≡ Some x = sym p ∙ q in absurd (cc)
+
+some_in : {X : Type 0} (x y : X) → Some y ≡ Some x → y ≡ x
+some_in x y e = cc
 
 some_once : {X : Type 0} (o : Option X) (x y : X) → o ≡ Some x → o ≡ Some y → y ≡ x
 some_once o x y p q = let e : Some y ≡ Some x = sym q ∙ p in cc
 
 module _ (rows : AskedRows) (db : Database) (asked : AreAsked rows db) (loaded : Loaded) (reads : Narrows rows.acts rows.records rows.lines loaded) where
-  of_rows : (acts : List WideAct) (records : List WideRecord) (lines : List WideLine) → db.schema ≡ book_schema → StandsFor db.trees acts records lines → Narrows acts records lines loaded
-  of_rows acts records lines has stands =
-      subst (λ l. Narrows acts records l loaded) (asked.lines has lines stands.lines_are stands.lines_rise)
-      (subst (λ r. Narrows acts r rows.lines loaded) (asked.records has records stands.records_are stands.records_rise)
-      (subst (λ a. Narrows a rows.records rows.lines loaded) (asked.acts has acts stands.acts_are stands.acts_rise) reads))
+  of_rows : (act_rows record_rows line_rows : List Row) → HasTables db.schema → StandsFor db.trees act_rows record_rows line_rows → Narrows act_rows record_rows line_rows loaded
+  of_rows act_rows record_rows line_rows has stands =
+      subst (λ l. Narrows act_rows record_rows l loaded) (asked.lines has line_rows stands.lines)
+      (subst (λ r. Narrows act_rows r rows.lines loaded) (asked.records has record_rows stands.records)
+      (subst (λ a. Narrows a rows.records rows.lines loaded) (asked.acts has act_rows stands.acts) reads))
 
-  pub of_book : (book : Book) → IsBookIn db book → first_bad (map wide_act book.acts) (map wide_record book.records) (map wide_line book.lines) ≡ None × Narrows (map wide_act book.acts) (map wide_record book.records) (map wide_line book.lines) loaded
+  pub of_book : (book : Book) → IsBookIn db book → first_bad (map (cells acts) book.acts) (map (cells records) book.records) (map (cells lines) book.lines) ≡ None × Narrows (map (cells acts) book.acts) (map (cells records) book.records) (map (cells lines) book.lines) loaded
   of_book book (inl p) = (p.fits, of_rows _ _ _ p.schema p.stands)
   of_book book (inr none) = absurd (asked.known none.0)
 
-  pub of_bad : (row : BadRow) (bad : IsBadIn db row) → Narrows bad.acts bad.records bad.lines loaded
-  of_bad row bad = of_rows bad.acts bad.records bad.lines bad.schema bad.stands
+  pub of_bad : (row : BadRow) (bad : IsBadIn db row) → Narrows bad.act_rows bad.record_rows bad.line_rows loaded
+  of_bad row bad = of_rows bad.act_rows bad.record_rows bad.line_rows bad.schema bad.stands
 
 pub gives_rows : (rows : AskedRows) (old new : State) (P : Trees → Type 0) (loaded : Loaded) (b : Bool) → Survives old new P → (HasCleanDisk new → AreAsked rows old.now) → (HasCleanDisk new → Undoes old new)
     → Narrows rows.acts rows.records rows.lines loaded
     → Gives (Holds new b) (HoldsBad new b) loaded
 gives_rows rows old new P (Loaded.Rows tables) b lives asked undone reads = (
   (λ book h. let it = of_book rows old.now (asked h.ready.clean) (Loaded.Rows tables) reads book (book_before old new P lives undone b book h).it in book_is tables book it.1.1.0 it.1.1.1.0 it.1.1.1.1),
-  (λ row h. let bad = (row_before old new P lives undone b row h).it in none_some _ row (of_bad rows old.now (asked h.ready.clean) (Loaded.Rows tables) reads row bad).0 bad.is),
+  (λ row h. let bad = (row_before old new P lives undone b row h).it in none_some _ (Some row) (of_bad rows old.now (asked h.ready.clean) (Loaded.Rows tables) reads row bad).0 bad.is),
 )
 gives_rows rows old new P (Loaded.BadRow table act) b lives asked undone reads = (
-  (λ book h. let it = of_book rows old.now (asked h.ready.clean) (Loaded.BadRow table act) reads book (book_before old new P lives undone b book h).it in none_some _ (row_of table act) it.0 it.1),
-  (λ row h. let bad = (row_before old new P lives undone b row h).it in some_once _ _ row (of_bad rows old.now (asked h.ready.clean) (Loaded.BadRow table act) reads row bad) bad.is),
+  (λ book h. let it = of_book rows old.now (asked h.ready.clean) (Loaded.BadRow table act) reads book (book_before old new P lives undone b book h).it in none_some _ _ it.0 it.1),
+  (λ row h. let bad = (row_before old new P lives undone b row h).it in some_in _ row (some_once _ _ (Some row) (of_bad rows old.now (asked h.ready.clean) (Loaded.BadRow table act) reads row bad) bad.is)),
 )
 gives_rows rows old new P Loaded.Failed b lives asked undone reads = tt
 gives_rows rows old new P Loaded.NoMemory b lives asked undone reads = tt
 
-pub is_answer : (acts : List WideAct) (records : List WideRecord) (lines : List WideLine) (loaded : Loaded) → Narrows acts records lines loaded → IsAnswer loaded
-is_answer acts records lines (Loaded.Rows tables) h = tt
-is_answer acts records lines (Loaded.BadRow table act) h = tt
-is_answer acts records lines Loaded.Failed h = h
-is_answer acts records lines Loaded.NoMemory h = tt
+-- no cell of the first row that doesn't fit is of another type than its column's, where a book or a bad row is told
+module _ (rows : AskedRows) (old new : State) (b : Bool) (asked : HasCleanDisk new → AreAsked rows old.now) where
+  first_as : (act_rows record_rows line_rows : List Row) → HasCleanDisk new → HasTables old.now.schema → StandsFor old.now.trees act_rows record_rows line_rows → first_bad act_rows record_rows line_rows ≡ first_bad rows.acts rows.records rows.lines
+  first_as act_rows record_rows line_rows clean has stands =
+      let it = asked clean in
+      λ i. first_bad (sym (it.acts has act_rows stands.acts) i) (sym (it.records has record_rows stands.records) i) (sym (it.lines has line_rows stands.lines) i)
+
+  in_book : HasCleanDisk new → first_bad rows.acts rows.records rows.lines ≡ Some None → (book : Book) → IsBookIn old.now book → ⊥
+  in_book clean wrong book (inr none) = (asked clean).known none.0
+  in_book clean wrong book (inl p) = none_some _ _ p.fits (first_as _ _ _ clean p.schema p.stands ∙ wrong)
+
+  in_told : HasCleanDisk new → first_bad rows.acts rows.records rows.lines ≡ Some None → IsTold old b → ⊥
+  in_told clean wrong (inl it) = in_book clean wrong it.0 it.1.it
+  in_told clean wrong (inr it) =
+      let bad = it.1.it in
+      let same : Some it.0 ≡ None = some_once _ _ _ (first_as _ _ _ clean bad.schema bad.stands ∙ wrong) bad.is in
+      absurd (cc)
+
+  pub mistyped : (e : Error) → first_bad rows.acts rows.records rows.lines ≡ Some None → IsUnloadedByFault old b new e
+  mistyped e wrong clean told unlimited = absurd (in_told clean wrong told)
 
 -- ---- tables that were made
 
-no_rows : {X : Type 0} (f : X → Row) (xs : List X) (rows : List Row) → rows ≡ [] → IsPermutation (map f xs) rows → xs ≡ []
-no_rows f [] rows none same = refl
-no_rows f (x ∷ xs) rows none same = let e : 0 ≡ suc (length (map f xs)) = sym (ap length none) ∙ length_permutation _ _ same in absurd (omega (arith, e))
+no_rows : (xs rows : List Row) → rows ≡ [] → IsPermutation xs rows → xs ≡ []
+no_rows [] rows none same = refl
+no_rows (x ∷ xs) rows none same = let e : 0 ≡ suc (length xs) = sym (ap length none) ∙ length_permutation _ _ same in absurd (omega (arith, e))
 
 unmapped : {X Y : Type 0} (f : X → Y) (xs : List X) → map f xs ≡ [] → xs ≡ []
 unmapped f [] e = refl
@@ -263,31 +281,28 @@ unmapped f (x ∷ xs) e = absurd (cc)
 made_empty : (db : Database) → IsMade db → (book : Book) → IsBookIn db book → book ≡ empty_book
 made_empty db made book (inr none) = none.1
 made_empty db made book (inl p) =
-    let acts = unmapped wide_act book.acts (no_rows stored_act _ _ made.none.acts p.stands.acts_are) in
-    let records = unmapped wide_record book.records (no_rows stored_record _ _ made.none.records p.stands.records_are) in
-    let lines = unmapped wide_line book.lines (no_rows line_values _ _ made.none.lines p.stands.lines_are) in
-    λ i. record { acts = acts i; records = records i; lines = lines i }
+    let one = unmapped (cells acts) book.acts (no_rows _ _ made.none.acts p.stands.acts.are) in
+    let two = unmapped (cells records) book.records (no_rows _ _ made.none.records p.stands.records.are) in
+    let three = unmapped (cells lines) book.lines (no_rows _ _ made.none.lines p.stands.lines.are) in
+    λ i. record { acts = one i; records = two i; lines = three i }
 
 made_good : (db : Database) → IsMade db → (row : BadRow) → IsBadIn db row → ⊥
 made_good db made row bad =
-    let acts = no_rows stored_act _ _ made.none.acts bad.stands.acts_are in
-    let records = no_rows stored_record _ _ made.none.records bad.stands.records_are in
-    let lines = no_rows line_values _ _ made.none.lines bad.stands.lines_are in
-    let none : first_bad bad.acts bad.records bad.lines ≡ None = rw (acts, records, lines) refl in
-    none_some _ row none bad.is
+    let one = no_rows _ _ made.none.acts bad.stands.acts.are in
+    let two = no_rows _ _ made.none.records bad.stands.records.are in
+    let three = no_rows _ _ made.none.lines bad.stands.lines.are in
+    let none : first_bad bad.act_rows bad.record_rows bad.line_rows ≡ None = rw (one, two, three) refl in
+    none_some _ (Some row) none bad.is
 
 stands_empty : (trees : Trees) → HoldsNone trees → StandsFor trees [] [] []
 stands_empty trees none = record {
-  acts_are = subst (IsPermutation []) (sym none.acts) (IsPermutation-refl []);
-  records_are = subst (IsPermutation []) (sym none.records) (IsPermutation-refl []);
-  lines_are = subst (IsPermutation []) (sym none.lines) (IsPermutation-refl []);
-  acts_rise = tt;
-  records_rise = tt;
-  lines_rise = tt;
+  acts = record { are = subst (IsPermutation []) (sym none.acts) (IsPermutation-refl []); rise = tt };
+  records = record { are = subst (IsPermutation []) (sym none.records) (IsPermutation-refl []); rise = tt };
+  lines = record { are = subst (IsPermutation []) (sym none.lines) (IsPermutation-refl []); rise = tt };
 }
 
 empty_in : (db : Database) → IsMade db → IsBookIn db empty_book
-empty_in db made = inl (record { schema = made.schema; stands = stands_empty db.trees made.none; fits = refl })
+empty_in db made = inl (record { schema = made_has db.schema made.schema; stands = stands_empty db.trees made.none; fits = refl })
 
 module _ (old new : State) (lives : Survives old new (MadeTrees old)) (settled : IsSettled old) (empty : old.now.schema ≡ no_schema) (b : Bool) where
   -- what the making may have written is the empty book's file
@@ -354,18 +369,18 @@ module _ (old new : State) (lives : Survives old new (MadeTrees old)) (settled :
     made_on clean lives_on =
         let it = made clean in
         let ready : IsReady new = record { clean = clean; is_open = it.settles.is_open; alone = it.settles.alone } in
-        record { book = λ book h. record { ready = ready; own = h.own; it = go book h.it }; row = λ row h. absurd (schemas_differ (sym h.it.schema ∙ empty)) }
+        record { book = λ book h. record { ready = ready; own = h.own; it = go book h.it }; row = λ row h. absurd (schemas_differ _ h.it.schema empty) }
       where
         go : (book : Book) → IsBookIn old.now book → IsBookIn new.now book
-        go book (inl p) = absurd (schemas_differ (sym p.schema ∙ empty))
+        go book (inl p) = absurd (schemas_differ _ p.schema empty)
         go book (inr none) = subst (IsBookIn new.now) (sym none.1) (empty_in new.now (is_made clean))
 
 -- ---- a batch that was written
 
 book_same : (db : Database) (x y : Book) → IsBookIn db x → IsBookIn db y → x ≡ y
 book_same db x y (inl p) (inl q) = rows_once db db x y refl p q
-book_same db x y (inl p) (inr q) = absurd (schemas_differ (sym p.schema ∙ q.0))
-book_same db x y (inr p) (inl q) = absurd (schemas_differ (sym q.schema ∙ p.0))
+book_same db x y (inl p) (inr q) = absurd (schemas_differ _ p.schema q.0)
+book_same db x y (inr p) (inl q) = absurd (schemas_differ _ q.schema p.0)
 book_same db x y (inr p) (inr q) = p.1 ∙ sym q.1
 
 module _ (old new : State) (b : Bool) (batch : Batch) (it : IsBatch batch) (lives : Survives old new (BatchTrees old batch)) where
@@ -382,26 +397,26 @@ module _ (old new : State) (b : Bool) (batch : Batch) (it : IsBatch batch) (live
         go : IsBookIn new.now book → (was : Book) × (Holds old b was × (book ≡ appended was batch))
         go (inr none) = absurd (l.known (sym l.schema ∙ none.0))
         go (inl p) =
-            let has : old.now.schema ≡ book_schema = sym l.schema ∙ p.schema in
+            let has : HasTables old.now.schema = subst HasTables l.schema p.schema in
             let found = rows_before old.now new.now batch (l.rows has) has it book p (λ was w. next was (record { ready = ready_then h.ready; own = h.own; it = w })) in
             (found.0, (record { ready = ready_then h.ready; own = h.own; it = found.1.0 }, found.1.1))
 
     -- the book that was told is told on, with the batch
-    pub landed_on : IsInRange batch → HasCleanDisk new → (book : Book) → Holds old b book → Holds new b (appended book batch)
-    landed_on fit clean book h = record { ready = record { clean = clean; is_open = l.settles.is_open; alone = l.settles.alone }; own = h.own; it = go h.it }
+    pub landed_on : HasCleanDisk new → (book : Book) → Holds old b book → Holds new b (appended book batch)
+    landed_on clean book h = record { ready = record { clean = clean; is_open = l.settles.is_open; alone = l.settles.alone }; own = h.own; it = go h.it }
       where
         l : Lands old new batch
         l = lands clean
 
         go : IsBookIn old.now book → IsBookIn new.now (appended book batch)
-        go (inl p) = inl (book_after old.now new.now batch (l.rows p.schema) (l.schema ∙ p.schema) it fit book p (next book h))
+        go (inl p) = inl (book_after old.now new.now batch (l.rows p.schema) (subst HasTables (sym l.schema) p.schema) it l.fit book p (next book h))
         go (inr none) = absurd (l.known none.0)
 
-    pub landed_row : IsInRange batch → Keeps (HoldsBad old b) (HoldsBad new b)
-    landed_row fit row h =
+    pub landed_row : Keeps (HoldsBad old b) (HoldsBad new b)
+    landed_row row h =
         let l = lands h.ready.clean in
-        let has : old.now.schema ≡ book_schema = sym l.schema ∙ h.it.schema in
-        record { ready = ready_then h.ready; own = h.own; it = bad_before old.now new.now batch (l.rows has) has fit row h.it }
+        let has : HasTables old.now.schema = subst HasTables l.schema h.it.schema in
+        record { ready = ready_then h.ready; own = h.own; it = bad_before old.now new.now batch (l.rows has) has l.fit row h.it }
 
     pub landed_well : IsWell new b → IsWell old b
     landed_well well = (told_before old new (BatchTrees old batch) b lives well.0, (lands well.0.0).settles.was_open)
@@ -428,44 +443,41 @@ module _ (old new : State) (b : Bool) (batch : Batch) (it : IsBatch batch) (live
 
   module _ (next : (book : Book) → Holds old b book → IsBefore book batch.act.n) where
     -- what the commit may have written is the file of the book that was told with the batch
-    written_file : IsInRange batch → (book : Book) → Holds old b book → (trees : Trees) → BatchTrees old batch trees → IsFileOf trees (appended book batch)
-    written_file fit book h trees w = go h.it
+    written_file : (book : Book) → Holds old b book → (trees : Trees) → BatchTrees old batch trees → IsFileOf trees (appended book batch)
+    written_file book h trees w = go h.it
       where
         go : IsBookIn old.now book → IsFileOf trees (appended book batch)
         go (inl p) = record {
-          db = record { schema = book_schema; trees = trees };
+          db = record { schema = old.now.schema; trees = trees };
           same = refl;
-          live = subst IsDatabase (λ i. record { schema = p.schema i; trees = trees }) w.live;
-          it = inl (book_after old.now (record { schema = book_schema; trees = trees }) batch (w.rows p.schema) refl it fit book p (next book h));
+          live = w.live;
+          it = inl (book_after old.now (record { schema = old.now.schema; trees = trees }) batch (w.rows p.schema) p.schema it w.fit book p (next book h));
         }
         go (inr none) = absurd (w.known none.0)
 
-    pub not_landed_left : IsInRange batch → (book : Book) → Holds old b book → LeavesBooks old b → LeavesBooks new b
-    not_landed_left fit book h = left_on old new (BatchTrees old batch) b lives (λ tells trees w. (appended book batch, written_file fit book h trees w))
+    pub not_landed_left : (book : Book) → Holds old b book → LeavesBooks old b → LeavesBooks new b
+    not_landed_left book h = left_on old new (BatchTrees old batch) b lives (λ tells trees w. (appended book batch, written_file book h trees w))
 
-    pub not_landed_crash : IsInRange batch → TellsCrash new b → LeavesOrCommits (Holds old b) (CrashLeaves old) (CrashLeaves new) batch
-    not_landed_crash fit tells book h None m = go (lives.crash tells.0 m.trees m.left)
+    pub not_landed_crash : TellsCrash new b → LeavesOrCommits (Holds old b) (CrashLeaves old) (CrashLeaves new) batch
+    not_landed_crash tells book h None m = go (lives.crash tells.0 m.trees m.left)
       where
         go : old.may_leave m.trees ⊎ BatchTrees old batch m.trees → MaySpoil old ⊎ (None ≡ Some (appended book batch))
         go (inl left) = inl (record { trees = m.trees; left = left; none = m.none })
-        go (inr w) = absurd (m.none (appended book batch) (written_file fit book h m.trees w))
-    not_landed_crash fit tells book h (Some after) m = go (lives.crash tells.0 m.db.trees m.left)
+        go (inr w) = absurd (m.none (appended book batch) (written_file book h m.trees w))
+    not_landed_crash tells book h (Some after) m = go (lives.crash tells.0 m.db.trees m.left)
       where
         written : BatchTrees old batch m.db.trees → after ≡ appended book batch
         written w = rows m.it
           where
-            has : IsBookIn old.now book → old.now.schema ≡ book_schema
+            has : IsBookIn old.now book → HasTables old.now.schema
             has (inl p) = p.schema
             has (inr none) = absurd (w.known none.0)
 
-            old_schema : old.now.schema ≡ book_schema
+            old_schema : HasTables old.now.schema
             old_schema = has h.it
 
-            sound : IsDatabase (record { schema = book_schema; trees = m.db.trees })
-            sound = subst IsDatabase (λ i. record { schema = old_schema i; trees = m.db.trees }) w.live
-
             rows : IsBookIn m.db after → after ≡ appended book batch
-            rows (inr none) = absurd (exclusive m.db.trees sound (subst IsDatabase (λ i. record { schema = none.0 i; trees = m.db.trees }) m.live))
+            rows (inr none) = absurd (exclusive old.now.schema m.db.trees old_schema w.live (subst IsDatabase (λ i. record { schema = none.0 i; trees = m.db.trees }) m.live))
             rows (inl p) =
                 let found = rows_before old.now m.db batch (w.rows old_schema) old_schema it after p (λ was e. subst (λ (k : Book). IsBefore k batch.act.n) (book_same old.now book was h.it e) (next book h)) in
                 found.1.1 ∙ ap (λ (k : Book). appended k batch) (book_same old.now found.0 book found.1.0 h.it)

@@ -7,31 +7,32 @@ use Rattle.sqlite.specs.declared.error.Error.{Error}
 use Rattle.sqlite_disk.specs.Disk.{MoreFaults}
 use Rattle.book_rows.specs.{declared.rows.Batch.Batch, Book.Book, Book.empty_book, Book.appended, Book.is_request_of}
 use Rattle.keeper_core.specs.{Keeping.BadRow, Keeping.Keeps, declared.keeper.Loaded.Loaded, declared.keeper.Committed.Committed}
-use Rattle.store_sql.specs.declared.wide.{WideAct.WideAct, WideRecord.WideRecord, WideLine.WideLine}
-use Rattle.store_sql.specs.Wide.{wide_act, wide_record, wide_line}
-use Rattle.store_sql.specs.Schema.{no_schema, book_schema}
+use Rattle.sqlite.specs.Order.{Row}
+use Rattle.store_sql.specs.Tables.{cells}
+use Rattle.store_sql.specs.Columns.{acts, records, lines}
+use Rattle.store_sql.specs.Schema.{no_schema, HasTables}
 use Rattle.store_sql.specs.Trees.{StandsFor}
 use Rattle.store_sql.specs.Takes.{IsExcused, HasNumbers, longest_body}
-use Rattle.store_decode.specs.Ranges.{first_bad}
+use Rattle.store_decode.specs.Read.{first_bad}
 
--- the three tables hold the rows of the book, and each number is in its range
+-- the three tables hold the rows of the book, and each row fits its table
 pub record HoldsRows (db : Database) (book : Book) : Type 0 where
-  pub schema : db.schema ≡ book_schema
-  pub stands : StandsFor db.trees (map wide_act book.acts) (map wide_record book.records) (map wide_line book.lines)
-  pub fits : first_bad (map wide_act book.acts) (map wide_record book.records) (map wide_line book.lines) ≡ None
+  pub schema : HasTables db.schema
+  pub stands : StandsFor db.trees (map (cells acts) book.acts) (map (cells records) book.records) (map (cells lines) book.lines)
+  pub fits : first_bad (map (cells acts) book.acts) (map (cells records) book.records) (map (cells lines) book.lines) ≡ None
 
 -- an empty file stands for an empty book
 abbrev pub IsBookIn : Database → Book → Type 0
 IsBookIn db book = HoldsRows db book ⊎ ((db.schema ≡ no_schema) × (book ≡ empty_book))
 
--- the three tables hold rows, of which this is the first with a number out of its range
+-- the three tables hold rows, of which this is the first that doesn't fit its table, and each cell of it has its column's type
 pub record IsBadIn (db : Database) (row : BadRow) : Type 0 where
-  pub schema : db.schema ≡ book_schema
-  pub acts : List WideAct
-  pub records : List WideRecord
-  pub lines : List WideLine
-  pub stands : StandsFor db.trees acts records lines
-  pub is : first_bad acts records lines ≡ Some row
+  pub schema : HasTables db.schema
+  pub act_rows : List Row
+  pub record_rows : List Row
+  pub line_rows : List Row
+  pub stands : StandsFor db.trees act_rows record_rows line_rows
+  pub is : first_bad act_rows record_rows line_rows ≡ Some (Some row)
 
 -- the disk has returned what was written, and no transaction is open
 pub record IsReady (s : State) : Type 0 where
@@ -39,7 +40,7 @@ pub record IsReady (s : State) : Type 0 where
   pub is_open : IsTrue s.is_open
   pub alone : s.in_transaction ≡ false
 
--- A keeper whose flag is up tells nothing: something stands in its file beside the three tables.
+-- A keeper whose flag is up tells nothing: something stands in its file that may touch the three tables.
 pub record Holds (s : State) (is_beside : Bool) (book : Book) : Type 0 where
   pub ready : IsReady s
   pub own : is_beside ≡ false
@@ -53,7 +54,7 @@ pub record HoldsBad (s : State) (is_beside : Bool) (row : BadRow) : Type 0 where
 abbrev pub TellsCrash : State → Bool → Type 0
 TellsCrash s is_beside = HasCleanDisk s × (is_beside ≡ false)
 
--- the disk has returned what was written, nothing stands beside the three tables, and the connection is open
+-- the disk has returned what was written, nothing touches the three tables, and the connection is open
 abbrev pub IsWell : State → Bool → Type 0
 IsWell s is_beside = TellsCrash s is_beside × IsTrue s.is_open
 
@@ -115,7 +116,7 @@ CommitsOn old was_beside new is_beside batch Committed.NoMemory = GoesOn old was
 -- book has the batch's clerk and request, and no record the household and number of the one that is made; the text of
 -- the act is no longer than a row may be; and the lines stand under the rowids 1, 2 and so on, of which enough are left.
 pub record TakesBatch (s : State) (book : Book) (batch : Batch) : Type 0 where
-  pub made : s.now.schema ≡ book_schema
+  pub made : HasTables s.now.schema
   pub unlimited : s.step_limit ≡ None
   pub request : All (λ act. is_request_of batch.act.clerk batch.act.request act ≡ false) book.acts
   pub number : IfSome batch.made (λ made. All (λ r. r.household ≡ made.household → r.number ≢ made.number) book.records)
@@ -156,11 +157,12 @@ CommitsBooks old was_beside new is_beside Committed.Failed =
 CommitsBooks old was_beside new is_beside Committed.NoMemory =
     (book : Book) → Holds old was_beside book → LeavesBooks old was_beside → LeavesBooks new is_beside
 
--- nothing stands in the file, or the three tables as the program makes them and nothing beside them
+-- nothing stands in the file, or the three tables as the program makes them and nothing that touches them
 abbrev pub IsOwn : Schema → Type 0
-IsOwn schema = (schema ≡ no_schema) ⊎ (schema ≡ book_schema)
+IsOwn schema = (schema ≡ no_schema) ⊎ HasTables schema
 
--- the flag is down after a load just where it was down before, and nothing stood in the file but the program's own tables
+-- the flag is down after a load just where it was down before, and nothing that touches the program's own tables stood in
+-- the file
 abbrev pub Notes : Schema → Bool → Bool → Type 0
 Notes schema was_beside is_beside = (is_beside ≡ false) ↔ ((was_beside ≡ false) × IsOwn schema)
 
@@ -175,7 +177,7 @@ abbrev pub IsAnswer : Loaded → Type 0
 IsAnswer Loaded.Failed = ⊥
 IsAnswer _ = ⊤
 
--- a keeper: its connection, whether something stands beside its tables, and the faults so far
+-- a keeper: its connection, whether something may touch its tables, and the faults so far
 pub record Kept (S : Type 0) : Type 0 where
   pub file : Held S
   pub is_beside : Bool

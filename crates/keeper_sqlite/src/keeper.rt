@@ -6,12 +6,11 @@ use keeper_core::{Committed, Keeper, Loaded};
 use sqlite::{Alter, Connection};
 use std::alloc::Global;
 use std::marker::Model;
-use store_decode::batch_fits;
 use store_write::write_batch;
 
 /// A keeper of a book in a file.
 ///
-/// Contracts see the connection, whether something stands beside the three tables, and the faults so far.
+/// Contracts see the connection, whether something may touch the three tables, and the faults so far.
 #[derive(Drop)]
 pub struct SqliteKeeper<S: Alter> {
     conn: Connection<S>,
@@ -59,7 +58,8 @@ impl<S: Alter> SqliteKeeper<S> {
         self.faults
     }
 
-    /// Whether a load found something in the file but the three tables as they are made. It is served all the same.
+    /// Whether a load found something else in the file than the three tables as they are made and what doesn't touch them. It
+    /// is served all the same.
     pub fn is_beside(&self) -> bool
         ensures { result ≡ self.now.is_beside }
     {
@@ -144,7 +144,6 @@ impl<S: Alter> Keeper for SqliteKeeper<S> {
         ensures failed { FailsByFault (state S.Store self.old.file) self.old.is_beside (state S.Store self.new.file) batch.now result }
         ensures left { CommitsBooks (state S.Store self.old.file) self.old.is_beside (state S.Store self.new.file) self.new.is_beside result }
     {
-        batch_fits(batch);
         match write_batch(&mut self.conn, batch) {
             Ok(()) => Committed::Done,
             Err(error) => {

@@ -1,16 +1,16 @@
 //! A book is loaded, or its tables are made.
 
-ghost use Rattle.std.specs.Prelude.{◌≡◌, ◌↔◌, false, Bool, IsTrue, OnOk, IfOk, IfErr};
+ghost use Rattle.std.specs.Prelude.{◌≡◌, ◌↔◌, false, Bool, IsTrue, Some, None, OnOk, IfOk, IfErr};
 ghost use Rattle.sqlite.specs.{Held.state, State.Survives};
 ghost use Rattle.sqlite.specs.declared.error.{Error.TheVariants.SqliteFailure, ErrorCode.TheVariants.OutOfMemory};
-ghost use Rattle.store_sql.specs.Schema.{no_schema, book_schema};
+ghost use Rattle.store_sql.specs.Schema.{no_schema, HasTables};
 ghost use Rattle.store_read.specs.Asking.{error_of};
-ghost use Rattle.store_decode.specs.Ranges.{Narrows};
+ghost use Rattle.store_decode.specs.Read.{Narrows, first_bad};
 ghost use Rattle.book_rows.specs.Book.{Book, book_of, empty_book};
 ghost use Rattle.keeper_core.specs.{Keeping.Gives, declared.keeper.Loaded.TheVariants.Rows};
 ghost use Rattle.keeper_sqlite.specs.Told.{Holds, HoldsBad, TellsNoMore, GoesOn, StaysOpen, LeavesBooks, IsSettled, IsAnswer, Notes, IsUnloadedByFault};
 
-use crate::own::is_book_schema;
+use crate::own::has_tables;
 use book_rows::Tables;
 use keeper_core::Loaded;
 use sqlite::{Alter, Connection, Error, ErrorCode};
@@ -26,17 +26,24 @@ pub(crate) fn is_want_of_memory(error: &Error) -> bool
     matches!(error, Error::SqliteFailure(ErrorCode::OutOfMemory))
 }
 
-/// The rows of the three tables in their ranges, or the first bad one.
-fn loaded_of(rows: AskedRows) -> Loaded
-    ensures narrowed { Narrows rows.acts rows.records rows.lines result }
-    ensures answer { IsAnswer result }
+/// The rows of the three tables in their ranges, or the first bad one; and a fault where that has a cell of another type than
+/// its column's.
+fn loaded_of(rows: AskedRows) -> Result<Loaded, AskFault>
+    ensures narrowed { IfOk result (λ loaded. Narrows rows.acts rows.records rows.lines loaded) }
+    ensures answer { IfOk result IsAnswer }
+    ensures mistyped { IfErr result (λ _. first_bad rows.acts rows.records rows.lines ≡ Some None) }
 {
     let AskedRows {
         acts,
         records,
         lines,
     } = rows;
-    narrowed(acts, records, lines)
+    match narrowed(acts, records, lines) {
+        Loaded::Rows(tables) => Ok(Loaded::Rows(tables)),
+        Loaded::BadRow { table, act } => Ok(Loaded::BadRow { table, act }),
+        Loaded::Failed => Err(AskFault::Others(Error::InvalidQuery)),
+        Loaded::NoMemory => unreachable!(),
+    }
 }
 
 /// Asks for the rows of the three tables.
@@ -50,7 +57,7 @@ fn load_rows<S: Alter>(conn: &mut Connection<S>, alloc: Global) -> Result<Loaded
     ensures survives { Survives (state S.Store conn.old) (state S.Store conn.new) (λ _. ⊥) }
 {
     let rows = ask_tables(conn, alloc)?;
-    Ok(loaded_of(rows))
+    loaded_of(rows)
 }
 
 /// What holds between two statements.
@@ -72,18 +79,19 @@ fn is_empty<S: Alter>(conn: &Connection<S>) -> bool
         && schema.views.as_slice().is_empty()
 }
 
-/// Whether the three tables stand in the file as the program makes them, and nothing beside them.
-fn are_alone<S: Alter>(conn: &Connection<S>) -> bool
-    ensures { IsTrue result ↔ ((state S.Store conn.now).now.schema ≡ book_schema) }
+/// Whether the three tables stand in the file as the program makes them, and nothing that touches them.
+fn are_own<S: Alter>(conn: &Connection<S>) -> bool
+    ensures { IsTrue result ↔ HasTables (state S.Store conn.now).now.schema }
 {
-    is_book_schema(conn.schema())
+    has_tables(conn.schema())
 }
 
-/// Whether something stands in the file but the program's own tables, now or when it was loaded before.
+/// Whether something else stands in the file than the program's own tables and what doesn't touch them, now or when it was
+/// loaded before.
 fn is_beside<S: Alter>(conn: &Connection<S>, was_beside: bool) -> bool
     ensures { Notes (state S.Store conn.now).now.schema was_beside result }
 {
-    was_beside || !is_empty(conn) && !are_alone(conn)
+    was_beside || !is_empty(conn) && !are_own(conn)
 }
 
 /// Makes the three tables in an empty file.
@@ -100,7 +108,7 @@ fn make<S: Alter>(conn: &mut Connection<S>) -> Result<(), Error>
     make_tables(conn)
 }
 
-/// Loads the rows of a file with something beside the three tables, or makes these where there are none.
+/// Loads the rows of a file in which something may touch the three tables, or makes these where there are none.
 fn load_beside<S: Alter>(conn: &mut Connection<S>, alloc: Global) -> Result<Loaded, Error>
     ensures answer { IfOk result IsAnswer }
     ensures stays_open { StaysOpen (state S.Store conn.old) (state S.Store conn.new) }

@@ -1,18 +1,16 @@
-//! Whether a schema is the one that the statements on a book's file make.
+//! Whether a schema has the tables that the statements on a book's file make, and nothing that touches them.
 
-ghost use Rattle.std.specs.Prelude.{◌≡◌, ◌↔◌, [], ◌∷◌, map, IsTrue, false};
+ghost use Rattle.std.specs.Prelude.{◌≡◌, ◌↔◌, [], ◌∷◌, map, take, drop, IsTrue, true, false};
 ghost use Rattle.sqlite.specs.declared.types.Value.TheVariants.{Null};
 ghost use Rattle.sqlite_value.specs.Keys.{plain};
-ghost use Rattle.store_sql.specs.Schema.{book_schema};
+ghost use Rattle.store_sql.specs.Schema.{book_schema, HasTables, are_later as stand_later, are_on_later as are_on_others};
 ghost use Rattle.keeper_sqlite.specs.Own.{column_of, table_of, index_of, key_indexes};
 
 use sqlite_items::Items;
-use sqlite_schema::schema::{Column, Index, Kind, Schema, Table};
+use sqlite_schema::schema::{Column, Index, Schema, Table};
 use sqlite_value::keys::{Collation, Order};
 use sqlite_value::value::Value;
-
-/// A column's name, its type, and whether it is never NULL.
-type Wanted = (&'static str, Kind, bool);
+use store_sql::{ACT_COLUMNS, LINE_COLUMNS, RECORD_COLUMNS, SqlColumn};
 
 fn is_null(value: &Value) -> bool
     ensures { IsTrue result ↔ (value.now ≡ Null) }
@@ -23,7 +21,7 @@ fn is_null(value: &Value) -> bool
     }
 }
 
-fn is_column(column: &Column, wanted: Wanted) -> bool
+fn is_column(column: &Column, wanted: SqlColumn) -> bool
     ensures { IsTrue result ↔ (column.now ≡ column_of wanted.entry) }
 {
     let (name, kind, not_null) = wanted;
@@ -35,7 +33,7 @@ fn is_column(column: &Column, wanted: Wanted) -> bool
         && column.collation == Collation::Binary
 }
 
-fn are_columns(columns: &[Column], wanted: &[Wanted]) -> bool
+fn are_columns(columns: &[Column], wanted: &[SqlColumn]) -> bool
     ensures { IsTrue result ↔ (columns.entry.now ≡ map column_of wanted.entry.now) }
 {
     let mut left = columns;
@@ -71,7 +69,7 @@ struct Shape {
     name: &'static str,
     index: &'static str,
     tree: u8,
-    columns: &'static [Wanted],
+    columns: &'static [SqlColumn],
     key: Option<usize>,
     primary: &'static [usize],
     unique: &'static [usize],
@@ -125,14 +123,7 @@ const ACTS: Shape = Shape {
     name: "acts",
     index: "sqlite_autoindex_acts_1",
     tree: 0,
-    columns: &[
-        ("n", Kind::Integer, false),
-        ("session", Kind::Integer, true),
-        ("clerk", Kind::Integer, true),
-        ("request", Kind::Integer, true),
-        ("day", Kind::Integer, true),
-        ("body", Kind::Text, true),
-    ],
+    columns: ACT_COLUMNS,
     key: Some(0),
     primary: &[0],
     unique: &[3, 4],
@@ -142,27 +133,7 @@ const RECORDS: Shape = Shape {
     name: "records",
     index: "sqlite_autoindex_records_1",
     tree: 2,
-    columns: &[
-        ("act", Kind::Integer, false),
-        ("household", Kind::Integer, true),
-        ("number", Kind::Integer, true),
-        ("kind", Kind::Integer, true),
-        ("first", Kind::Integer, true),
-        ("corrects", Kind::Integer, true),
-        ("unit", Kind::Integer, true),
-        ("persons", Kind::Integer, true),
-        ("size", Kind::Integer, true),
-        ("extremely", Kind::Integer, true),
-        ("annual", Kind::Integer, true),
-        ("adjusted", Kind::Integer, true),
-        ("ttp", Kind::Integer, true),
-        ("contract_rent", Kind::Integer, true),
-        ("utility", Kind::Integer, true),
-        ("assistance", Kind::Integer, true),
-        ("event", Kind::Integer, false),
-        ("notice", Kind::Integer, false),
-        ("done", Kind::Integer, false),
-    ],
+    columns: RECORD_COLUMNS,
     key: Some(0),
     primary: &[0],
     unique: &[2, 3],
@@ -172,18 +143,7 @@ const LINES: Shape = Shape {
     name: "lines",
     index: "sqlite_autoindex_lines_1",
     tree: 4,
-    columns: &[
-        ("act", Kind::Integer, true),
-        ("place", Kind::Integer, true),
-        ("month", Kind::Integer, true),
-        ("household", Kind::Integer, true),
-        ("for_month", Kind::Integer, true),
-        ("first", Kind::Integer, true),
-        ("last", Kind::Integer, true),
-        ("old", Kind::Integer, true),
-        ("new", Kind::Integer, true),
-        ("amount", Kind::Integer, true),
-    ],
+    columns: LINE_COLUMNS,
     key: None,
     primary: &[1, 2],
     unique: &[1, 2],
@@ -207,12 +167,62 @@ fn are_indexes(indexes: &[Index]) -> bool
     is_index(acts, &ACTS) && is_index(records, &RECORDS) && is_index(lines, &LINES)
 }
 
-/// Whether the three tables are there as they are made, each with its index, and nothing else.
-#[tactic(auto, using(crate::proofs::Schemas::indexes_named))]
-pub fn is_book_schema(schema: &Schema) -> bool
-    ensures { IsTrue result ↔ (schema.now ≡ book_schema) }
+/// Whether each table stands in a later tree than this one and those before it, and refers to no table.
+fn are_later(tables: &[Table]) -> bool
+    ensures { result ≡ stand_later 5 tables.entry.now }
 {
-    are_tables(schema.tables.as_slice())
-        && are_indexes(schema.indexes.as_slice())
-        && schema.views.is_empty()
+    let mut tree = 5;
+    let mut left = tables;
+    while let [table, others @ ..] = left {
+        if table.tree <= tree || !table.references.is_empty() {
+            return false;
+        }
+        tree = table.tree;
+        left = others;
+    }
+    true
+}
+
+/// Whether no index is on one of the three tables.
+fn are_on_later(indexes: &[Index]) -> bool
+    ensures { result ≡ are_on_others 5 indexes.entry.now }
+{
+    let mut left = indexes;
+    while let [index, others @ ..] = left {
+        if index.table <= 5 {
+            return false;
+        }
+        left = others;
+    }
+    true
+}
+
+#[tactic(auto, using(crate::proofs::Schemas::few_tables))]
+fn begin_tables(tables: &[Table]) -> bool
+    ensures { IsTrue result ↔ ((take 3 tables.now ≡ book_schema.tables) × (stand_later 5 (drop 3 tables.now) ≡ true)) }
+{
+    if tables.len() < 3 {
+        return false;
+    }
+    let (first, others) = tables.split_at(3);
+    are_tables(first) && are_later(others)
+}
+
+#[tactic(auto, using(crate::proofs::Schemas::few_indexes, crate::proofs::Schemas::indexes_named))]
+fn begin_indexes(indexes: &[Index]) -> bool
+    ensures { IsTrue result ↔ ((take 3 indexes.now ≡ book_schema.indexes) × (are_on_others 5 (drop 3 indexes.now) ≡ true)) }
+{
+    if indexes.len() < 3 {
+        return false;
+    }
+    let (first, others) = indexes.split_at(3);
+    are_indexes(first) && are_on_later(others)
+}
+
+/// Whether the three tables are there as they are made, each with its index, and nothing else that touches them.
+#[tactic(auto, using(crate::proofs::Schemas::has_both, crate::proofs::Schemas::both_had))]
+pub fn has_tables(schema: &Schema) -> bool
+    ensures { IsTrue result ↔ HasTables schema.now }
+{
+    begin_tables(schema.tables.as_slice()) && begin_indexes(schema.indexes.as_slice())
 }

@@ -20,7 +20,7 @@ pub returns-in-Ok-clause-goes_on : goal.returns-in-Ok-clause-goes_on
 returns-in-Ok-clause-goes_on g c =
     let next = subst (λ (k : Kept _). (book : Book) → Holds (state g.S.Store k.file) k.is_beside book → IsBefore book c.args.batch.now.act.n) (sym c.self.view_is) c.requires.next in
     subst (λ (k : Kept _). CommitsOn (state g.S.Store k.file) k.is_beside (state g.S.Store c.write_batch.new.conn) c.self.inside.is_beside c.args.batch.now Committed.Done) c.self.view_is
-    (landed_on (state g.S.Store c.self.inside.conn) (state g.S.Store c.write_batch.new.conn) c.self.inside.is_beside c.args.batch.now c.requires.batch c.write_batch.ensures.survives next c.in-Ok.ensures.done c.batch_fits.ensures)
+    (landed_on (state g.S.Store c.self.inside.conn) (state g.S.Store c.write_batch.new.conn) c.self.inside.is_beside c.args.batch.now c.requires.batch c.write_batch.ensures.survives next c.in-Ok.ensures.done)
 
 pub returns-in-Ok-clause-crash : goal.returns-in-Ok-clause-crash
 returns-in-Ok-clause-crash g c =
@@ -38,13 +38,13 @@ pub returns-in-Ok-clause-kept_row : goal.returns-in-Ok-clause-kept_row
 returns-in-Ok-clause-kept_row g c =
     let next = subst (λ (k : Kept _). (book : Book) → Holds (state g.S.Store k.file) k.is_beside book → IsBefore book c.args.batch.now.act.n) (sym c.self.view_is) c.requires.next in
     subst (λ (k : Kept _). Keeps (HoldsBad (state g.S.Store k.file) k.is_beside) (HoldsBad (state g.S.Store c.write_batch.new.conn) c.self.inside.is_beside)) c.self.view_is
-    (landed_row (state g.S.Store c.self.inside.conn) (state g.S.Store c.write_batch.new.conn) c.self.inside.is_beside c.args.batch.now c.requires.batch c.write_batch.ensures.survives next c.in-Ok.ensures.done c.batch_fits.ensures)
+    (landed_row (state g.S.Store c.self.inside.conn) (state g.S.Store c.write_batch.new.conn) c.self.inside.is_beside c.args.batch.now c.requires.batch c.write_batch.ensures.survives next c.in-Ok.ensures.done)
 
 pub returns-then-is_want_of_memory-clause-crash : goal.returns-then-is_want_of_memory-clause-crash
 returns-then-is_want_of_memory-clause-crash g c =
     let next = subst (λ (k : Kept _). (book : Book) → Holds (state g.S.Store k.file) k.is_beside book → IsBefore book c.args.batch.now.act.n) (sym c.self.view_is) c.requires.next in
     subst (λ (k : Kept _). TellsCrash (state g.S.Store c.write_batch.new.conn) c.self.inside.is_beside → LeavesOrCommits (Holds (state g.S.Store k.file) k.is_beside) (CrashLeaves (state g.S.Store k.file)) (CrashLeaves (state g.S.Store c.write_batch.new.conn)) c.args.batch.now) c.self.view_is
-    (not_landed_crash (state g.S.Store c.self.inside.conn) (state g.S.Store c.write_batch.new.conn) c.self.inside.is_beside c.args.batch.now c.requires.batch c.write_batch.ensures.survives next c.batch_fits.ensures)
+    (not_landed_crash (state g.S.Store c.self.inside.conn) (state g.S.Store c.write_batch.new.conn) c.self.inside.is_beside c.args.batch.now c.requires.batch c.write_batch.ensures.survives next)
 
 pub returns-then-is_want_of_memory-clause-goes_on : goal.returns-then-is_want_of_memory-clause-goes_on
 returns-then-is_want_of_memory-clause-goes_on g c =
@@ -55,14 +55,14 @@ pub returns-then-is_want_of_memory-clause-left : goal.returns-then-is_want_of_me
 returns-then-is_want_of_memory-clause-left g c =
     let next = subst (λ (k : Kept _). (book : Book) → Holds (state g.S.Store k.file) k.is_beside book → IsBefore book c.args.batch.now.act.n) (sym c.self.view_is) c.requires.next in
     subst (λ (k : Kept _). (book : Book) → Holds (state g.S.Store k.file) k.is_beside book → LeavesBooks (state g.S.Store k.file) k.is_beside → LeavesBooks (state g.S.Store c.write_batch.new.conn) c.self.inside.is_beside) c.self.view_is
-    (not_landed_left (state g.S.Store c.self.inside.conn) (state g.S.Store c.write_batch.new.conn) c.self.inside.is_beside c.args.batch.now c.requires.batch c.write_batch.ensures.survives next c.batch_fits.ensures)
+    (not_landed_left (state g.S.Store c.self.inside.conn) (state g.S.Store c.write_batch.new.conn) c.self.inside.is_beside c.args.batch.now c.requires.batch c.write_batch.ensures.survives next)
 
 pub returns-else-is_want_of_memory-clause-crash : goal.returns-else-is_want_of_memory-clause-crash
 returns-else-is_want_of_memory-clause-crash g c =
     let next = subst (λ (k : Kept _). (book : Book) → Holds (state g.S.Store k.file) k.is_beside book → IsBefore book c.args.batch.now.act.n) (sym c.self.view_is) c.requires.next in
     subst (λ (n : Kept _). TellsCrash (state g.S.Store n.file) n.is_beside → LeavesOrCommits (Holds (state g.S.Store c.args.self.now.file) c.args.self.now.is_beside) (CrashLeaves (state g.S.Store c.args.self.now.file)) (CrashLeaves (state g.S.Store n.file)) c.args.batch.now) (sym c.count_fault.ensures.kept)
     (subst (λ (k : Kept _). TellsCrash (state g.S.Store c.write_batch.new.conn) c.self.inside.is_beside → LeavesOrCommits (Holds (state g.S.Store k.file) k.is_beside) (CrashLeaves (state g.S.Store k.file)) (CrashLeaves (state g.S.Store c.write_batch.new.conn)) c.args.batch.now) c.self.view_is
-    (not_landed_crash (state g.S.Store c.self.inside.conn) (state g.S.Store c.write_batch.new.conn) c.self.inside.is_beside c.args.batch.now c.requires.batch c.write_batch.ensures.survives next c.batch_fits.ensures))
+    (not_landed_crash (state g.S.Store c.self.inside.conn) (state g.S.Store c.write_batch.new.conn) c.self.inside.is_beside c.args.batch.now c.requires.batch c.write_batch.ensures.survives next))
 
 pub returns-else-is_want_of_memory-clause-goes_on : goal.returns-else-is_want_of_memory-clause-goes_on
 returns-else-is_want_of_memory-clause-goes_on g c =
@@ -75,7 +75,7 @@ returns-else-is_want_of_memory-clause-left g c =
     let next = subst (λ (k : Kept _). (book : Book) → Holds (state g.S.Store k.file) k.is_beside book → IsBefore book c.args.batch.now.act.n) (sym c.self.view_is) c.requires.next in
     subst (λ (n : Kept _). (book : Book) → Holds (state g.S.Store c.args.self.now.file) c.args.self.now.is_beside book → LeavesBooks (state g.S.Store c.args.self.now.file) c.args.self.now.is_beside → LeavesBooks (state g.S.Store n.file) n.is_beside) (sym c.count_fault.ensures.kept)
     (subst (λ (k : Kept _). (book : Book) → Holds (state g.S.Store k.file) k.is_beside book → LeavesBooks (state g.S.Store k.file) k.is_beside → LeavesBooks (state g.S.Store c.write_batch.new.conn) c.self.inside.is_beside) c.self.view_is
-    (not_landed_left (state g.S.Store c.self.inside.conn) (state g.S.Store c.write_batch.new.conn) c.self.inside.is_beside c.args.batch.now c.requires.batch c.write_batch.ensures.survives next c.batch_fits.ensures))
+    (not_landed_left (state g.S.Store c.self.inside.conn) (state g.S.Store c.write_batch.new.conn) c.self.inside.is_beside c.args.batch.now c.requires.batch c.write_batch.ensures.survives next))
 
 pub returns-in-Ok-clause-well : goal.returns-in-Ok-clause-well
 returns-in-Ok-clause-well g c =
