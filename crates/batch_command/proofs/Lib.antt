@@ -1,3 +1,4 @@
+pub mod Below
 pub mod More
 pub mod SoFar
 pub mod Ends

@@ -1,5 +1,5 @@
 -- An open book stays open.
-use Rattle.std.proofs.Common.{◌≡◌, ◌∙◌, refl, sym, ap, subst, inl, inr, ⊎_elim, Option, Some}
+use Rattle.std.proofs.Common.{◌≡◌, ◌∙◌, refl, sym, ap, subst, inl, inr, ⊎_elim, Some}
 use Rattle.book_rows.specs.{declared.rows.Batch.Batch, Book.Book, Book.appended}
 use Rattle.keeper_core.specs.declared.keeper.Keeper as keeper
 use Rattle.keeper_core.specs.Keeping.{Keeps, LeavesOrCommits}

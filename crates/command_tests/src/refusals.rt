@@ -133,7 +133,7 @@ fn interim_from(history: &History, payment: u32) -> Rightful {
         notice: office_day("2024-03-20"),
         done: office_day("2024-03-25"),
     };
-    interim_right(history, 1, 0, told, payment, 30)
+    interim_right(history, 1, told, payment, 30)
 }
 
 #[test]

@@ -10,7 +10,7 @@ use Rattle.desk_history.specs.declared.views.PassView.{PassView}
 use Rattle.desk_history.specs.declared.views.NoteView.{NoteView}
 use Rattle.desk_history.specs.declared.views.View.{View}
 use Rattle.desk_history.specs.declared.views.View.TheVariants.{Home, Learning, Noted, Merging, Spent}
-use Rattle.desk_history.specs.Seen.{pass_of, note_of, other_of}
+use Rattle.desk_history.specs.Seen.{pass_of, note_of}
 use Rattle.desk_history.specs.Moves.{noted, longer, learned, merged}
 use Rattle.desk_history.specs.Rule.{IsNoteOf, IsHome, Fits, Turns}
 use Rattle.desk_history.proofs.Steps.{Rule, is_open}

@@ -13,10 +13,7 @@ use Rattle.office_links.specs.Links.{Links}
 use Rattle.http_front.specs.Below.clerk_desk.Serving.{IsLeft}
 use Rattle.program_answers.specs.{Keeping.OutlivesStops, Opening.Door, Opening.door, Opening.largest}
 use Rattle.shared_desk.specs.{Calls.Further, Deciding.IsLeftBy, Desk.HasItsOwn, Desk.IsFinishedWith, History.IsLegalHistory, History.capacity_of, History.tables_at, Passes.AreFresh, Passes.IsFresh}
-use mathlib.Core.List.{IsPrefix}
 use Rattle.office_io.specs.declared.status.ExitStatus.{ExitStatus}
-use Rattle.book_rows.specs.declared.rows.ActRow.{ActRow}
-use Rattle.keeper_core.specs.Keeping.{LeavesTold}
 use Rattle.office_server.proofs.Logs.{knows_on, prefix_joins}
 use Rattle.office_server.proofs.SeatLemmas.{fresh_at, further_number}
 use Rattle.office_server.specs.{Links.HasLearned, Links.IsLeftByOne, Links.IsServed, Links.LeavesDesk, Links.LeavesTried, Links.MayLeave, Links.MayLeaveNow, Links.ServesAlone, Links.ServesInTurn, Links.ServesTogether, Links.WorksBy, Server.EndsBy, Server.IsUnserved, Server.Writes, Server.book_line, declared.desk.ServeEnd.ServeEnd}

@@ -1,17 +1,14 @@
 -- What passes come to from seat to seat.
-use Rattle.std.proofs.Common.{◌≡◌, ◌∙◌, ◌<◌, ℕ, ◌+◌, zero, suc, inl, inr, List, [], ◌∷◌, ◌++◌, length, map, take, drop, set, get_or, ap, refl, sym, subst, arith}
-use mathlib.Core.List.{IsPrefix}
+use Rattle.std.proofs.Common.{◌≡◌, ◌∙◌, ◌<◌, ℕ, ◌+◌, zero, suc, inl, inr, List, [], ◌∷◌, ◌++◌, length, map, take, drop, get_or, ap, refl, sym, subst, arith}
 use Rattle.std.specs.Prelude.{All, Contains, Option}
-use Rattle.std.proofs.lemmas.List.Elements.{All-cons, All-contains, All-map, All-nil, All-push}
-use Rattle.std.proofs.lemmas.List.{append-nil, map-append, take_all, take_more}
-use Rattle.std.proofs.Math.ListN.{drop_of_length-le, get_or-map, length-map}
+use Rattle.std.proofs.lemmas.List.Elements.{All-cons, All-contains, All-map, All-nil}
+use Rattle.std.proofs.lemmas.List.{append-nil, take_all}
+use Rattle.std.proofs.Math.ListN.{drop_of_length-le, length-map}
 use Rattle.list_laws.proofs.Elements.{All-unmap, Contains-map}
 use Rattle.office_links.specs.Links.{Links}
 use Rattle.desk_history.specs.declared.views.{PassView.PassView, Start.Start}
 use Rattle.shared_desk.specs.{Calls.Further, Passes.AreFresh}
 use Rattle.link_workers.specs.{Links.IsServedByOne, Links.Served, Links.ServesEach, Links.ServesLinks, Seats.FollowsEach}
-use Rattle.book_rows.specs.declared.rows.ActRow.{ActRow}
-use Rattle.office_server.proofs.Logs.{prefix_joins}
 
 -- ---- starts
 

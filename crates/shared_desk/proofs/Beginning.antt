@@ -4,10 +4,10 @@ use Rattle.atomic_table.specs.Table.{Me}
 use Rattle.book_rows.specs.{declared.rows.ActRow.ActRow, Book.Book}
 use Rattle.keeper_core.specs.declared.keeper.Keeper as keeper
 use Rattle.keeper_core.specs.Keeping.{LeavesTold}
-use Rattle.office_core.specs.Office.{Holding}
+use Rattle.clerk_desk.specs.Below.office_core.Office.{Holding}
 use Rattle.clerk_desk.specs.OpenBook.{IsOpen}
 use Rattle.shared_desk.specs.declared.naming.Naming as naming
-use Rattle.office_core.specs.Below.office_step.{declared.call.Capacity.Capacity, Step.IsReached}
+use Rattle.clerk_desk.specs.Below.office_step.{declared.call.Capacity.Capacity, Step.IsReached}
 use Rattle.desk_history.specs.declared.views.{Start.Start, BookView.BookView, View.View, View.TheVariants.Free}
 use Rattle.desk_history.specs.{Seen.book_of, Seen.start_on, Moves.opened}
 use Rattle.shared_desk.specs.History.{book_in, capacity_of, tables_at, IsLegalHistory}

@@ -3,9 +3,9 @@ use Rattle.std.proofs.Common.{◌≡◌, ◌∙◌, sym, ap, subst, subst₂, in
 use Rattle.std.proofs.lemmas.List.{length_push}
 use Rattle.book_rows.specs.{declared.rows.ActRow.ActRow, declared.rows.Batch.Batch, Book.Book}
 use Rattle.questions.specs.declared.question.Question.{Question}
-use Rattle.office_core.specs.Below.office_answers.{declared.answer.Answer.Answer, declared.answer.Asked.Asked, declared.reply.Reply.Reply, Answered.Answers, Answering.answer_to}
-use Rattle.office_core.specs.Below.office_step.{declared.call.Call.Call, declared.call.Capacity.Capacity, Step.Outcome, Step.appends, Step.step}
-use Rattle.office_core.specs.Below.office_laws.Replay.{RowsAreOfTheSession}
+use Rattle.clerk_desk.specs.Below.office_answers.{declared.answer.Answer.Answer, declared.answer.Asked.Asked, declared.reply.Reply.Reply, Answered.Answers, Answering.answer_to}
+use Rattle.clerk_desk.specs.Below.office_step.{declared.call.Call.Call, declared.call.Capacity.Capacity, Step.Outcome, Step.appends, Step.step}
+use Rattle.clerk_desk.specs.Below.office_laws.Replay.{RowsAreOfTheSession}
 use Rattle.clerk_desk.specs.Serving.{reply_of}
 use Rattle.desk_history.specs.declared.views.{Start.Start, BookView.BookView, PassView.PassView, HoldingView.HoldingView}
 use Rattle.desk_history.specs.{Moves.holding, Moves.returned, Rule.IsHeld, Laws.GoesOn, Laws.PassesGoOn}

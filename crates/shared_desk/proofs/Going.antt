@@ -3,8 +3,8 @@ use Rattle.std.proofs.Common.{◌≡◌, ◌∙◌, sym, ap, refl, subst, ◌+�
 use Rattle.std.proofs.lemmas.List.{length_push}
 use Rattle.std.proofs.lemmas.List.Sums.{fold-append}
 use Rattle.book_rows.specs.{declared.rows.ActRow.ActRow, declared.rows.Batch.Batch, Book.Book, Book.appended}
-use Rattle.office_core.specs.Below.office_step.{declared.call.Capacity.Capacity, Step.IsReached, Step.reached_more, Valid.replayed, Valid.with_rows}
-use Rattle.office_core.specs.Below.office_laws.{Kept.BooksAreKept, Replay.after_row, Replay.AppendedIsReplayed, Replay.ReplayedIsAppended, Upheld.BooksAreUpheld}
+use Rattle.clerk_desk.specs.Below.office_step.{declared.call.Capacity.Capacity, Step.IsReached, Step.reached_more, Valid.replayed, Valid.with_rows}
+use Rattle.clerk_desk.specs.Below.office_laws.{Kept.BooksAreKept, Replay.after_row, Replay.AppendedIsReplayed, Replay.ReplayedIsAppended, Upheld.BooksAreUpheld}
 use Rattle.shared_desk.specs.History.{book_in, capacity_of, tables_at, IsLegalFrom, HistoriesGoOn, HistoriesWereLegal, IsReachedBy, HistoriesAreReached, HistoriesAreFew, HistoriesAreUpheld}
 
 abbrev book_after : Capacity → Book → List ActRow → Book

@@ -4,7 +4,7 @@ use Rattle.std.specs.Prelude.{Contains}
 use Rattle.std.proofs.lemmas.List.Elements.{Contains-append_left, Contains-append_right, Contains-get_or}
 use Rattle.book_rows.specs.{declared.rows.ActRow.ActRow, declared.rows.Batch.Batch, Book.Book, Book.appended}
 use Rattle.keeper_core.specs.declared.keeper.Keeper as keeper
-use Rattle.office_core.specs.{Below.office_step.declared.call.Capacity.Capacity, Below.office_step.Step.IsAppended, Office.Holding}
+use Rattle.clerk_desk.specs.Below.{office_step.declared.call.Capacity.Capacity, office_step.Step.IsAppended, office_core.Office.Holding}
 use Rattle.clerk_desk.specs.{OpenBook.StaysOpen, Serving.IsFurther, Serving.LeavesFurther, Serving.LeavesOnly}
 use Rattle.desk_history.specs.declared.views.BookView.{BookView}
 use Rattle.shared_desk.specs.declared.naming.Naming as naming

@@ -3,8 +3,8 @@ use Rattle.std.proofs.Common.{◌≡◌, ◌∙◌, sym, ap, refl, inl, inr, ℕ
 use Rattle.std.proofs.lemmas.List.{append-nil}
 use Rattle.atomic_table.specs.Table.{Me}
 use Rattle.book_rows.specs.declared.rows.Batch.{Batch}
-use Rattle.office_core.specs.Below.office_answers.declared.reply.Reply.{Reply}
-use Rattle.office_core.specs.Below.office_step.{Step.Outcome, Step.appends}
+use Rattle.clerk_desk.specs.Below.office_answers.declared.reply.Reply.{Reply}
+use Rattle.clerk_desk.specs.Below.office_step.{Step.Outcome, Step.appends}
 use Rattle.clerk_desk.specs.Serving.{IsUnkeptReply, IsUnsentReply}
 use Rattle.desk_history.specs.declared.views.{View.View, View.TheVariants.Holding}
 use Rattle.desk_history.specs.{Moves.looked, Moves.unkept, Seen.holding_of}

@@ -1,8 +1,8 @@
 -- What a call and a question of a pass do.
 use Rattle.std.specs.Prelude.{◌≡◌, ◌⊎◌, ℕ, List, [], ◌∷◌, ◌++◌}
 use Rattle.book_rows.specs.{declared.rows.ActRow.ActRow, declared.rows.Batch.Batch}
-use Rattle.office_core.specs.Below.office_answers.declared.{reply.Reply.Reply}
-use Rattle.office_core.specs.Below.office_step.{declared.call.Call.Call, Step.Outcome, Step.appends, Step.step}
+use Rattle.clerk_desk.specs.Below.office_answers.declared.{reply.Reply.Reply}
+use Rattle.clerk_desk.specs.Below.office_step.{declared.call.Call.Call, Step.Outcome, Step.appends, Step.step}
 use Rattle.clerk_desk.specs.Serving.{reply_of}
 use Rattle.desk_history.specs.declared.views.{BookView.BookView, PassView.PassView}
 use Rattle.desk_history.specs.{Seen.point_of, Laws.GoesOn}

@@ -1,10 +1,10 @@
 -- What is decided of a call while its pass is held, and what is so whenever no pass is.
 use Rattle.std.specs.Prelude.{◌≡◌, ⊤, ◌⊎◌, Option, Some, List, [], ◌∷◌, ◌++◌, Contains}
 use Rattle.book_rows.specs.{declared.rows.Batch.Batch, Book.Book, Book.appended}
-use Rattle.office_core.specs.Below.office_answers.declared.reply.Reply.{Reply}
-use Rattle.office_core.specs.Below.office_step.{declared.call.Capacity.Capacity, Step.Outcome, Step.again, Step.refused, Step.appends, Step.IsAppended}
+use Rattle.clerk_desk.specs.Below.office_answers.declared.reply.Reply.{Reply}
+use Rattle.clerk_desk.specs.Below.office_step.{declared.call.Capacity.Capacity, Step.Outcome, Step.again, Step.refused, Step.appends, Step.IsAppended}
 use Rattle.keeper_core.specs.declared.keeper.Keeper as keeper
-use Rattle.office_core.specs.Office.{Holding}
+use Rattle.clerk_desk.specs.Below.office_core.Office.{Holding}
 use Rattle.clerk_desk.specs.{OpenBook.IsOpen, Serving.reply_of}
 use Rattle.desk_history.specs.declared.views.{BookView.BookView, HoldingView.HoldingView}
 use Rattle.shared_desk.specs.declared.naming.Naming as naming

@@ -2,8 +2,8 @@
 -- legal, and the tables after one.
 use Rattle.std.specs.Prelude.{◌≡◌, ◌≤◌, ⊤, ◌+◌, List, [], ◌∷◌, ◌++◌, length, fold, IsSomeAnd}
 use Rattle.book_rows.specs.{declared.rows.ActRow.ActRow, declared.rows.Batch.Batch, Book.Book, Book.appended}
-use Rattle.office_core.specs.Below.office_step.{declared.call.Capacity.Capacity, Step.IsAppended, Step.IsReached, Valid.replayed}
-use Rattle.office_core.specs.Below.office_laws.{Replay.after_row, Upheld.IsUpheld}
+use Rattle.clerk_desk.specs.Below.office_step.{declared.call.Capacity.Capacity, Step.IsAppended, Step.IsReached, Valid.replayed}
+use Rattle.clerk_desk.specs.Below.office_laws.{Replay.after_row, Upheld.IsUpheld}
 use Rattle.desk_history.specs.declared.views.{Opening.Opening, Start.Start}
 
 -- the book on which a desk was opened

@@ -3,7 +3,7 @@
 ghost use Rattle.std.specs.Prelude.{◌≡◌, ◌≤◌, true, List, [], ◌∷◌, ◌++◌, length};
 ghost use Rattle.book_rows.specs.declared.rows.ActRow.{ActRow};
 ghost use Rattle.record_history.specs.Limits.{most_acts};
-ghost use Rattle.office_core.specs.Below.office_step.Step.{step, is_fit_call};
+ghost use Rattle.clerk_desk.specs.Below.office_step.Step.{step, is_fit_call};
 ghost use Rattle.clerk_desk.specs.Serving.{ReplyCause};
 ghost use Rattle.desk_history.specs.declared.views.View.TheVariants.{Holding};
 ghost use Rattle.desk_history.specs.Seen.{holding_of};
@@ -13,13 +13,13 @@ ghost use Rattle.shared_desk.specs.Deciding.{IsBetweenCalls, HoldsOn, Decides};
 use crate::naming::Naming;
 use crate::{histories_are_reached, histories_go_on};
 use book_rows::ActRow;
+use clerk_desk::office_core::office_answers::Reply;
+use clerk_desk::office_core::office_laws::acts_give_the_book;
+use clerk_desk::office_core::{Call, Office};
 use clerk_desk::{Booking, book_call};
 use days_core::Day;
 use desk_history::{HistorySeat, SharedHistory, append, look, write_try};
 use keeper_core::Keeper;
-use office_core::office_answers::Reply;
-use office_core::office_laws::acts_give_the_book;
-use office_core::{Call, Office};
 use record_history::{Dates, Record};
 use std::alloc::Global;
 

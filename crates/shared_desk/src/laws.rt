@@ -2,7 +2,7 @@
 
 ghost use Rattle.shared_desk.specs.History.{HistoriesGoOn, HistoriesWereLegal, HistoriesAreReached, HistoriesAreFew, HistoriesAreUpheld};
 
-use office_core::office_laws::{acts_give_the_book, books_are_kept, books_are_upheld};
+use clerk_desk::office_core::office_laws::{acts_give_the_book, books_are_kept, books_are_upheld};
 
 /// What the office appends continues a legal history; and a legal history was legal at each earlier point. It does nothing.
 pub fn histories_go_on()

@@ -1,8 +1,8 @@
 //! What lies behind the lock of a desk, and what is done while it is held.
 
 ghost use Rattle.std.specs.Prelude.{◌≡◌, ℕ, ◌+◌, true, [], All, length};
-ghost use Rattle.office_core.specs.Below.office_answers.{Answered.Answers, Answering.answer_to};
-ghost use Rattle.office_core.specs.Below.office_step.Step.{is_fit_call};
+ghost use Rattle.clerk_desk.specs.Below.office_answers.{Answered.Answers, Answering.answer_to};
+ghost use Rattle.clerk_desk.specs.Below.office_step.Step.{is_fit_call};
 ghost use Rattle.clerk_desk.specs.Serving.{ReplyCause};
 ghost use Rattle.desk_history.specs.Laws.{GoesOn};
 ghost use Rattle.desk_history.specs.declared.views.Start.{Start};
@@ -18,15 +18,15 @@ use crate::histories_are_reached;
 use crate::naming::Naming;
 use crate::opened::Finished;
 use crate::pass::Pass;
+use clerk_desk::office_core::office_answers::Reply;
+use clerk_desk::office_core::office_laws::acts_give_the_book;
+use clerk_desk::office_core::{Answer, Asked, Call, Office, Question};
 use days_core::Day;
 use desk_history::{
     HistorySeat, HistoryTable, SharedHistory, come_in, entries_are_those_of_the_number, finish,
     go_back, look, passes_go_on,
 };
 use keeper_core::Keeper;
-use office_core::office_answers::Reply;
-use office_core::office_laws::acts_give_the_book;
-use office_core::{Answer, Asked, Call, Office, Question};
 use std::alloc::Global;
 use std::collections::VecDeque;
 use std::marker::{Model, PhantomData};

@@ -2,8 +2,8 @@
 
 ghost use Rattle.std.specs.Prelude.{◌≡◌, ℕ, true, []};
 ghost use mathlib.Core.List.{IsPrefix};
-ghost use Rattle.office_core.specs.Below.office_answers.{Answered.Answers, Answering.answer_to};
-ghost use Rattle.office_core.specs.Below.office_step.Step.{is_fit_call};
+ghost use Rattle.clerk_desk.specs.Below.office_answers.{Answered.Answers, Answering.answer_to};
+ghost use Rattle.clerk_desk.specs.Below.office_step.Step.{is_fit_call};
 ghost use Rattle.clerk_desk.specs.Serving.{ReplyCause};
 ghost use Rattle.desk_history.specs.Laws.{GoesOn};
 ghost use Rattle.desk_history.specs.Moves.{noted, learned, merged};
@@ -14,9 +14,9 @@ ghost use Rattle.shared_desk.specs.Calls.{IsCalled, KnowsMore};
 use crate::locked::{AskOutcome, Locked, Outcome};
 use crate::naming::Naming;
 use crate::pass::{Note, Pass};
+use clerk_desk::office_core::{Call, Question};
 use desk_history::{HistoryTable, learn, merge, write_note};
 use keeper_core::Keeper;
-use office_core::{Call, Question};
 use office_io::Clock;
 use std::alloc::Global;
 use std::marker::PhantomData;

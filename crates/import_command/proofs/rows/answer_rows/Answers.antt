@@ -2,7 +2,7 @@ use Rattle.std.proofs.Common.{◌∙◌, None, Some, inl, length, sym, rules}
 use Rattle.std.proofs.lemmas.Iterator.Adapters.{YieldsList-from_vec}
 use Rattle.std.proofs.lemmas.Iterator.Consumers.{YieldsList-so_far, YieldsList-turn}
 use Rattle.batch_command.specs.Line.{IsMadeBy}
-use Rattle.clerk_desk.proofs.Staying.{stays_then}
+use Rattle.batch_command.proofs.Below.clerk_desk.Staying.{stays_then}
 use Rattle.batch_command.proofs.Stops.{leaves_told, leaves_further, line_leaves}
 use Rattle.book_rows.specs.Book.{Book}
 use Rattle.import_command.specs.Rows.{told_of_row}

@@ -1,7 +1,7 @@
 use Rattle.std.proofs.Common.{Some, inl}
 use Rattle.import_command.specs.Rows.{LeavesByRow}
 use Rattle.office_prog.specs.Import.{LeavesByInput}
-use Rattle.clerk_desk.proofs.Staying.{stays}
+use Rattle.import_command.proofs.Below.clerk_desk.Staying.{stays}
 use Rattle.office_prog.proofs.Stops.{rows_of_input, outlives_as, outlives_still}
 use Rattle.office_prog.proofs.import.answer_input.Goals as goal
 

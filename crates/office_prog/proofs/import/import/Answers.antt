@@ -4,7 +4,7 @@ use Rattle.office_io.specs.declared.status.ExitStatus.{ExitStatus}
 use Rattle.office_io.specs.Transfer.{Takes}
 use Rattle.book_rows.specs.Book.{Book}
 use Rattle.office_prog.specs.Import.{AnswersInput, Imported, LeavesByInput, import_limit}
-use Rattle.clerk_desk.proofs.Staying.{stays}
+use Rattle.import_command.proofs.Below.clerk_desk.Staying.{stays}
 use Rattle.office_prog.proofs.Stops.{input_of_source, outlives_as, outlives_still}
 use Rattle.program_answers.specs.Opening.{Door, door}
 use Rattle.office_prog.proofs.import.import.Goals as goal

@@ -2,7 +2,7 @@ use Rattle.std.specs.Prelude.{All}
 use Rattle.std.proofs.Common.{rules, ◌≡◌, ◌∙◌, ap, sym, subst, subst₂, ℕ}
 use Rattle.book_rows.specs.Book.{Book}
 use Rattle.desk_history.specs.{declared.views.BookView.BookView, declared.views.PassView.PassView, Rule.AreOfPasses, Seen.book_of}
-use Rattle.office_core.specs.Below.office_step.declared.call.Capacity.{Capacity}
+use Rattle.clerk_desk.specs.Below.office_step.declared.call.Capacity.{Capacity}
 use Rattle.shared_desk.proofs.Retired.{of_those_handed_out}
 use Rattle.shared_desk.specs.{Deciding.IsLeftBy, Desk.HasItsOwn, History.capacity_of}
 use Rattle.shared_desk.proofs.locked.Locked.finish.Goals as goal
