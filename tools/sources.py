@@ -197,13 +197,20 @@ def crates():
     return [Crate(name.strip(), uses.split()) for name, uses in pairs]
 
 
+def groups():
+    """Each group of crates.txt, which a line of its heading begins, with the names of its crates."""
+    parts = [part.splitlines() for part in read(os.path.join(TOP, "crates.txt")).split("\n\n")]
+    found = [part for part in parts if len(part) > 1 and part[0].startswith("# ") and not part[1].startswith("#")]
+    return {lines[0][2:]: [line.split(":")[0].strip() for line in lines[1:]] for lines in found}
+
+
 def programs_in(all_crates):
     """The programs that are for use: those with a main file, but for what benchmarks compare with."""
     return [it.name for it in all_crates if os.path.join(it.folder, "src", "main.rt") in it.files and not it.name.startswith("bench_")]
 
 
 # Crates that no program is made of, and that are there for what is proved of them.
-PROVED_ALONE = ["book_recovery"]
+PROVED_ALONE = ["book_recovery", "manual_acts"]
 
 
 def program_of(all_crates, roots=("office",)):
