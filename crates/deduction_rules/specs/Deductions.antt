@@ -8,7 +8,7 @@ use Rattle.deduction_rules.specs.declared.figures.Allowances.{Allowances}
 
 -- ---- dependents, the elderly and the disabled
 
--- a member of the family other than the head, the spouse and the co-head (24 CFR 5.603(b))
+-- a member of the family other than the head, the spouse (24 CFR 5.603(b)) and the co-head (Handbook 4350.3 REV-1, chapter 5)
 abbrev pub is_other : Relation → Bool
 is_other Relation.Other = true
 is_other _ = false
@@ -21,7 +21,7 @@ is_dependent day member = is_other member.relation && (is_under 18 member day ||
 abbrev pub dependents_of : Facts → ℕ → ℕ
 dependents_of facts day = 480 * count_by (is_dependent day) facts.members
 
--- a head, spouse or co-head who is at least 62, or disabled (24 CFR 5.403)
+-- a head, spouse (24 CFR 5.403) or co-head (Handbook, chapter 5) who is at least 62, or disabled
 abbrev pub is_elderly_or_disabled : ℕ → Member → Bool
 is_elderly_or_disabled day member = is_head_or_partner member.relation && (nat_le 62 (age_on member.born day) || member.disabled)
 
@@ -70,7 +70,7 @@ disability_deduction_of facts annual day =
     else 0
 
 -- The medical expenses where the disability assistance has passed a threshold, and else what both are above it: the
--- threshold is taken once, and first from the assistance (own rule).
+-- threshold is taken once, and first from the assistance, also where nobody earns by it (own rules).
 abbrev pub medical_beyond : ℕ → ℕ → ℕ → ℕ
 medical_beyond threshold disability medical = if nat_lt threshold disability then medical else disability + medical - threshold
 

@@ -31,7 +31,7 @@ gross_rent_of rents = rents.contract_rent + rents.utility
 abbrev pub family_share_of : ℕ → Rents → ℕ
 family_share_of ttp rents = min ttp (gross_rent_of rents)
 
--- what the office claims: the rest of the gross rent (24 CFR 5.628 to 5.634)
+-- what the office claims: the rest of the gross rent (24 CFR part 880, in outline)
 abbrev pub assistance_of : ℕ → Rents → ℕ
 assistance_of ttp rents = gross_rent_of rents - family_share_of ttp rents
 

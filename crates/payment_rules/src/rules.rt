@@ -9,7 +9,7 @@ use days_core::{Rents, round_half_up};
 /// The payment of a family with these incomes for the year, in a unit with these rents.
 ///
 /// `welfare` is the welfare rent of the month and `exempt` frees from the minimum rent. Sources: 24 CFR
-/// 5.628 to 5.634.
+/// 5.628 to 5.634; of what the office claims, 24 CFR part 880 in outline.
 pub fn payment(annual: u32, adjusted: u32, welfare: u32, exempt: bool, rents: Rents) -> Payment
     requires rent { rents.contract_rent ≤ 99999 }
     requires utility { rents.utility ≤ 9999 }

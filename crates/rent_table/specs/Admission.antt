@@ -20,6 +20,6 @@ limit_for limits size = slice_index_or limits (size - 1) 0
 abbrev pub admission_limit : Plan → LimitRow → ℕ → ℕ
 admission_limit plan limits size = if plan.early then limit_for limits.low size else limit_for limits.very_low size
 
--- a family of the size has an annual income of at most the extremely low limit (24 CFR 5.653)
+-- a family of the size has an annual income of at most the extremely low limit (24 CFR 5.603(b))
 abbrev pub has_extremely_low_income : LimitRow → ℕ → ℕ → Bool
 has_extremely_low_income limits size annual = nat_le annual (limit_for limits.extremely_low size)

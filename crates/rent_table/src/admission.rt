@@ -28,7 +28,7 @@ pub fn admission_limit(plan: &Plan, limits: &LimitRow, size: u32) -> u32
     }
 }
 
-/// Whether a family of that size has an extremely low annual income (24 CFR 5.653).
+/// Whether a family of that size has an extremely low annual income (24 CFR 5.603(b)).
 pub fn has_extremely_low_income(limits: &LimitRow, size: u32, annual: u32) -> bool
     requires least { 1 ≤ size }
     requires most { size ≤ 12 }

@@ -36,7 +36,7 @@ abbrev pub is_within_limit : Asked → Applicant → Bool
 is_within_limit asked applicant =
     option_map_or (λ limits. nat_le applicant.annual (admission_limit asked.plan limits applicant.size)) asked.limits false
 
--- limits stand for the day, and its annual income is at most the extremely low one of its size (24 CFR 5.653)
+-- limits stand for the day, and its annual income is at most the extremely low one of its size (24 CFR 5.603(b))
 abbrev pub is_extremely_low : Asked → Applicant → Bool
 is_extremely_low asked applicant =
     option_map_or (λ limits. has_extremely_low_income limits applicant.size applicant.annual) asked.limits false
@@ -73,7 +73,7 @@ abbrev pub mover_of : Option ℕ → Option Candidate
 mover_of household = option_map (λ number. Candidate.Household number) household
 
 -- Who is next of each group, the first group first: those who need accessible features go first to a unit that has them
--- (24 CFR 8.27), and movers before applicants (own rule).
+-- (24 CFR 8.27(a)), and movers before applicants, whatever features their present unit has (own rules).
 abbrev pub groups : Asked → List Applicant → List (Option Candidate)
 groups asked applicants =
     mover_of asked.needing
