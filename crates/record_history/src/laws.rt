@@ -4,12 +4,7 @@ ghost use Rattle.std.specs.Prelude.{◌≤◌, ℕ, List, Contains};
 ghost use Rattle.record_history.specs.declared.records.Record.{Record};
 ghost use Rattle.record_history.specs.Records.{in_force, in_force_as_of};
 ghost use Rattle.record_history.specs.Held.{AreNumbered};
-ghost use Rattle.record_history.specs.Law.{InForceIsLatest, IsOneInForce};
-
-/// The law that the record in force is the last of those that count and have begun. It does nothing.
-pub fn in_force_is_latest()
-    ensures { InForceIsLatest }
-{}
+ghost use Rattle.record_history.specs.Law.{IsOneInForce};
 
 /// The record in force on a day is the one record held that withdraws nothing, that none held corrects or withdraws,
 /// and that begins by the day, where no other such record begins later or on the same day with a greater number; and

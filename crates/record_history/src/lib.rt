@@ -15,7 +15,7 @@ mod runs;
 mod stretch;
 
 pub use history::History;
-pub use laws::{in_force_is_latest, one_record_is_in_force};
+pub use laws::one_record_is_in_force;
 pub use limits::{MOST_ACTS, MOST_LINES, limits_are_named};
 pub use live::is_live;
 pub use order::{comes_before, later};

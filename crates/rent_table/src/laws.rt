@@ -5,19 +5,9 @@ ghost use Rattle.days_core.specs.declared.rents.Rents.{Rents};
 ghost use Rattle.rent_table.specs.declared.rows.Unit.{Unit as UnitRow};
 ghost use Rattle.rent_table.specs.declared.rows.RentRow.{RentRow};
 ghost use Rattle.rent_table.specs.declared.rows.LimitRow.{LimitRow};
-ghost use Rattle.row_choice.specs.Latest.{IsLatest};
-ghost use Rattle.rent_table.specs.Table.{rents_before, limits_before, rents_begin_by, limits_begin_by};
-ghost use Rattle.rent_table.specs.Table.{rent_row_on, rents_on, limits_on, unit_at, unit_named};
+ghost use Rattle.rent_table.specs.Table.{rents_on, limits_on, unit_at, unit_named};
 ghost use Rattle.rent_table.specs.Table.{AreNumbered, HaveOwnNames, RentActsRise, LimitActsRise};
 ghost use Rattle.rent_table.specs.Standing.{SetsRentsBy, SetsRentsOn, SetsLimitsBy, SetsLimitsOn};
-
-/// What stands on a day begins by then, and nothing that begins by then comes after it.
-pub fn rows_stand_latest()
-    ensures rents { (rows : List RentRow) (group day : ℕ) →
-        IsLatest rents_before (rents_begin_by group day) rows (rent_row_on rows group day) }
-    ensures limits { (rows : List LimitRow) (day : ℕ) →
-        IsLatest limits_before (limits_begin_by day) rows (limits_on rows day) }
-{}
 
 /// The rents of a group on a day are those of the one row of the group that begins by the day, where none such begins
 /// later or on the same day by a later act; and there are none exactly where there is no such row. It does nothing.

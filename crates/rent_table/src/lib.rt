@@ -10,7 +10,7 @@ mod standing;
 mod table;
 
 pub use admission::{admission_limit, has_extremely_low_income, suits};
-pub use laws::{one_row_sets_limits, one_row_sets_rents, rows_stand_latest, units_are_found};
+pub use laws::{one_row_sets_limits, one_row_sets_rents, units_are_found};
 pub use plan::{Bound, Plan};
 pub use rows::{LimitRow, RentRow, Unit};
 pub use table::RentTable;

@@ -1,5 +1,5 @@
 -- What it comes to that no record is out of order.
-use Rattle.tenancy_rules.proofs.Words.{◌≡◌, ◌≢◌, refl, ℕ, true, false, List, get_or, Option, Some, None, arith, ◌↔◌, filter, All, Contains, IfSome, IsSomeAnd, false≢true, and_parts, not-false, false_from_ne_true, nat_tests, common_steps, All-contains, latest-is, pairs_order, pairs_order-turned, pair_comes_before, Record, comes_before, NumbersRise, is_transfer, is_move_out, may_follow, has_its_unit, record_before, is_in_order, comes_after, earliest, is_out_of_order, first_out_of_order, UnitsChangeByTransfer, NothingFollowsMoveOut, get_or_default, Kind}
+use Rattle.tenancy_rules.proofs.Words.{◌≡◌, ◌≢◌, refl, ℕ, true, false, List, get_or, Option, Some, None, arith, filter, All, Contains, IfSome, IsSomeAnd, false≢true, and_parts, not-false, false_from_ne_true, nat_tests, All-contains, latest-is, pairs_order, pairs_order-turned, pair_comes_before, Record, comes_before, NumbersRise, is_move_out, may_follow, has_its_unit, record_before, is_in_order, comes_after, earliest, is_out_of_order, first_out_of_order, get_or_default, Kind}
 
 -- each record stands where it may
 pub in_order : (records : List Record) → first_out_of_order records ≡ None → All (λ r. is_in_order (record_before records r) r ≡ true) records
@@ -7,16 +7,6 @@ unfolding is_out_of_order
 in_order records none k d within =
     let law = latest-is comes_after (is_out_of_order records) records (pairs_order-turned (λ r. r.from) (λ r. r.number)) in
     not-false _ (false_from_ne_true (is_out_of_order records (get_or records k d)) (λ out. rw none at (law.last k d within out)))
-
-pub units_change_by_transfer : UnitsChangeByTransfer
-units_change_by_transfer records none k d within = by_earlier (get_or records k d) (record_before records (get_or records k d)) (in_order records none k d within)
-  where
-    by_earlier : (r : Record) (before : Option Record) → is_in_order before r ≡ true →
-        IfSome before (λ earlier. (r.unit ≢ earlier.unit) ↔ (is_transfer r.kind ≡ true))
-    by_earlier r None is = tt
-    by_earlier r (Some earlier) is =
-        let has = (and_parts (may_follow earlier.kind r.kind) (has_its_unit earlier r) is).1 in
-        (λ other. grind (arith, nat_tests, common_steps, has), λ transfers same. grind (arith, nat_tests, common_steps, has))
 
 -- a kind that something may follow is no move-out
 pub followed : (earlier next : Kind) → may_follow earlier next ≡ true → is_move_out earlier ≡ false
@@ -34,7 +24,9 @@ pub neither : (from number other_from other_number : ℕ) → pair_comes_before 
     pair_comes_before other_from other_number from number ≡ false → number ≡ other_number
 neither from number other_from other_number e f = grind (arith, nat_tests)
 
-pub nothing_follows_move_out : NothingFollowsMoveOut
+-- nothing comes after a move-out
+pub nothing_follows_move_out : (records : List Record) → NumbersRise records → first_out_of_order records ≡ None → (earlier r : Record) →
+    Contains records earlier → Contains records r → comes_before earlier r ≡ true → is_move_out earlier.kind ≡ false
 nothing_follows_move_out records rise none earlier r has_earlier has_r before =
     let law = latest-is comes_after (comes_before earlier) records (pairs_order-turned (λ q. q.from) (λ q. q.number)) in
     by_next (earliest (filter (comes_before earlier) records)) law.among law.last

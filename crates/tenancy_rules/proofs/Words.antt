@@ -13,7 +13,7 @@ pub use Rattle.row_choice.proofs.LatestLemmas.{latest-is, pairs_order, pairs_ord
 pub use Rattle.row_choice.specs.{FirstDay.is_within, FirstDay.ChangesAtBeginnings, Latest.later, Latest.comes_before as pair_comes_before}
 pub use Rattle.tenancy_rules.specs.{Beginnings.sooner_beginning, Beginnings.sooner_rivalry, declared.change.Change.Change, declared.occupancy.DoubleUse.DoubleUse}
 pub use Rattle.tenancy_rules.specs.Changed.{without, listed, changed_records, AddsNext, NumbersRise, is_before}
-pub use Rattle.tenancy_rules.specs.Law.{ChangeIsWhatLives, UnitsChangeByTransfer, NothingFollowsMoveOut, NoUnitHasTwo, DoubleUseHasTwo}
+pub use Rattle.tenancy_rules.specs.Law.{ChangeIsWhatLives, NoUnitHasTwo, DoubleUseHasTwo}
 unfoldable pub use Rattle.tenancy_rules.specs.{Occupancy.first_day_before, Occupancy.is_rival_on, Order.is_out_of_order}
 pub use Rattle.tenancy_rules.specs.Occupancy.{first_rival_on, first_rivalry, use_on, unit_kept, occupied_unit_on, is_one_unit, have_one_unit_on}
 pub use Rattle.tenancy_rules.specs.Order.{is_transfer, is_move_out, may_follow, has_its_unit, record_before, is_in_order, comes_after, earliest, first_out_of_order}

@@ -1,20 +1,8 @@
--- What it comes to that records are in order, that no unit would have two households, and that a change is judged.
-use Rattle.std.specs.Prelude.{◌≡◌, ◌≢◌, ◌↔◌, ◌≤◌, ℕ, true, false, if◌then◌else◌, List, [], ◌∷◌, ◌++◌, length, Some, None, All, Contains, IfSome}
+-- What it comes to that no unit would have two households, and that a change is judged.
+use Rattle.std.specs.Prelude.{◌≡◌, ◌≢◌, ◌≤◌, ℕ, if◌then◌else◌, List, [], ◌∷◌, ◌++◌, length, Some, None}
 use Rattle.days_core.specs.OfficeDays.{last_office_day}
-use Rattle.record_history.specs.{declared.records.Record.Record, Records.is_withdrawal, Records.live_records, Records.comes_before, Held.records_of}
-use Rattle.tenancy_rules.specs.{declared.change.Change.Change, declared.occupancy.DoubleUse.DoubleUse, Changed.changed_records, Changed.NumbersRise, Occupancy.occupied_unit_on, Occupancy.first_double_use}
-use Rattle.tenancy_rules.specs.Order.{is_transfer, is_move_out, record_before, first_out_of_order}
-
--- where no record is out of order, the unit changes from one record to the next exactly by a transfer
-abbrev pub UnitsChangeByTransfer : Type 0
-UnitsChangeByTransfer = (records : List Record) → first_out_of_order records ≡ None →
-    All (λ r. IfSome (record_before records r) (λ earlier. (r.unit ≢ earlier.unit) ↔ (is_transfer r.kind ≡ true))) records
-
--- where no record is out of order, none comes after a move-out
-abbrev pub NothingFollowsMoveOut : Type 0
-NothingFollowsMoveOut = (records : List Record) → NumbersRise records → first_out_of_order records ≡ None →
-    (earlier r : Record) → Contains records earlier → Contains records r → comes_before earlier r ≡ true →
-    is_move_out earlier.kind ≡ false
+use Rattle.record_history.specs.{declared.records.Record.Record, Records.is_withdrawal, Records.live_records, Held.records_of}
+use Rattle.tenancy_rules.specs.{declared.change.Change.Change, declared.occupancy.DoubleUse.DoubleUse, Changed.changed_records, Occupancy.occupied_unit_on, Occupancy.first_double_use}
 
 -- where no double use is found, no other household has this one's unit on any day through 2099-12-31
 abbrev pub NoUnitHasTwo : Type 0

@@ -2,18 +2,11 @@
 
 ghost use Rattle.std.specs.Prelude.{◌≡◌, ◌<◌, ◌+◌};
 ghost use Rattle.record_history.specs.{Held.records_of, Records.newest_number};
-ghost use Rattle.tenancy_rules.specs.Law.{UnitsChangeByTransfer, NothingFollowsMoveOut, NoUnitHasTwo, DoubleUseHasTwo, ChangeIsWhatLives};
+ghost use Rattle.tenancy_rules.specs.Law.{NoUnitHasTwo, DoubleUseHasTwo, ChangeIsWhatLives};
 ghost use Rattle.tenancy_rules.specs.OrderLaw.{OrderIsPlain, MoveOutIsLast, FaultIsFirst};
 ghost use Rattle.tenancy_rules.specs.UseLaw.{OccupancyIsPlain, DoubleUseIsFirst, NoDoubleUse};
 
 use record_history::{History, Record};
-
-/// Where no record is out of order, a household comes to another unit by a transfer alone, and no record comes after a
-/// move-out. It does nothing.
-pub fn units_change_by_transfer()
-    ensures units { UnitsChangeByTransfer }
-    ensures move_out { NothingFollowsMoveOut }
-{}
 
 /// What it comes to that no record is out of order, and that one is the first that is, in plain facts. It does nothing.
 pub fn order_is_plain()

@@ -13,7 +13,6 @@ pub use change::Change;
 pub use changed::is_before;
 pub use laws::{
     change_is_what_lives, double_use_is_first, no_unit_has_two, occupancy_is_plain, order_is_plain,
-    units_change_by_transfer,
 };
 pub use occupancy::{DoubleUse, double_use};
 pub use order::{order_fault, sooner};

@@ -1,3 +1,4 @@
+pub mod Rightly
 pub mod Words
 pub mod ListedLemmas
 pub mod RankLemmas

@@ -5,6 +5,7 @@ pub use Rattle.std.proofs.lemmas.List.Elements.{All-head, All-tail, All-filter, 
 pub use Rattle.std.specs.List.{reduce, filter_map}
 pub use Rattle.std.specs.Option.{option_map, option_or, option_map_or, option_copied}
 pub use Rattle.std.specs.Prelude.{if◌then◌else◌, All, Option, Some, None, ◌&&◌, ◌||◌, not, filter, Contains, IfSome, IsSomeAnd, MatchOption, vec_len, vec_capacity}
-pub use Rattle.wait_list.specs.{Group.candidates_of, declared.applicant.Applicant.Applicant, declared.ask.Candidate.Candidate, Law.goes_before, Law.NoMoverNeeds, Law.NoApplicantNeeds, Law.ApplicantIsFirst, Law.IsRightful, Law.NextIsRightful, Rank.rank_of}
+pub use Rattle.wait_list.specs.{Group.candidates_of, declared.applicant.Applicant.Applicant, declared.ask.Candidate.Candidate, Rank.rank_of}
+pub use Rattle.wait_list.proofs.Rightly.{goes_before, NoMoverNeeds, NoApplicantNeeds, ApplicantIsFirst, IsRightful, NextIsRightful}
 pub use Rattle.wait_list.specs.Next.{Asked, is_within_limit, is_extremely_low, is_candidate, candidates, stands_behind, first_of, next_of, mover_of, next_applicant, needs, first_there, asked_by}
 pub use Rattle.wait_list.specs.Waiting.{is_listed, without, HaveOwnNumbers, IsSize, IsSoundList}

@@ -3,7 +3,6 @@ pub mod Rank
 pub mod Target
 pub mod Next
 pub mod Group
-pub mod Law
 pub mod Wanted
 pub mod RightfulNext
 pub mod Ranked

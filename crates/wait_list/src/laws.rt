@@ -1,12 +1,6 @@
 //! Laws of who is next.
 
-ghost use Rattle.wait_list.specs.Law.{NextIsRightful};
 ghost use Rattle.wait_list.specs.{Wanted.WantedIsPlain, Wanted.RankIsPlain, RightfulNext.NextIsPlain};
-
-/// The law that who is next suits the unit, is within the limit, and has nobody before it. It does nothing.
-pub fn next_suits()
-    ensures { NextIsRightful }
-{}
 
 /// Who is next, in plain facts. It does nothing.
 pub fn next_is_plain()

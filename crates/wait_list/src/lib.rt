@@ -12,7 +12,7 @@ mod targets;
 
 pub use applicant::Applicant;
 pub use ask::{Ask, Candidate};
-pub use laws::{next_is_plain, next_suits, wanted_is_plain};
+pub use laws::{next_is_plain, wanted_is_plain};
 pub use list::WaitList;
 pub use rank::best_rank;
 pub use targets::{Targets, wants_extremely_low};

@@ -1,4 +1,4 @@
--- What it comes to that one is next for a unit.
+-- What it comes to by the tests that one is next for a unit.
 use Rattle.std.specs.Prelude.{◌≡◌, ◌⊎◌, ℕ, ◌&&◌, ◌||◌, not, Bool, true, false, Option, Some, None, List, All, Contains}
 use Rattle.rent_table.specs.Admission.{suits}
 use Rattle.wait_list.specs.declared.{applicant.Applicant.Applicant, ask.Candidate.Candidate}
