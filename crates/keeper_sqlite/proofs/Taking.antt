@@ -1,5 +1,5 @@
 -- A batch that follows a told book is new to the tables of its file.
-use Rattle.std.proofs.Common.{◌≡◌, ◌≢◌, ◌<◌, ◌+◌, ℕ, pos, Bool, false, ◌&&◌, ◌==◌, List, ◌++◌, All, take, length, get_or, Option, None, Some, IfSome, inl, inr, refl, sym, ap, ◌∙◌, arith, get_or-take, length-take}
+use Rattle.std.proofs.Common.{◌≡◌, ◌≢◌, ◌<◌, ◌+◌, ℕ, pos, Bool, false, ◌&&◌, ◌==◌, List, ◌++◌, All, take, length, get_or, Option, None, Some, IfSome, inl, inr, refl, ap, ◌∙◌, arith, get_or-take, length-take}
 use Rattle.std.specs.Prelude.{⊤}
 use Rattle.std.proofs.lemmas.Bool.{both_ways, and_from, eq-eqb}
 use Rattle.std.proofs.lemmas.List.Elements.{All-append}
