@@ -1,6 +1,5 @@
 -- Lists of one item and of three, the names of the indexes, and what stands behind the first three.
-use Rattle.std.proofs.Common.{◌≡◌, ◌≤◌, ◌<◌, ℕ, true, false, List, [], ◌∷◌, take, drop, length, slice_index_or, sym, ap, refl, arith}
-use Rattle.std.proofs.lemmas.Bool.{lt-ltb, le-ltb}
+use Rattle.std.proofs.Common.{◌≡◌, ◌≤◌, ◌<◌, true, List, [], ◌∷◌, take, drop, length, slice_index_or, sym, ap, refl, arith}
 use Rattle.sqlite_schema.specs.declared.schema.{Table.Table, Index.Index, Schema.Schema}
 use Rattle.sqlite_tied.specs.Compute.{everything}
 use Rattle.store_sql.specs.Schema.{book_schema, are_later, are_on_later, HasTables}
@@ -45,9 +44,3 @@ has_both schema tables indexes = record { tables = tables.0; later = tables.1; i
 
 pub both_had : (schema : Schema) → HasTables schema → TablesBegin schema × IndexesBegin schema
 both_had schema has = ((has.tables, has.later), (has.indexes, has.on_later))
-
-pub later_on : (tree : ℕ) (t : Table) (ts : List Table) → tree < t.tree → t.references ≡ [] → are_later tree (t ∷ ts) ≡ are_later t.tree ts
-later_on tree t ts later none = rw (lt-ltb _ _ later, none) refl
-
-pub not_later : (tree : ℕ) (t : Table) (ts : List Table) → t.tree ≤ tree → are_later tree (t ∷ ts) ≡ false
-not_later tree t ts before = rw (le-ltb _ _ before) refl

@@ -167,7 +167,7 @@ fn are_indexes(indexes: &[Index]) -> bool
     is_index(acts, &ACTS) && is_index(records, &RECORDS) && is_index(lines, &LINES)
 }
 
-/// Whether each table stands in a later tree than this one and those before it, and refers to no table.
+/// Whether each table stands in a later tree than the three and than those before it, and refers to no table.
 fn are_later(tables: &[Table]) -> bool
     ensures { result ≡ stand_later 5 tables.entry.now }
 {
