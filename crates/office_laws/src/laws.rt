@@ -68,9 +68,10 @@ pub fn acts_meet_their_terms()
     ensures { ActsMeetTheirTerms }
 {}
 
-/// The record of each act has its unit's rents on its first day and splits them; its payment is the least that covers the
-/// four; persons and family are by its facts; a gross rent change and a transfer carry over what was certified; and a
-/// move-in tells extremely low income by the limits of its first day. It does nothing.
+/// Each act of which a record comes makes one, with its unit's rents on its first day, which it splits. What is
+/// computed from facts has their persons and incomes and the least payment that covers the four; other records carry
+/// over what was certified. A record begins on its rightful day, a move-in tells extremely low income, the fiscal year
+/// counts the move-ins that count, and nobody is overdue at a closing. It does nothing.
 pub fn records_certify_rightly()
     ensures { RecordsCertifyRightly }
 {}
@@ -116,10 +117,10 @@ pub fn acts_are_in_place()
     ensures { ActsAreInPlace }
 {}
 
-/// What every book of an office upholds: its lines total what is certified and name their records; its closings follow each
-/// other, each with rents done; its households' records are in order, and no two have one unit; each admission and each
-/// transfer took the candidate who was next; no cause stood against an act, each met its terms, and its call gets its first
-/// reply again. It does nothing.
+/// What every book of an office upholds: its lines total what is certified and name their records; its closings follow
+/// each other, each with rents done; its households' records are in order, and no two have one unit; each admission and
+/// each transfer took the candidate who was next, and those wait who applied; no cause stood against an act, each met its
+/// terms, and its record certifies what it should; and its call gets its first reply again. It does nothing.
 pub fn books_are_upheld()
     ensures { BooksAreUpheld }
 {
