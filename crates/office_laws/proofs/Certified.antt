@@ -17,7 +17,7 @@ use Rattle.office_step.specs.{declared.heading.Heading.Heading, Known.Known, Kno
 use Rattle.office_step.specs.Made.{rents_in_unit, made_with, made_of_facts, made_of_carried, told_extremely_low}
 use Rattle.office_step.specs.plain.Facts.{is_family}
 use Rattle.office_step.proofs.Exactly.Options.{and_then-some}
-use Rattle.office_laws.proofs.{CertifiedIncomes.annual_income, CertifiedDeductions.adjusted_income}
+use Rattle.office_laws.proofs.{CertifiedIncomes.annual_income, CertifiedIncomes.named, CertifiedDeductions.adjusted_income}
 use Rattle.office_laws.specs.Closing.{HasRentsOfItsUnit}
 use Rattle.office_laws.specs.Certifies.{CoversAll, TellsExtremelyLow, IsByFacts, IsContinued, in_force as by_force, first, IsCarriedOver, KeepsItsUnit}
 
@@ -124,7 +124,7 @@ module _ (known : Known) (numbered : UnitsAreNumbered known.units) (rise : RentA
           persons = ap (λ (figures : Figures). figures.persons) is;
           size = ap (λ (figures : Figures). figures.size) is ∙ ap (λ (p : Member → Bool). count_by p facts.members) (λ i member. family member.relation i);
           annual = rw is (annual_income facts heading.from plan.passbook kept);
-          adjusted = rw is (adjusted_income facts heading.from of.annual);
+          adjusted = rw is (adjusted_income facts heading.from of.annual (named facts heading.from kept));
           payment = rw is (record { covers = covers_all facts of.annual of.adjusted; least = least_all facts of.annual of.adjusted });
           move_in = λ moves.
               (let row = there (limits_on known.limits heading.from) (limits (ap is_move_in moves)) in

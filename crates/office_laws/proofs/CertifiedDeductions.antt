@@ -5,9 +5,10 @@ use Rattle.std.specs.List.{list_any}
 use Rattle.std.proofs.lemmas.Bool.{false≢true, false_from_ne_true, ltb-true, ltb-false, lt-ltb, le-ltb, leb-true, le-leb, not-true, not_from_false, and_parts, and_from}
 use Rattle.days_core.specs.{Calendar.age_on}
 use Rattle.facts_core.specs.{declared.members.Relation.Relation, declared.members.Member.Member, declared.facts.Facts.Facts, Rules.is_aide}
-use Rattle.income_rules.specs.{Members.is_head_or_partner, Members.is_under, WholeList.Tells}
+use Rattle.income_rules.specs.{Members.is_head_or_partner, Members.is_under, WholeList.Tells, WholeList.NameMembers}
 use Rattle.deduction_rules.specs.Deductions.{is_other, is_dependent, dependents_of, is_elderly_or_disabled, elderly_deduction_of, earned_by, is_young_child, child_care_of, three_percent_of, is_helped_adult, disability_deduction_of, medical_beyond, medical_deduction_of, adjusted_income_of}
 use Rattle.office_step.proofs.Exactly.Options.{any-some, any-from}
+use Rattle.office_laws.proofs.CertifiedEarnings.{earned_income_of}
 use Rattle.office_laws.specs.Deductions.{IsDependent, IsElderlyOrDisabled, IsYoungChild, IsHelpedAdult, HasOne, IsForElderly, IsForCare, IsForDisability, IsForMedical, IsAdjustedIncome}
 
 -- ---- tests
@@ -106,7 +107,7 @@ module _ (facts : Facts) (test : Member → Bool) (Is : Member → Type 0) (tell
 
 -- ---- amounts
 
-module _ (facts : Facts) (day annual : ℕ) where
+module _ (facts : Facts) (day annual : ℕ) (named : NameMembers facts) where
   abbrev three : ℕ
   three = three_percent_of annual
 
@@ -121,6 +122,8 @@ module _ (facts : Facts) (day annual : ℕ) where
 
   for_care : IsForCare facts day (child_care_of facts day)
   for_care = record {
+    earned = earned_by (λ member. member.cared) facts day;
+    of_earned = earned_income_of (λ member. member.cared) facts day named;
     is = λ has. ap (λ (b : Bool). if b then care else 0) (some_such facts (is_young_child day) (IsYoungChild day) (young_child day) has);
     is_not = λ never. ap (λ (b : Bool). if b then care else 0) (none_such facts (is_young_child day) (IsYoungChild day) (young_child day) never);
   }
@@ -129,6 +132,8 @@ module _ (facts : Facts) (day annual : ℕ) where
   for_disability = record {
     helped = is_helped_adult day;
     tells = helped_adult day;
+    earned = earned_by (is_helped_adult day) facts day;
+    of_earned = earned_income_of (is_helped_adult day) facts day named;
     above = λ more. ap (λ (b : Bool). if b then min (facts.disability - three) (earned_by (is_helped_adult day) facts day) else 0) (lt-ltb three facts.disability more);
     below = λ less. ap (λ (b : Bool). if b then min (facts.disability - three) (earned_by (is_helped_adult day) facts day) else 0) (le-ltb three facts.disability less);
   }

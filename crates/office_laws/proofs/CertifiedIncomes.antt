@@ -1,14 +1,15 @@
 -- The annual income is that of the facts.
-use Rattle.std.proofs.Common.{◌≡◌, ap₂, refl, ℕ, zero, suc, ◌+◌, ◌*◌, ◌<◌, ◌≤◌, max, arith, Bool, true, None, List, [], ◌∷◌, length, nat_le, if◌then◌else◌}
+use Rattle.std.proofs.Common.{◌≡◌, ap, refl, ℕ, zero, suc, ◌+◌, ◌*◌, ◌<◌, ◌≤◌, max, arith, Bool, true, None, List, [], ◌∷◌, length, nat_le, if◌then◌else◌}
 use Rattle.std.specs.Prelude.{nat_lt, sum_by, All}
 use Rattle.std.specs.List.{list_all}
 use Rattle.std.proofs.lemmas.{Bool.leb-true, Bool.le-leb, Bool.ltb-true, Bool.and_parts, Bool.and_from, Bool.Decides.nat_tests, Grind.common_steps}
 use Rattle.list_laws.proofs.Options.{unless_none}
 use Rattle.days_core.specs.Rounding.{round_half_up}
 use Rattle.facts_core.specs.{declared.facts.Facts.Facts, Rules.broken_rule, Rules.has_one_head, Rules.has_at_most_one_partner, Rules.names_members}
-use Rattle.income_rules.specs.{Annual.annual_income_of, WholeList.NameMembers, WholeList.TestsAreThere}
+use Rattle.income_rules.specs.{Annual.annual_income_of, Income.earned_of, WholeList.NameMembers, WholeList.TestsAreThere}
 use Rattle.income_rules.specs.Assets.{window_start, is_between, given_away_of, net_assets_of, actual_asset_income_of, imputed_asset_income, asset_income_of}
-use Rattle.income_rules.proofs.WholeListLaw.{earned_is_of_whole_list, unearned_is_of_whole_list, tests_exist}
+use Rattle.income_rules.proofs.WholeListLaw.{unearned_is_of_whole_list, tests_exist}
+use Rattle.office_laws.proofs.CertifiedEarnings.{earned_income}
 use Rattle.office_laws.specs.Incomes.{AreNetAssets, IsAssetIncome, IsAnnualIncome}
 
 to_nearest : (x : ℕ) → (10000 * round_half_up x 10000 ≤ x + 5000) × (x + 5000 < 10000 * (round_half_up x 10000 + 1))
@@ -59,7 +60,7 @@ module _ (facts : Facts) (day : ℕ) where
       }
 
   -- where no rule is broken, each income names a member
-  named : broken_rule facts day ≡ None → NameMembers facts
+  pub named : broken_rule facts day ≡ None → NameMembers facts
   named kept =
       let one = unless_none (has_one_head facts) 1 _ kept in
       let two = unless_none (has_at_most_one_partner facts) 2 _ one.1 in
@@ -70,10 +71,11 @@ module _ (facts : Facts) (day : ℕ) where
   pub annual_income : (passbook : ℕ) → broken_rule facts day ≡ None → IsAnnualIncome facts day passbook (annual_income_of facts day passbook).total
   annual_income passbook kept =
       let tests : TestsAreThere day = tests_exist day in record {
+        earned = earned_of facts day;
+        of_earned = earned_income facts day (named kept);
         tests = tests;
         assets = asset_income_of facts day passbook;
         of_assets = asset_income passbook;
-        is = ap₂ (λ (earned unearned : ℕ). earned + unearned + asset_income_of facts day passbook)
-            (earned_is_of_whole_list facts day tests.earning.0 tests.whole.0 tests.student.0 (named kept) tests.earning.1 tests.whole.1 tests.student.1)
+        is = ap (λ (unearned : ℕ). earned_of facts day + unearned + asset_income_of facts day passbook)
             (unearned_is_of_whole_list facts tests.other.0 tests.adoption.0 tests.family.0 (named kept) tests.other.1 tests.adoption.1 tests.family.1);
       }

@@ -34,6 +34,7 @@ pub mod RentsDone
 pub mod Replay
 pub mod Pairs
 pub mod Upheld
+pub mod CertifiedEarnings
 pub mod CertifiedIncomes
 pub mod CertifiedDeductions
 pub mod Certified

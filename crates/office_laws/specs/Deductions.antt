@@ -3,7 +3,7 @@ use Rattle.std.specs.Prelude.{◌≡◌, ◌≢◌, ◌≤◌, ◌<◌, ◌+◌,
 use Rattle.days_core.specs.Calendar.{age_on}
 use Rattle.facts_core.specs.declared.{members.Relation.Relation, members.Member.Member, facts.Facts.Facts}
 use Rattle.income_rules.specs.WholeList.{Tells}
-use Rattle.deduction_rules.specs.Deductions.{earned_by}
+use Rattle.office_laws.specs.Incomes.{IsEarnedIncome, only_of}
 
 -- ---- whose
 
@@ -43,14 +43,18 @@ pub record IsForElderly (facts : Facts) (day amount : ℕ) : Type 0 where
 -- where there is a child under 13, the care that makes work possible, up to what is earned so, and the care that makes
 -- schooling possible (24 CFR 5.611(a)(4))
 pub record IsForCare (facts : Facts) (day amount : ℕ) : Type 0 where
-  pub is : HasOne facts (IsYoungChild day) → amount ≡ min facts.care_work (earned_by (λ member. member.cared) facts day) + facts.care_school
+  pub earned : ℕ
+  pub of_earned : IsEarnedIncome (only_of (λ member. member.cared) facts) day earned
+  pub is : HasOne facts (IsYoungChild day) → amount ≡ min facts.care_work earned + facts.care_school
   pub is_not : ¬ HasOne facts (IsYoungChild day) → amount ≡ 0
 
 -- disability assistance above three percent of income, up to what is earned so (24 CFR 5.611(a)(3)(ii))
 pub record IsForDisability (facts : Facts) (day three amount : ℕ) : Type 0 where
   pub helped : Member → Bool
   pub tells : Tells helped (IsHelpedAdult day)
-  pub above : three < facts.disability → amount ≡ min (facts.disability - three) (earned_by helped facts day)
+  pub earned : ℕ
+  pub of_earned : IsEarnedIncome (only_of helped facts) day earned
+  pub above : three < facts.disability → amount ≡ min (facts.disability - three) earned
   pub below : facts.disability ≤ three → amount ≡ 0
 
 -- the medical expenses of an elderly or disabled family above what the assistance leaves of three percent of income
