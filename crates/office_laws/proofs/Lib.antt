@@ -43,3 +43,4 @@ pub mod CertifiedClosings
 pub mod CertifiedWaiting
 pub mod CertifiedMade
 pub mod CertifiedActs
+pub mod RepliesTold

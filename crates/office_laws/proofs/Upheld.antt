@@ -5,7 +5,7 @@ use Rattle.std.proofs.lemmas.List.Elements.{All-contains_itself}
 use Rattle.list_laws.proofs.Filters.{All-passing}
 use Rattle.voucher_core.specs.Naming.{NamesItsPair, NameTheirPairs}
 use Rattle.office_laws.specs.{Allowed.IsAllowed, Conserved.LinesTotalWhatIsDue, Taken.NextIsTaken, Taken.TakesNext, Tenancy.NoUnitIsShared, Terms.MeetsTerms, Upheld.BooksAreUpheld, Closing.ClosingsNameTheirPairs, InPlace.book_before, InPlace.rows_by, InPlace.IsInPlace, Upheld.NamesItsRecords, Upheld.closings_of, Upheld.FollowFrom, Upheld.HasRentsDone, Upheld.AnswersAgain, Certifies.CertifiesRightly}
-use Rattle.office_laws.proofs.{Allowed.acts_are_allowed, Inversion.accepted, Inversion.passes, Makes.lines_name_month, Reached.acts_appended, Reached.act_made, Reached.books_are_kept, Reached.batches_follow, Reached.plan_there, Grown.plan-more, Known.unplanned, Replies.still_there, Replies.replies_stay, Replies.repeats_are_answered, InOrder.own_in_order, Pairs.NamesItsPairs, Pairs.in_plain_facts, InPlace.acts_are_in_place, InPlace.of_each_act, Conserved.next_closed, RentsDone.rents_are_done_at_closings, Requests.last_of, Requests.requests_are_last, Placed.households_are_in_order, Terms.acts_meet_their_terms, CertifiedActs.records_certify_rightly, CertifiedWaiting.those_wait_who_applied}
+use Rattle.office_laws.proofs.{Allowed.acts_are_allowed, Inversion.accepted, Inversion.passes, Makes.lines_name_month, Reached.acts_appended, Reached.act_made, Reached.books_are_kept, Reached.batches_follow, Reached.plan_there, Grown.plan-more, Known.unplanned, Replies.still_there, Replies.replies_stay, Replies.repeats_are_answered, InOrder.own_in_order, Pairs.NamesItsPairs, Pairs.in_plain_facts, InPlace.acts_are_in_place, InPlace.of_each_act, Conserved.next_closed, RentsDone.rents_are_done_at_closings, Requests.last_of, Requests.requests_are_last, Placed.households_are_in_order, Terms.acts_meet_their_terms, CertifiedActs.records_certify_rightly, CertifiedWaiting.those_wait_who_applied, RepliesTold.replies_tell_records}
 
 -- ---- lines
 
@@ -143,4 +143,5 @@ books_are_upheld came pairs totals apart taken capacity book reached = record {
   certified = of_each_act CertifiesRightly capacity (records_certify_rightly capacity) book reached;
   waiting = those_wait_who_applied book;
   replies = answers_again capacity book reached;
+  told = λ row r there. replies_tell_records capacity book reached row there r;
 }

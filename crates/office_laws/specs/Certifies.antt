@@ -1,5 +1,5 @@
 -- What the record of each act certifies, in plain facts.
-use Rattle.std.specs.Prelude.{◌≡◌, ◌≢◌, ◌≤◌, ◌<◌, ◌+◌, ◌-◌, ◌*◌, min, ⊤, ℕ, true, false, Option, Some, IfSome, IsSomeAnd, List, length, count_by, slice_index_or, Contains}
+use Rattle.std.specs.Prelude.{◌≡◌, ◌≢◌, ◌≤◌, ◌<◌, ◌+◌, ◌-◌, ◌*◌, ⊤, ℕ, true, false, Option, Some, IfSome, IsSomeAnd, List, length, count_by, slice_index_or, Contains}
 use Rattle.days_core.specs.Calendar.{month_of, last_of as last_day_of}
 use Rattle.facts_core.specs.declared.facts.Facts.{Facts}
 use Rattle.record_history.specs.{declared.records.Kind.Kind, declared.records.Record.Record, Law.CountsOn, Law.IsInForceOn}
@@ -8,14 +8,10 @@ use Rattle.due_dates.specs.Law.{IsMonthAfter}
 use Rattle.voucher_core.specs.Certified.{certified_amount}
 use Rattle.book_rows.specs.{declared.rows.Batch.Batch, declared.command.Command.Command, declared.household.HouseholdChange.HouseholdChange, Book.Book}
 use Rattle.office_step.specs.{declared.call.Capacity.Capacity, Known.Known, Known.known_of, Known.own_in, Step.IsAppended, Step.IsReached}
-use Rattle.office_step.specs.plain.{Facts.is_family, Counting.Counts, Counting.IsLastOf, Closing.BeginsYearBy, Rightful.BeginsYear, Rightful.IsAnnualDay, Rightful.IsGrossDay, Rightful.IsInterimDay, Rightful.HasRightAgain}
+use Rattle.office_step.specs.plain.{Facts.is_family, Counting.Counts, Counting.IsLastOf, Closing.BeginsYearBy, Rightful.BeginsYear, Rightful.IsAnnualDay, Rightful.IsGrossDay, Rightful.IsInterimDay, Rightful.HasRightAgain, Replies.SplitsItsRent}
 use Rattle.office_laws.specs.{Closing.HasRentsOfItsUnit, Incomes.IsAnnualIncome, Deductions.IsAdjustedIncome}
 
 -- ---- rents and assistance
-
--- assistance, with the lesser of total tenant payment and gross rent, comes to the gross rent (24 CFR 5.628 to 5.634)
-abbrev pub SplitsItsRent : Record → Type 0
-SplitsItsRent r = r.assistance + min r.ttp (r.rents.contract_rent + r.rents.utility) ≡ r.rents.contract_rent + r.rents.utility
 
 -- what every record meets that certifies something: its rents are its unit's on its first day
 pub record Certifies (known : Known) (r : Record) : Type 0 where

@@ -1,8 +1,9 @@
--- A repeat gets the reply that its act got.
+-- What a reply tells, and that a repeat gets the reply that its act got.
 use Rattle.std.specs.Prelude.{◌≡◌, ℕ, Contains}
+use Rattle.record_history.specs.declared.records.Record.{Record}
 use Rattle.book_rows.specs.{declared.rows.ActRow.ActRow, declared.rows.Batch.Batch, Book.Book, Book.appended}
 use Rattle.command_forms.specs.Commands.{body_of}
-use Rattle.office_step.specs.{declared.call.Call.Call, declared.call.Capacity.Capacity, Reply.done_of}
+use Rattle.office_step.specs.{declared.call.Call.Call, declared.call.Capacity.Capacity, Reply.done_of, plain.Replies.TellsRecord}
 use Rattle.office_laws.specs.History.{IsLater}
 use Rattle.office_step.specs.Step.{IsAppended, IsReached, step, again}
 
@@ -11,6 +12,11 @@ pub record IsOf (call : Call) (row : ActRow) : Type 0 where
   pub clerk : row.clerk ≡ call.clerk
   pub request : row.request ≡ call.request
   pub body : row.body ≡ body_of call.command
+
+-- the reply to each act that made a record tells what that certifies
+abbrev pub RepliesTellRecords : Type 0
+RepliesTellRecords = (capacity : Capacity) (book : Book) → IsReached capacity book → (row : ActRow) → Contains book.acts row →
+    (r : Record) → Contains book.records r → r.act ≡ row.n → TellsRecord r (done_of book row).made
 
 -- later acts leave the reply to an act
 abbrev pub RepliesStay : Type 0

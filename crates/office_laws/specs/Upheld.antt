@@ -5,7 +5,7 @@ use Rattle.record_history.specs.{declared.records.Record.Record, Law.CountsOn, L
 use Rattle.voucher_core.specs.{declared.line.Line.Line, Lines.paid, Naming.shares_of}
 use Rattle.book_rows.specs.{declared.rows.ActRow.ActRow, declared.command.Command.Command, Book.Book, Book.appended}
 use Rattle.command_forms.specs.Commands.{command_in}
-use Rattle.office_step.specs.{declared.call.Call.Call, declared.call.Capacity.Capacity, declared.known.Closed.Closed, declared.known.Request.Request, Acts.acts_of, Acts.closing_of, Candidates.request_in, Known.Known, Known.known_of, Known.own_in, Made.last_close, Reply.done_of, Step.step, Step.again, Step.IsReached}
+use Rattle.office_step.specs.{declared.call.Call.Call, declared.call.Capacity.Capacity, declared.known.Closed.Closed, declared.known.Request.Request, Acts.acts_of, Acts.closing_of, Candidates.request_in, Known.Known, Known.known_of, Known.own_in, Made.last_close, Reply.done_of, plain.Replies.TellsRecord, Step.step, Step.again, Step.IsReached}
 use Rattle.office_laws.specs.{Allowed.IsAllowed, Closing.HasItsRents, Conserved.due_for, InPlace.book_before, InPlace.rows_by, InPlace.OfEachAct, Replies.IsOf, Requests.SaidLast, Taken.TakesNext, Tenancy.IsInOrder, Tenancy.AreApart, Terms.MeetsTerms, Certifies.CertifiesRightly, Waiting.ThoseWaitWhoApplied}
 
 -- ---- lines
@@ -80,6 +80,8 @@ pub record IsUpheld (capacity : Capacity) (book : Book) : Type 0 where
   pub certified : OfEachAct book CertifiesRightly
   pub waiting : ThoseWaitWhoApplied book
   pub replies : (row : ActRow) → Contains book.acts row → AnswersAgain capacity book row
+  -- the reply to an act tells what its record certifies
+  pub told : (row : ActRow) (r : Record) → Contains book.acts row → Contains book.records r → r.act ≡ row.n → TellsRecord r (done_of book row).made
 
 abbrev pub BooksAreUpheld : Type 0
 BooksAreUpheld = (capacity : Capacity) (book : Book) → IsReached capacity book → IsUpheld capacity book

@@ -6,7 +6,7 @@ ghost use Rattle.office_laws.specs.History.{RowsCameByActs};
 ghost use Rattle.office_laws.specs.InPlace.{ActsAreInPlace};
 ghost use Rattle.office_laws.specs.Upheld.{BooksAreUpheld};
 ghost use Rattle.office_laws.specs.Replay.{ActsGiveTheBook, AppendedIsReplayed, ReplayedIsAppended, RowsAreOfTheSession};
-ghost use Rattle.office_laws.specs.Replies.{RepliesStay, RepeatsAreAnswered, FirstRepliesAreGivenAgain};
+ghost use Rattle.office_laws.specs.Replies.{RepliesTellRecords, RepliesStay, RepeatsAreAnswered, FirstRepliesAreGivenAgain};
 ghost use Rattle.office_laws.specs.Tenancy.{HouseholdsAreInOrder, NoUnitIsShared};
 ghost use Rattle.office_laws.specs.Taken.{NextIsTaken};
 ghost use Rattle.office_laws.specs.Terms.{ActsMeetTheirTerms};
@@ -44,6 +44,11 @@ pub fn repeats_are_answered()
     ensures stay { RepliesStay }
     ensures answered { RepeatsAreAnswered }
     ensures first { FirstRepliesAreGivenAgain }
+{}
+
+/// The reply to an act that made a record tells what it certifies. It does nothing.
+pub fn replies_tell_records()
+    ensures { RepliesTellRecords }
 {}
 
 /// The records of every household are numbered, and those that live are in order. It does nothing.

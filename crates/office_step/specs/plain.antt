@@ -13,3 +13,4 @@ pub mod Admitted
 pub mod Months
 pub mod Closing
 pub mod Acceptance
+pub mod Replies

@@ -1,4 +1,4 @@
-//! The laws of the tests, by their numbers.
+//! The laws of the tests, by their numbers, and of what a reply tells.
 
 ghost use Rattle.office_step.specs.plain.Planned.{NoPlanIsPlain, PlanGivenIsPlain, BookFullIsPlain};
 ghost use Rattle.office_step.specs.plain.Named.{NoSuchIsPlain};
@@ -14,6 +14,7 @@ ghost use Rattle.office_step.specs.plain.Admitted.{IneligibleIsPlain, NoAssistan
 ghost use Rattle.office_step.specs.plain.Months.{WrongMonthIsPlain};
 ghost use Rattle.office_step.specs.plain.Closing.{RentDueIsPlain, OverdueIsPlain};
 ghost use Rattle.office_step.specs.plain.Acceptance.{RefusalIsPlain, AcceptanceIsPlain};
+ghost use Rattle.office_step.specs.plain.Replies.{CertifiedIsPlain};
 
 /// 2: an act comes before the plan. It does nothing.
 pub fn no_plan_is_plain()
@@ -133,4 +134,10 @@ pub fn refusal_is_plain()
 /// A new call whose lines fit is accepted exactly where no cause stands against it. It does nothing.
 pub fn acceptance_is_plain()
     ensures { AcceptanceIsPlain }
+{}
+
+/// The reply tells what the record certifies: tenant rent and assistance come to the contract rent and the reimbursement,
+/// of which a family that pays rent gets none. It does nothing.
+pub fn certified_is_plain()
+    ensures { CertifiedIsPlain }
 {}
