@@ -7,7 +7,7 @@ ghost use Rattle.std.specs.Prelude.{◌<◌, ◌≤◌};
 
 use days_core::{LAST_OFFICE_DAY, Month, Rents, first_of};
 use plain_data::NoMemory;
-use record_history::{History, Kind, Record};
+use record_history::{History, Kind, MOST_ACTS, Record};
 use std::alloc::Global;
 use std::process::ExitCode;
 use std::rt::Env;
@@ -57,7 +57,7 @@ fn close_all(alloc: Global, households: u32, months: u32) -> Result<(u64, i64), 
 fn close(alloc: Global, history: &History, place: u32) -> Result<Vec<Line>, NoMemory>
     requires { place < 900 }
 {
-    if history.households() > 100_000 {
+    if history.households() > MOST_ACTS {
         return Ok(Vec::new(alloc));
     }
     let closing = Closing {

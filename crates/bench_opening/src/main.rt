@@ -2,20 +2,21 @@
 //! so many times. Prints the replies, and how many acts the book has.
 #![tactic(auto)]
 
-use days_core::Day;
+use days_core::{Day, FIRST_OFFICE_DAY};
 use keeper_core::MemoryKeeper;
 use office_io::{FixedClock, StreamSink, StreamSource};
 use office_prog::clerk_desk::open_office;
 use office_prog::office_core::Capacity;
 use office_prog::run;
+use record_history::{MOST_ACTS, MOST_LINES};
 use std::alloc::{AllocError, Global};
 use std::process::ExitCode;
 use std::{env, io};
 
 /// How much the book may hold: as much as that of the program.
 const LARGEST: Capacity = Capacity {
-    acts: 100_000,
-    lines: 4_000_000,
+    acts: MOST_ACTS,
+    lines: MOST_LINES,
 };
 
 fn main(rt: HostRuntime) -> ExitCode {
@@ -51,7 +52,7 @@ fn answer(rt: &HostRuntime, keeper: &mut MemoryKeeper) -> Result<u8, AllocError>
     let mut source = StreamSource::new(rt.stdin());
     let mut sink = StreamSink::new(rt.stdout());
     // Each line tells its own day, so any clock will do.
-    let clock = FixedClock::new(Day::from_number(43_829).unwrap());
+    let clock = FixedClock::new(Day::from_number(FIRST_OFFICE_DAY).unwrap());
     Ok(run(alloc, &words, &mut source, &mut sink, &clock, keeper).number())
 }
 

@@ -5,14 +5,15 @@ use batch_command::office_core::{Capacity, Office};
 use batch_command::{Ending, answer_lines};
 use keeper_core::MemoryKeeper;
 use office_io::{FixedClock, MemorySink, MemorySource};
+use record_history::{MOST_ACTS, MOST_LINES};
 use sample_office::day;
 use std::alloc::Global;
 use std::process::Abort;
 use std::test::Fail;
 
 const LARGEST: Capacity = Capacity {
-    acts: 100_000,
-    lines: 4_000_000,
+    acts: MOST_ACTS,
+    lines: MOST_LINES,
 };
 
 /// The office that accepted so many lines, and no other.

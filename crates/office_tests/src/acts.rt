@@ -5,6 +5,7 @@ use office_core::admission_order::{next_for, targets};
 use office_core::office_acts::judge;
 use office_core::office_register::Register;
 use office_core::office_step::{Made, Named, Refusal};
+use record_history::MOST_ACTS;
 use sample_office::{
     ADMIT, APPLY, LIMITS, OTHER_UNIT, PLAN, RENTS, START, UNIT, day, month, office_day,
 };
@@ -170,7 +171,7 @@ fn assert_removal(
     refusal: Refusal,
 ) {
     let asked = command(rt, alloc, "{'applicant':1,'kind':'remove'}");
-    assert!(rt; most <= 100_000);
+    assert!(rt; most <= MOST_ACTS);
     let judged = judge(register, most, office_day("2024-01-01"), &asked);
     asked.let_go();
     assert!(rt; judged == Err(refusal));

@@ -12,6 +12,7 @@ use days_core::Day;
 use office_core::office_step::{Call, Capacity, Done, Fault, Made, Refusal};
 use office_core::{Judged, Judgment, Office, OpenFault, Step};
 use plain_data::NoMemory;
+use record_history::{MOST_ACTS, MOST_LINES};
 use sample_office::{CLOSE_JANUARY, OTHER_UNIT, PLAN, RENTS, START, UNIT, day, month};
 use std::alloc::Global;
 use std::process::Abort;
@@ -23,8 +24,8 @@ const FEBRUARY: &str = "{'kind':'close','month':'2024-02'}";
 const MARCH: &str = "{'kind':'close','month':'2024-03'}";
 
 const LARGEST: Capacity = Capacity {
-    acts: 100_000,
-    lines: 4_000_000,
+    acts: MOST_ACTS,
+    lines: MOST_LINES,
 };
 
 /// What clerk 1 asks for on a day by a request, and what the office has to answer.
@@ -148,7 +149,7 @@ pub fn told(rt: &impl Abort, alloc: Global, texts: &[&str]) -> Office {
 }
 
 fn new(rt: &impl Abort, alloc: Global, capacity: Capacity) -> Office {
-    assert!(rt; capacity.acts <= 100_000 && capacity.lines <= 4_000_000);
+    assert!(rt; capacity.acts <= MOST_ACTS && capacity.lines <= MOST_LINES);
     match Office::new(alloc, capacity) {
         Ok(office) => office,
         Err(NoMemory) => panic!(rt; "no memory"),

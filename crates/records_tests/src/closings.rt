@@ -1,6 +1,7 @@
 //! Closings and their lines.
 
-use record_history::{History, Kind, Record};
+use days_core::{FIRST_OFFICE_MONTH, LAST_OFFICE_MONTH};
+use record_history::{History, Kind, MOST_ACTS, MOST_LINES, Record};
 use sample_office::{day, hold, month, record};
 use std::alloc::Global;
 use std::process::Abort;
@@ -28,8 +29,11 @@ fn close(rt: &impl Abort, alloc: Global, history: &History, row: Closes) -> Vec<
         last_close,
         act,
     };
-    assert!(rt; last_close <= act && history.households() <= 100_000);
-    assert!(rt; 1440 <= closing.first_month.number() && closing.closed.number() <= 2639);
+    assert!(rt; last_close <= act && history.households() <= MOST_ACTS);
+    assert!(rt;
+        FIRST_OFFICE_MONTH <= closing.first_month.number()
+            && closing.closed.number() <= LAST_OFFICE_MONTH
+    );
     close_lines(alloc, history, &closing).expect(rt, "memory")
 }
 
@@ -77,7 +81,7 @@ fn closes(
 
 fn keep(rt: &impl Abort, book: &mut LineBook, lines: &[Line]) {
     for line in lines {
-        assert!(rt; book.lines().len() < 4_000_000);
+        assert!(rt; book.lines().len() < MOST_LINES as usize);
         book.reserve(1).expect(rt, "memory");
         book.push(*line);
     }
