@@ -44,3 +44,5 @@ pub mod CertifiedWaiting
 pub mod CertifiedMade
 pub mod CertifiedActs
 pub mod RepliesTold
+pub mod Counts
+pub mod Turns

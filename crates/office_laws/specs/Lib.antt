@@ -22,3 +22,4 @@ pub mod Upheld
 pub mod Replay
 pub mod InTurn
 pub mod Accepting
+pub mod Turns

@@ -6,7 +6,9 @@ mod at_hand;
 mod laws;
 mod moving;
 
-pub use accepting::{acceptance_of_reached_books, acts_are_allowed, reached_books_are_sound};
+pub use accepting::{
+    acceptance_of_reached_books, acts_are_allowed, reached_books_are_sound, turns_are_plain,
+};
 pub use at_hand::{
     applicant_replies, days_are_lived, lines_stand_in_order, new_replies, next_records,
     requests_are_once, unit_replies, within_room,
