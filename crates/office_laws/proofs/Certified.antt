@@ -9,14 +9,14 @@ use Rattle.facts_core.specs.{declared.members.Member.Member, declared.members.Re
 use Rattle.payment_rules.specs.Payment.{total_tenant_payment_of, minimum_rent_of, gross_rent_of, assistance_of, share_of_adjusted, share_of_annual}
 use Rattle.record_history.specs.{declared.records.Kind.Kind, declared.records.Record.Record, Held.AreNumbered, Records.in_force}
 use Rattle.record_history.proofs.ForceLemmas.{one_now}
-use Rattle.rent_table.specs.{declared.plan.Plan.Plan, declared.rows.Unit.Unit as UnitRow, declared.rows.LimitRow.LimitRow, Admission.limit_for, Table.AreNumbered as UnitsAreNumbered, Table.RentActsRise, Table.LimitActsRise, Table.unit_at, Table.rents_on, Table.limits_on}
-use Rattle.rent_table.proofs.{FoundLemmas.found_by_number, StandingLemmas.row_sets_rents, StandingLemmas.row_sets_limits}
+use Rattle.rent_table.specs.{declared.plan.Plan.Plan, declared.rows.Unit.Unit as UnitRow, declared.rows.LimitRow.LimitRow, Admission.limit_for, Table.RentActsRise, Table.LimitActsRise, Table.unit_at, Table.rents_on, Table.limits_on}
+use Rattle.rent_table.proofs.StandingLemmas.{row_sets_rents, row_sets_limits}
 use Rattle.tenancy_rules.specs.Order.{is_move_in}
 use Rattle.certified_figures.specs.{declared.figures.Figures.Figures, Figures.figures_of, Figures.carried_figures}
-use Rattle.office_step.specs.{declared.heading.Heading.Heading, Known.Known, Known.own_in, Households.record_at, Households.continued, Households.unit_continued}
+use Rattle.office_step.specs.{declared.heading.Heading.Heading, Known.Known, Known.UnitsAreNumbered, Known.own_in, Households.record_at, Households.continued, Households.unit_continued}
 use Rattle.office_step.specs.Made.{rents_in_unit, made_with, made_of_facts, made_of_carried, told_extremely_low}
 use Rattle.office_step.specs.plain.Facts.{is_family}
-use Rattle.office_step.proofs.Exactly.Options.{and_then-some}
+use Rattle.office_step.proofs.Exactly.{Options.and_then-some, Numbered.found_by_number}
 use Rattle.office_laws.proofs.{CertifiedIncomes.annual_income, CertifiedIncomes.named, CertifiedDeductions.adjusted_income}
 use Rattle.office_laws.specs.Closing.{HasRentsOfItsUnit}
 use Rattle.office_laws.specs.Certifies.{CoversAll, TellsExtremelyLow, IsByFacts, IsContinued, in_force as by_force, first, IsCarriedOver, KeepsItsUnit}

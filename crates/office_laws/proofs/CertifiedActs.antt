@@ -7,11 +7,11 @@ use Rattle.list_laws.proofs.{Finds.find_holds, Options.option_map_none, Options.
 use Rattle.days_core.specs.OfficeDays.{last_office_day}
 use Rattle.facts_core.specs.{declared.facts.Facts.Facts, Rules.broken_rule}
 use Rattle.record_history.specs.declared.records.{Kind.Kind, Record.Record}
-use Rattle.rent_table.specs.Table.{AreNumbered as UnitsAreNumbered, RentActsRise, LimitActsRise, limits_on}
+use Rattle.rent_table.specs.Table.{RentActsRise, LimitActsRise, limits_on}
 use Rattle.due_dates.specs.Law.{IsMonthAfter}
 use Rattle.tenancy_rules.specs.Order.{is_move_in}
 use Rattle.book_rows.specs.{declared.rows.Batch.Batch, declared.command.Command.Command, declared.household.HouseholdAct.HouseholdAct, declared.household.HouseholdChange.HouseholdChange, declared.certifications.CorrectAct.CorrectAct, declared.moves.WithdrawAct.WithdrawAct}
-use Rattle.office_step.specs.{declared.heading.Heading.Heading, declared.refusal.Refusal.Refusal, Known.Known, Known.known_of, Known.own_in, Households.record_at, Households.unit_continued, Refusals.refused_unless}
+use Rattle.office_step.specs.{declared.heading.Heading.Heading, declared.refusal.Refusal.Refusal, Known.Known, Known.UnitsAreNumbered, Known.known_of, Known.own_in, Households.record_at, Households.unit_continued, Refusals.refused_unless}
 use Rattle.office_step.specs.Matter.{Matter, Basis, from_facts, carried, nothing, matter_of, own as own_records}
 use Rattle.office_step.specs.Made.{made_of_facts, made_of_nothing, made_on, heading_in, own_heading, correction_heading, withdrawal_heading, record_in, record_of}
 use Rattle.office_step.specs.Against.{no_limits, facts_rule, wrong_day, overdue}

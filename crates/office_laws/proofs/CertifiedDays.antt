@@ -6,12 +6,12 @@ use Rattle.std.proofs.lemmas.{Bool.eqb-true, Option.same_Some, List.Elements.All
 use Rattle.days_core.specs.OfficeDays.{last_office_day}
 use Rattle.record_history.specs.{declared.records.Record.Record, Records.is_live, Records.live_records}
 use Rattle.record_history.proofs.ForceLemmas.{numbers_own}
-use Rattle.rent_table.specs.{declared.plan.Plan.Plan, Table.AreNumbered, Table.RentActsRise}
+use Rattle.rent_table.specs.{declared.plan.Plan.Plan, Table.RentActsRise}
 use Rattle.due_dates.specs.{Law.IsMonthAfter, Rightful.next_month, Rightful.interim_day, Stale.gross_day_of}
 use Rattle.due_dates.proofs.RightfulLemmas.{is_month_after}
 use Rattle.tenancy_rules.proofs.Numbers.{rise}
 use Rattle.book_rows.specs.declared.{household.HouseholdAct.HouseholdAct, household.HouseholdChange.HouseholdChange, certifications.AnnualAct.AnnualAct, certifications.InterimAct.InterimAct, certifications.ResumeAct.ResumeAct, certifications.GrossAct.GrossAct, certifications.CorrectAct.CorrectAct}
-use Rattle.office_step.specs.{declared.refusal.Refusal.Refusal, declared.rightful.Rightful.Rightful, Known.Known, Known.own_in, Households.AreBy, Households.record_at, Matter.Matter, Made.record_in, Against.by_payment, Against.wrong, Against.wrong_day, Refusals.annual_right, Refusals.interim_right, Refusals.is_higher, Refusals.resume_right, Refusals.corrected_right}
+use Rattle.office_step.specs.{declared.refusal.Refusal.Refusal, declared.rightful.Rightful.Rightful, Known.Known, Known.UnitsAreNumbered, Known.own_in, Households.AreBy, Households.record_at, Matter.Matter, Made.record_in, Against.by_payment, Against.wrong, Against.wrong_day, Refusals.annual_right, Refusals.interim_right, Refusals.is_higher, Refusals.resume_right, Refusals.corrected_right}
 use Rattle.office_step.specs.plain.{Counting.AreInTurn, Counting.Counts}
 use Rattle.office_step.specs.plain.Rightful.{IsInterimDay, BeginsYear, IsAnnualDay, IsGrossDay, HasRightAgain, AreKnownDays}
 use Rattle.office_step.proofs.{Headed.changing, Passed.test_passed, Exactly.Named.found_numbered, Exactly.Counting.counting, Exactly.Rightful.right_annual, Exactly.Rightful.gross_plain, Exactly.Rightful.interim_plain, Exactly.Rightful.from_again}
@@ -27,7 +27,7 @@ by_its_payment about rights from r plan makes planned none =
     sym (ap (λ (made : Option Record). wrong (option_map_or (λ made. option_map_or (λ plan. rights made.ttp plan.report_days) about.known.plan Rightful.Any) made Rightful.Any) from) makes
     ∙ ap (λ (plan : Option Plan). wrong (option_map_or (λ plan. rights r.ttp plan.report_days) plan Rightful.Any) from) planned) ∙ none
 
-module _ (known : Known) (units : AreNumbered known.units) (rents : RentActsRise known.rents) (act : HouseholdAct) (its : AreInTurn (own_in known act.household)) where
+module _ (known : Known) (units : UnitsAreNumbered known.units) (rents : RentActsRise known.rents) (act : HouseholdAct) (its : AreInTurn (own_in known act.household)) where
   abbrev own : List Record
   own = own_in known act.household
 

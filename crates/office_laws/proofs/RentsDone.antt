@@ -4,10 +4,10 @@ use Rattle.std.proofs.Common.{◌≢◌}
 use Rattle.std.specs.Prelude.{Contains}
 use Rattle.record_history.specs.{Law.IsInForceOn, Held.AreNumbered}
 use Rattle.record_history.proofs.ForceLemmas.{one_now}
-use Rattle.rent_table.specs.Table.{AreNumbered as UnitsAreNumbered, RentActsRise, rents_on}
-use Rattle.rent_table.proofs.{FoundLemmas.found_by_number, StandingLemmas.row_sets_rents}
-use Rattle.office_step.specs.plain.Acceptance.{IsSound}
-use Rattle.office_step.proofs.{Exactly.Options.and_then-some, NoneStale.none_stale}
+use Rattle.rent_table.specs.Table.{RentActsRise, rents_on}
+use Rattle.rent_table.proofs.StandingLemmas.{row_sets_rents}
+use Rattle.office_step.specs.{Known.UnitsAreNumbered, plain.Acceptance.IsSound}
+use Rattle.office_step.proofs.{Exactly.Options.and_then-some, Exactly.Numbered.found_by_number, NoneStale.none_stale}
 use Rattle.office_laws.specs.Closing.{HasRentsOfItsUnit}
 use Rattle.office_laws.proofs.{Inversion.passes, AllSound.reached_books_are_sound, Fitting.goes_on, InOrder.own_in_order, Reached.plan_there, RentsStand.BeganWithRents, RentsStand.rents-later, RentsStand.began_with_rents}
 

@@ -1,5 +1,6 @@
 pub mod Options
 pub mod Counting
+pub mod Numbered
 pub mod Planned
 pub mod Named
 pub mod Seen

@@ -1,5 +1,5 @@
 -- What an office knows by the acts and records of its book.
-use Rattle.std.specs.Prelude.{ℕ, Option, List, length}
+use Rattle.std.specs.Prelude.{ℕ, ◌≡◌, ◌<◌, ◌+◌, Option, List, length, slice_index_or}
 use Rattle.record_history.specs.{declared.records.Record.Record, Held.records_of}
 use Rattle.rent_table.specs.declared.{plan.Plan.Plan, rows.Unit.Unit as UnitRow, rows.RentRow.RentRow, rows.LimitRow.LimitRow}
 use Rattle.wait_list.specs.declared.applicant.Applicant.{Applicant}
@@ -46,3 +46,7 @@ known_of book = known_by (length book.acts) (acts_of book.acts) book.records
 -- the records of one household
 abbrev pub own_in : Known → ℕ → List Record
 own_in known household = records_of known.households household
+
+-- units are numbered from 1 in the order in which they came
+abbrev pub UnitsAreNumbered : List UnitRow → Type 0
+UnitsAreNumbered units = (place : ℕ) (d : UnitRow) → place < length units → (slice_index_or units place d).number ≡ place + 1

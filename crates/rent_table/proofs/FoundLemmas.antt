@@ -1,8 +1,7 @@
 -- Which unit is found by a number or a name, in plain facts.
-use Rattle.rent_table.proofs.Words.{◌≡◌, ◌≢◌, ◌∙◌, sym, ap, ℕ, get_or, Bool, true, false, inl, inr, List, Some, None, find, same_text, other_text, option_map, eqb, UnitRow, unit_at, has_name, unit_named, AreNumbered, HaveOwnNames, find_own}
+use Rattle.rent_table.proofs.Words.{◌≡◌, ◌≢◌, ◌∙◌, sym, ap, ℕ, get_or, Bool, true, false, inl, inr, List, Some, None, find, same_text, other_text, option_map, eqb, UnitRow, unit_at, has_name, unit_named, HaveOwnNumbers, HaveOwnNames, find_own}
 use Rattle.std.specs.Prelude.{◌↔◌, All, AllPairs, Contains}
 use Rattle.std.proofs.lemmas.{List.Elements.All-contains_itself, Option.slice_get-get_or, Bool.cases_Bool, Bool.eq-eqb, Bool.eqb-true, Bool.eqb-false, Bool.ne_eqb}
-use Rattle.rent_table.proofs.Numbered.{own_number}
 use Rattle.list_laws.proofs.{Finds.find_holds, Finds.find_none, Finds.find_fails, Options.option_map_some, Options.option_map_none}
 
 -- a unit of the list has a place in it
@@ -11,11 +10,11 @@ found_own : {K : Type 0} (key : UnitRow → K) (a : K) (passes : UnitRow → Boo
 found_own key a passes means units own unit (k, within, is) passed =
     find_own key a passes means units own k unit (slice_get-get_or units k unit within ∙ ap Some is) passed
 
-pub found_by_number : (units : List UnitRow) (number : ℕ) (unit : UnitRow) → AreNumbered units →
+pub found_by_number : (units : List UnitRow) (number : ℕ) (unit : UnitRow) → HaveOwnNumbers units →
     (unit_at units number ≡ Some unit) ↔ (Contains units unit × (unit.number ≡ number))
-found_by_number units number unit numbered = (
+found_by_number units number unit own = (
   λ is. (let found = find_holds (λ (u : UnitRow). eqb u.number number) (Contains units) units unit is (All-contains_itself units) in (found.0, eqb-true unit.number number found.1)),
-  λ (held, same). found_own (λ (u : UnitRow). u.number) number (λ (u : UnitRow). eqb u.number number) (λ u passed. eqb-true u.number number passed) units (own_number units numbered) unit held
+  λ (held, same). found_own (λ (u : UnitRow). u.number) number (λ (u : UnitRow). eqb u.number number) (λ u passed. eqb-true u.number number passed) units own unit held
       (eq-eqb unit.number number same),
 )
 

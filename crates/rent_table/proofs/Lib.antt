@@ -1,4 +1,3 @@
-mod Numbered
 pub mod Words
 pub mod ByName
 pub mod OwnLemmas

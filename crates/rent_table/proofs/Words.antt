@@ -7,4 +7,4 @@ pub use Rattle.std.specs.Prelude.{Option, Some, None, find, slice_get, IsOk}
 pub use Rattle.row_index.proofs.Keyed.{find_key, IsSortedBy-insert, parted}
 pub use Rattle.row_index.proofs.Places.{find_own, none_at_places, places_within, all_places-insert}
 pub use Rattle.rent_table.specs.{Names.name_at, Names.is_before, Names.AreByName, declared.rows.Unit.Unit as UnitRow}
-pub use Rattle.rent_table.specs.Table.{has_name, HaveOwnNames, unit_at, unit_named, AreNumbered, limits_on, rent_row_on}
+pub use Rattle.rent_table.specs.Table.{has_name, number_of, HaveOwnNumbers, HaveOwnNames, unit_at, unit_named, limits_on, rent_row_on}

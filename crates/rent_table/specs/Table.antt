@@ -1,8 +1,9 @@
 -- An office's units, and which rents and income limits stand on a day.
-use Rattle.std.specs.Prelude.{◌≡◌, ◌≢◌, ◌<◌, ◌+◌, ℕ, length, slice_index_or, ◌&&◌, ◌==◌, nat_eq, nat_le, Bool, Option, List, AllPairs, filter, find}
+use Rattle.std.specs.Prelude.{◌≡◌, ◌≢◌, ◌<◌, ℕ, ◌&&◌, ◌==◌, nat_eq, nat_le, Bool, Option, List, AllPairs, filter, find}
 use Rattle.std.specs.{Option.option_map, Cmp.Lexicographic.pointwise}
 use Rattle.days_core.specs.declared.rents.Rents.{Rents}
 use Rattle.rent_table.specs.{declared.rows.Unit.Unit as UnitRow, declared.rows.RentRow.RentRow, declared.rows.LimitRow.LimitRow, Names.AreByName}
+use Rattle.row_index.specs.{declared.index.Entry.Entry, Index.index_of}
 use Rattle.row_choice.specs.Latest.{comes_before, latest}
 
 -- what an office has on record, in the order in which it came, and for how many more rows of each sort it has room
@@ -13,6 +14,9 @@ pub record Table : Type 0 where
   pub unit_room : ℕ
   pub rent_room : ℕ
   pub limit_room : ℕ
+
+abbrev pub number_of : UnitRow → ℕ
+number_of unit = unit.number
 
 -- the unit of that number
 abbrev pub unit_at : List UnitRow → ℕ → Option UnitRow
@@ -26,9 +30,9 @@ has_name name unit = pointwise nat_eq unit.name name
 abbrev pub unit_named : List UnitRow → List ℕ → Option ℕ
 unit_named units name = option_map (λ unit. unit.number) (find (has_name name) units)
 
--- units are numbered from 1 in the order in which they came
-abbrev pub AreNumbered : List UnitRow → Type 0
-AreNumbered units = (place : ℕ) (d : UnitRow) → place < length units → (slice_index_or units place d).number ≡ place + 1
+-- no two units have the same number
+abbrev pub HaveOwnNumbers : List UnitRow → Type 0
+HaveOwnNumbers units = AllPairs (λ unit other. unit.number ≢ other.number) units
 
 -- no two units have the same name
 abbrev pub HaveOwnNames : List UnitRow → Type 0
@@ -42,12 +46,13 @@ RentActsRise rows = AllPairs (λ row next. row.act < next.act) rows
 abbrev pub LimitActsRise : List LimitRow → Type 0
 LimitActsRise rows = AllPairs (λ row next. row.act < next.act) rows
 
--- what is true of every table: units are numbered in their order and have names of their own, the units' places are kept in the order of
+-- what is true of every table: units have numbers and names of their own, their places are kept by their numbers and in the order of
 -- their names, and acts rise
-pub record IsSound (units : List UnitRow) (by_name : List ℕ) (rents : List RentRow) (limits : List LimitRow) : Type 0 where
-  pub numbers : AreNumbered units
+pub record IsSound (units : List UnitRow) (by_number : List Entry) (by_name : List ℕ) (rents : List RentRow) (limits : List LimitRow) : Type 0 where
+  pub numbers : HaveOwnNumbers units
   pub names : HaveOwnNames units
-  pub places : AreByName units by_name
+  pub numbered : by_number ≡ index_of number_of units
+  pub named : AreByName units by_name
   pub rent_acts : RentActsRise rents
   pub limit_acts : LimitActsRise limits
 

@@ -6,7 +6,7 @@ ghost use Rattle.rent_table.specs.declared.rows.Unit.{Unit as UnitRow};
 ghost use Rattle.rent_table.specs.declared.rows.RentRow.{RentRow};
 ghost use Rattle.rent_table.specs.declared.rows.LimitRow.{LimitRow};
 ghost use Rattle.rent_table.specs.Table.{rents_on, limits_on, unit_at, unit_named};
-ghost use Rattle.rent_table.specs.Table.{AreNumbered, HaveOwnNames, RentActsRise, LimitActsRise};
+ghost use Rattle.rent_table.specs.Table.{HaveOwnNumbers, HaveOwnNames, RentActsRise, LimitActsRise};
 ghost use Rattle.rent_table.specs.Standing.{SetsRentsBy, SetsRentsOn, SetsLimitsBy, SetsLimitsOn};
 
 /// The rents of a group on a day are those of the one row of the group that begins by the day, where none such begins
@@ -27,10 +27,10 @@ pub fn one_row_sets_limits()
         ((limits_on rows day ≡ None) ↔ ((row : LimitRow) → ¬ SetsLimitsBy rows day row)) }
 {}
 
-/// A unit is found by a number or a name exactly where it is there and has it, among units that are numbered in their
-/// order and have names of their own. It does nothing.
+/// A unit is found by a number or a name exactly where it is there and has it, among units that have numbers and
+/// names of their own. It does nothing.
 pub fn units_are_found()
-    ensures number { (units : List UnitRow) (number : ℕ) (unit : UnitRow) → AreNumbered units →
+    ensures number { (units : List UnitRow) (number : ℕ) (unit : UnitRow) → HaveOwnNumbers units →
         ((unit_at units number ≡ Some unit) ↔ (Contains units unit × (unit.number ≡ number))) }
     ensures no_number { (units : List UnitRow) (number : ℕ) →
         ((unit_at units number ≡ None) ↔ All (λ unit. unit.number ≢ number) units) }

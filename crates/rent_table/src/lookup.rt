@@ -3,11 +3,13 @@
 ghost use Rattle.std.specs.Prelude.{◌≡◌, ◌<◌, ◌≤◌, ◌+◌, ◌∷◌, ◌++◌, [], vec_len, vec_capacity, true, false, length, find, slice_get, IfSome};
 ghost use Rattle.std.specs.List.Sorted.{IsPartitionPoint};
 ghost use Rattle.std.specs.Option.{option_copied};
-ghost use Rattle.rent_table.specs.Table.{unit_at, has_name, AreNumbered, HaveOwnNames};
+ghost use Rattle.rent_table.specs.Table.{unit_at, has_name, number_of, HaveOwnNames};
+ghost use Rattle.row_index.specs.Index.{index_of};
 ghost use Rattle.rent_table.specs.Names.{name_at, is_before, AreByName};
 
 use crate::Unit;
 use plain_data::Text;
+use row_index::{RowIndex, index_finds, index_grows};
 use std::cmp::Ordering;
 
 fn unit_at_place(units: &[Unit], place: usize) -> Option<&Unit>
@@ -22,15 +24,26 @@ fn place_at(places: &[usize], at: usize) -> Option<usize>
     places.get(at).copied()
 }
 
-/// The unit of that number, which stands where its number says.
-pub fn unit_of_number(units: &[Unit], number: u32) -> Option<&Unit>
-    requires { AreNumbered units.now }
+/// Puts the place of a unit that comes after the others into the index. It takes no memory.
+pub fn add_by_number(units: &[Unit], by_number: &mut RowIndex, unit: &Unit)
+    requires room { 1 ≤ by_number.old.room }
+    requires by_number { by_number.old.entries ≡ index_of number_of units.now }
+    ensures by_number { by_number.new.entries ≡ index_of number_of (units.now ++ unit.now ∷ []) }
+    ensures room { by_number.new.room + 1 ≡ by_number.old.room }
+{
+    index_grows::<Unit>();
+    by_number.insert(u64::from(unit.number), units.len());
+}
+
+pub fn unit_of_number<'a>(units: &'a [Unit], by_number: &RowIndex, number: u32) -> Option<&'a Unit>
+    requires { by_number.now.entries ≡ index_of number_of units.now }
     ensures { option_copied result ≡ unit_at units.now number }
 {
-    if number == 0 {
+    index_finds::<Unit>();
+    let Some(place) = by_number.find(u64::from(number)) else {
         return None;
-    }
-    unit_at_place(units, number as usize - 1)
+    };
+    unit_at_place(units, place)
 }
 
 fn name_at(units: &[Unit], place: usize) -> &[u8]

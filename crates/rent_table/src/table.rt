@@ -3,13 +3,14 @@
 ghost use Rattle.std.specs.Prelude.{◌≡◌, ◌+◌, ◌<◌, ◌≤◌, [], ◌∷◌, ◌++◌, length, All, OnOk, IfOk, IsOk};
 ghost use Rattle.std.specs.Option.{option_copied};
 ghost use Rattle.rent_table.specs.Table.{unit_at, unit_named, rents_on, limits_on};
-ghost use Rattle.rent_table.specs.Table.{AreNumbered, HaveOwnNames, RentActsRise, LimitActsRise};
+ghost use Rattle.rent_table.specs.Table.{HaveOwnNumbers, HaveOwnNames, RentActsRise, LimitActsRise};
 
-use crate::lookup::{add_by_name, unit_of_name, unit_of_number};
+use crate::lookup::{add_by_name, add_by_number, unit_of_name, unit_of_number};
 use crate::standing::{limit_row_on, rent_row_on};
 use crate::{LimitRow, RentRow, Unit};
 use days_core::{Day, Rents};
 use plain_data::{NoMemory, Text};
+use row_index::RowIndex;
 use std::alloc::Global;
 use std::marker::Model;
 
@@ -17,6 +18,8 @@ use std::marker::Model;
 #[derive(Debug, Drop)]
 pub struct RentTable {
     units: Vec<Unit>,
+    // The places of the units by their numbers.
+    by_number: RowIndex,
     // The places of the units in the order of their names.
     by_name: Vec<usize>,
     rents: Vec<RentRow>,
@@ -33,12 +36,12 @@ impl Model for RentTable {
       units = table.units.items;
       rents = table.rents.items;
       limits = table.limits.items;
-      unit_room = min (vec_capacity table.units - vec_len table.units) (vec_capacity table.by_name - vec_len table.by_name);
+      unit_room = min (vec_capacity table.units - vec_len table.units) (min table.by_number.room (vec_capacity table.by_name - vec_len table.by_name));
       rent_room = vec_capacity table.rents - vec_len table.rents;
       limit_room = vec_capacity table.limits - vec_len table.limits;
     } };
 
-    ghost invariant = { λ table. IsSound table.units.items table.by_name.items table.rents.items table.limits.items };
+    ghost invariant = { λ table. IsSound table.units.items table.by_number.entries table.by_name.items table.rents.items table.limits.items };
 }
 
 impl RentTable {
@@ -49,6 +52,7 @@ impl RentTable {
     {
         Ok(RentTable {
             units: Vec::new(alloc),
+            by_number: RowIndex::new(alloc),
             by_name: Vec::new(alloc),
             rents: Vec::new(alloc),
             limits: Vec::new(alloc),
@@ -69,16 +73,17 @@ impl RentTable {
         ensures limit_room_kept { self.old.limit_room ≤ self.new.limit_room }
     {
         self.units.reserve(1)?;
+        self.by_number.reserve()?;
         self.by_name.reserve(1)?;
         self.rents.reserve(1)?;
         self.limits.reserve(1)?;
         Ok(())
     }
 
-    /// Adds a unit, which has the next number and a new name.
+    /// Adds a unit, which has a new number and a new name.
     pub fn push_unit(&mut self, unit: Unit)
         requires room { 1 ≤ self.old.unit_room }
-        requires number { unit.number ≡ length self.old.units + 1 }
+        requires number { unit_at self.old.units unit.number ≡ None }
         requires name { unit_named self.old.units unit.name ≡ None }
         ensures units { self.new.units ≡ self.old.units ++ unit ∷ [] }
         ensures room { self.new.unit_room + 1 ≡ self.old.unit_room }
@@ -87,6 +92,7 @@ impl RentTable {
         ensures rent_room { self.new.rent_room ≡ self.old.rent_room }
         ensures limit_room { self.new.limit_room ≡ self.old.limit_room }
     {
+        add_by_number(&self.units, &mut self.by_number, &unit);
         add_by_name(&self.units, &mut self.by_name, &unit);
         self.units.push_reserved(unit);
     }
@@ -122,9 +128,9 @@ impl RentTable {
     /// The unit of that number.
     pub fn unit(&self, number: u32) -> Option<&Unit>
         ensures value { option_copied result ≡ unit_at self.now.units number }
-        ensures numbered { AreNumbered self.now.units }
+        ensures own_numbers { HaveOwnNumbers self.now.units }
     {
-        unit_of_number(&self.units, number)
+        unit_of_number(&self.units, &self.by_number, number)
     }
 
     /// The number of the unit of that name.
@@ -138,7 +144,7 @@ impl RentTable {
     /// The units in the order in which they were added.
     pub fn unit_rows(&self) -> &[Unit]
         ensures rows { result.now ≡ self.now.units }
-        ensures numbered { AreNumbered self.now.units }
+        ensures own_numbers { HaveOwnNumbers self.now.units }
         ensures own_names { HaveOwnNames self.now.units }
     {
         &self.units

@@ -103,7 +103,7 @@ fn add(rt: &impl Abort, table: &mut RentTable, added: Unit)
     ensures limits { table.new.limits ≡ table.old.limits }
 {
     table.reserve().expect(rt, "memory");
-    assert!(rt; added.number as usize == table.unit_rows().len() + 1);
+    assert!(rt; table.unit(added.number).is_none());
     assert!(rt; table.unit_named(&added.name).is_none());
     table.push_unit(added);
 }
@@ -150,24 +150,26 @@ fn number_of(rt: &impl Abort, alloc: Global, table: &RentTable, name: &str) -> O
     table.unit_named(&name)
 }
 
-const UNITS: [(u32, &str); 5] = [(1, "M"), (2, "B"), (3, "Q"), (4, "BA"), (5, "A2")];
+const UNITS: [(u32, &str); 5] = [(3, "M"), (9, "B"), (1, "Q"), (4, "BA"), (7, "A2")];
 
 const NAMED: [(&str, Option<u32>); 8] = [
-    ("M", Some(1)),
-    ("B", Some(2)),
-    ("Q", Some(3)),
+    ("M", Some(3)),
+    ("B", Some(9)),
+    ("Q", Some(1)),
     ("BA", Some(4)),
-    ("A2", Some(5)),
+    ("A2", Some(7)),
     ("", None),
     ("C", None),
     ("Z", None),
 ];
 
-const THERE: [(u32, bool); 6] = [
+const THERE: [(u32, bool); 8] = [
     (1, true),
     (3, true),
-    (5, true),
-    (6, false),
+    (7, true),
+    (9, true),
+    (2, false),
+    (10, false),
     (u32::MAX, false),
     (0, false),
 ];

@@ -7,15 +7,15 @@ use Rattle.list_laws.proofs.Filters.{filter-filter}
 use Rattle.days_core.specs.{Calendar.month_of, Calendar.last_of as last_day_of, Calendar.first_of as first_day_of, OfficeDays.last_office_day}
 use Rattle.record_history.specs.{declared.records.Kind.Kind, declared.records.Record.Record, Records.is_live, Records.live_records, Records.latest, Records.in_force}
 use Rattle.record_history.proofs.ForceLemmas.{numbers_own, one_now}
-use Rattle.rent_table.specs.{declared.plan.Plan.Plan, Table.AreNumbered, Table.RentActsRise}
-use Rattle.rent_table.proofs.{FoundLemmas.found_by_number, StandingLemmas.row_sets_rents}
+use Rattle.rent_table.specs.{declared.plan.Plan.Plan, Table.RentActsRise}
+use Rattle.rent_table.proofs.StandingLemmas.{row_sets_rents}
 use Rattle.due_dates.specs.{Overdue.is_overdue, Law.IsNextAnniversary, Law.IsByOtherRents, Rightful.next_anniversary, Stale.is_rent_stale_on, Stale.rent_due_day_of, Least.IsLeast, Least.IsLeastOne}
 use Rattle.due_dates.proofs.{RightfulLemmas.is_next_anniversary, LeastLemmas.least_that-says, LeastLemmas.least_that-is, OtherRents.stale_by_facts}
 use Rattle.tenancy_rules.specs.Order.{earliest}
 use Rattle.voucher_core.specs.Certified.{certified_amount}
-use Rattle.office_step.specs.{declared.refusal.Refusal.Refusal, Known.Known, Known.own_in, Households.begins_year, Against.plan_day, Against.rents_due, Against.all_overdue}
+use Rattle.office_step.specs.{declared.refusal.Refusal.Refusal, Known.Known, Known.UnitsAreNumbered, Known.own_in, Households.begins_year, Against.plan_day, Against.rents_due, Against.all_overdue}
 use Rattle.office_step.specs.Refusals.{first_of, first_household, base, overdue_day, household_overdue, household_rent_due, is_unpaid}
-use Rattle.office_step.proofs.Exactly.{Options.and_then-some, Options.and_then-from, Options.map-some, Options.map-from, Options.first_two, Options.first_here, Options.first_later, Options.none_stands, Options.stands_none, Counting.counting, Counting.last_one, Counting.first_one}
+use Rattle.office_step.proofs.Exactly.{Options.and_then-some, Options.and_then-from, Options.map-some, Options.map-from, Options.first_two, Options.first_here, Options.first_later, Options.none_stands, Options.stands_none, Numbered.found_by_number, Counting.counting, Counting.last_one, Counting.first_one}
 use Rattle.office_step.specs.plain.Counting.{AreInTurn, AllInTurn, Counts, IsFirstOf, IsLastOf}
 use Rattle.office_step.specs.plain.Closing.{IsLeastOf, HasOldRents, IsPlanDay, OwesGross, RentDueIsPlain, BeginsYearBy, LacksAnnual, OverdueIsPlain}
 
@@ -221,7 +221,7 @@ overdue_is_plain about refusal kept = (
 
 -- ---- 22: old rents
 
-module _ (known : Known) (own : List Record) (its : AreInTurn own) (numbered : AreNumbered known.units) (rise : RentActsRise known.rents) (day : ℕ) where
+module _ (known : Known) (own : List Record) (its : AreInTurn own) (numbered : UnitsAreNumbered known.units) (rise : RentActsRise known.rents) (day : ℕ) where
   pub old : is_rent_stale_on own known.units known.rents day ≡ true → (r : Record) → in_force own day ≡ Some r → HasOldRents known own day r
   old stale r stands =
       let by : IsByOtherRents own known.units known.rents day = (stale_by_facts own known.units known.rents day).0 stale in
@@ -270,7 +270,7 @@ one_plan_day known day is = by_plan known.plan refl
     by_plan None none = (its_plan_day known).unplanned none ∙ sym (is.unplanned none)
     by_plan (Some plan) planned = (its_plan_day known).planned plan planned ∙ sym (is.planned plan planned)
 
-module _ (known : Known) (kept : AllInTurn known) (numbered : AreNumbered known.units) (rise : RentActsRise known.rents) (month household : ℕ) (refusal : Refusal) where
+module _ (known : Known) (kept : AllInTurn known) (numbered : UnitsAreNumbered known.units) (rise : RentActsRise known.rents) (month household : ℕ) (refusal : Refusal) where
   abbrev own : List Record
   own = own_in known household
 

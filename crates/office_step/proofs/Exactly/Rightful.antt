@@ -7,12 +7,12 @@ use Rattle.list_laws.proofs.Filters.{filter-filter}
 use Rattle.days_core.specs.{Calendar.first_of as first_day_of, OfficeDays.last_office_day}
 use Rattle.record_history.specs.{declared.records.Dates.Dates, declared.records.Kind.Kind, declared.records.Record.Record, Records.is_live, Records.live_records, Records.comes_before, Records.latest}
 use Rattle.record_history.proofs.ForceLemmas.{numbers_own}
-use Rattle.rent_table.specs.{declared.plan.Plan.Plan, Table.AreNumbered, Table.RentActsRise}
+use Rattle.rent_table.specs.{declared.plan.Plan.Plan, Table.RentActsRise}
 use Rattle.due_dates.specs.{Law.IsMonthAfter, Law.IsFirstStart, Law.IsByOtherRents, Rightful.next_anniversary, Rightful.next_month, Rightful.first_start_from, Rightful.interim_day, Stale.is_rent_stale_on, Stale.gross_day_of, Least.IsLeast}
 use Rattle.due_dates.proofs.{RightfulLemmas.is_next_anniversary, RightfulLemmas.is_month_after, RightfulLemmas.is_first_start, LeastLemmas.least_that-says, LeastLemmas.least_that-is, OtherRents.stale_by_facts}
 use Rattle.tenancy_rules.specs.{OrderLaw.Precedes, Order.earliest}
 use Rattle.tenancy_rules.proofs.{InPlace.comes, InPlace.precedes, Numbers.rise}
-use Rattle.office_step.specs.{declared.refusal.Refusal.Refusal, declared.rightful.Rightful.Rightful, Known.Known, Households.AreBy, Households.begins_year, Households.record_at, Households.standing_on, Matter.Matter, Matter.household_of, Matter.own, Made.record_in, Against.by_payment, Against.own_right, Against.right_of, Against.wrong}
+use Rattle.office_step.specs.{declared.refusal.Refusal.Refusal, declared.rightful.Rightful.Rightful, Known.Known, Known.UnitsAreNumbered, Households.AreBy, Households.begins_year, Households.record_at, Households.standing_on, Matter.Matter, Matter.household_of, Matter.own, Made.record_in, Against.by_payment, Against.own_right, Against.right_of, Against.wrong}
 use Rattle.office_step.specs.Refusals.{refused_unless, others_of, base, annual_day, annual_right, corrected_annual_right, is_higher, interim_right, corrected_by, corrected_right}
 use Rattle.office_step.proofs.Exactly.{Options.each, Options.refused_unless-some, Options.refused_unless-from, Options.and_then-some, Options.and_then-from, Options.another, Options.no_other, Counting.counting, Counting.last_one, Counting.last_none, Counting.first_one, Counting.first_none, Named.found_numbered, Named.record_found, Closing.old, Closing.is_old, Closing.begins_kind, Closing.kind_begins, Closing.one_anniversary}
 use Rattle.office_step.specs.plain.{Counting.AreInTurn, Counting.AllInTurn, Counting.Counts, Counting.IsFirstOf, Counting.IsLastOf, Closing.HasOldRents}
@@ -161,7 +161,7 @@ module _ (records : List Record) (own : (a b : Record) → Contains records a �
 
 -- ---- gross rent changes
 
-module _ (known : Known) (own : List Record) (its : AreInTurn own) (numbered : AreNumbered known.units) (rises : RentActsRise known.rents) where
+module _ (known : Known) (own : List Record) (its : AreInTurn own) (numbered : UnitsAreNumbered known.units) (rises : RentActsRise known.rents) where
   abbrev is_stale : ℕ → Bool
   is_stale = is_rent_stale_on own known.units known.rents
 
@@ -346,7 +346,7 @@ payment_so about rights made plan makes planned =
     ap (λ (o : Option Record). option_map_or (λ made. option_map_or (λ plan. rights made.ttp plan.report_days) about.known.plan Rightful.Any) o Rightful.Any) makes
     ∙ ap (λ (o : Option Plan). option_map_or (λ plan. rights made.ttp plan.report_days) o Rightful.Any) planned
 
-module _ (about : Matter) (kept : AllInTurn about.known) (numbered : AreNumbered about.known.units) (rises : RentActsRise about.known.rents)
+module _ (about : Matter) (kept : AllInTurn about.known) (numbered : UnitsAreNumbered about.known.units) (rises : RentActsRise about.known.rents)
     (told_known : AreKnownDays about.told) (dates_known : All (λ r. AreKnownDays r.dates) (own about)) where
   abbrev its : AreInTurn (own about)
   its = kept (household_of about)

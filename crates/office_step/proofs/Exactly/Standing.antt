@@ -6,9 +6,10 @@ use Rattle.std.proofs.lemmas.Bool.{leb-true, le-leb, or_parts, not-false, not-tr
 use Rattle.list_laws.proofs.Filters.{Contains-filter, filter-contains}
 use Rattle.record_history.specs.{declared.records.Kind.Kind, declared.records.Record.Record, Records.as_of, Records.is_withdrawal, Records.is_live, Records.live_records, Records.is_live_as_of}
 use Rattle.rent_table.specs.{declared.rows.Unit.Unit as UnitRow, Table.unit_at, Table.rents_on, Table.limits_on}
-use Rattle.rent_table.proofs.{FoundLemmas.found_by_number, StandingLemmas.no_row_sets_rents, StandingLemmas.no_row_sets_limits}
+use Rattle.rent_table.proofs.StandingLemmas.{no_row_sets_rents, no_row_sets_limits}
 use Rattle.tenancy_rules.specs.Order.{is_move_in}
 use Rattle.office_step.specs.{declared.heading.Heading.Heading, declared.refusal.Refusal.Refusal, Matter.Matter, Matter.certifies, Matter.own, Made.heading_in, Refusals.refused_unless, Against.no_rent_on}
+use Rattle.office_step.proofs.Exactly.Numbered.{found_by_number}
 use Rattle.office_step.proofs.Exactly.Options.{refused_unless-some, and_then-some, is_some-false, any-some, any-from}
 use Rattle.office_step.proofs.Exactly.Named.{certifying, certifying_from}
 use Rattle.office_step.specs.plain.Standing.{HasNoRents, NoRentIsPlain, NoLimitsIsPlain, IsThere, NotLiveIsPlain}

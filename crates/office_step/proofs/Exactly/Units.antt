@@ -6,8 +6,9 @@ use Rattle.std.proofs.lemmas.{Option.same_Some, Option.none-some}
 use Rattle.std.proofs.lemmas.Bool.{leb-false, lt-leb, and_cases, and_left, and_right, Decides.nat_tests}
 use Rattle.record_history.specs.declared.records.Record.{Record}
 use Rattle.rent_table.specs.{declared.plan.Bound.Bound, declared.plan.Plan.Plan, declared.rows.Unit.Unit as UnitRow, Admission.suits, Table.unit_at, Table.unit_named}
-use Rattle.rent_table.proofs.FoundLemmas.{found_by_name, found_by_number}
+use Rattle.rent_table.proofs.FoundLemmas.{found_by_name}
 use Rattle.office_step.specs.{declared.moving.MoveIn.MoveIn, declared.refusal.Refusal.Refusal, Matter.Matter, Made.record_in, Refusals.refused_unless, Against.Moving, Against.moving_on, Against.moving_of}
+use Rattle.office_step.proofs.Exactly.Numbered.{found_by_number}
 use Rattle.office_step.proofs.Exactly.Options.{refused_unless-some, and_then-some, map-some, refused_unless-from, and_then-from, map-from}
 use Rattle.office_step.specs.plain.Units.{NameTakenIsPlain, SizeMisfitIsPlain}
 

@@ -1,10 +1,10 @@
 -- When an act is accepted, in plain facts: exactly where none of the causes stands against it (docs/REFUSALS.md, 2 to 23).
 use Rattle.std.specs.Prelude.{ℕ, ◌≡◌, ◌≢◌, ◌↔◌, ◌+◌, ◌≤◌, Some, None, length, All, Contains}
 use Rattle.days_core.specs.OfficeDays.{last_office_day}
-use Rattle.rent_table.specs.Table.{AreNumbered, HaveOwnNames, RentActsRise, LimitActsRise}
+use Rattle.rent_table.specs.Table.{HaveOwnNames, RentActsRise, LimitActsRise}
 use Rattle.wait_list.specs.Waiting.{ActsRise}
 use Rattle.book_rows.specs.{declared.rows.ActRow.ActRow, declared.rows.Batch.Batch, Book.Book}
-use Rattle.office_step.specs.{declared.call.Call.Call, declared.call.Capacity.Capacity, declared.refusal.Refusal.Refusal, Known.known_of, Made.lines_of, Matter.Matter, Matter.matter_of, Matter.own, Against.tests_on, Refusals.first_of}
+use Rattle.office_step.specs.{declared.call.Call.Call, declared.call.Capacity.Capacity, declared.refusal.Refusal.Refusal, Known.UnitsAreNumbered, Known.known_of, Made.lines_of, Matter.Matter, Matter.matter_of, Matter.own, Against.tests_on, Refusals.first_of}
 use Rattle.office_step.specs.Step.{act_day, step, appends, refused}
 use Rattle.office_step.specs.plain.{Counting.AllInTurn, Planned.ComesBeforePlan, Planned.IsSecondPlan, Planned.HasNoRoom, Named.NamesNothing, Seen.MissedNewer, Seen.SawNoSuch, Facts.BreaksRule, Days.TellsOutside, Standing.HasNoRents, Standing.HasNoLimits, Standing.DoesNotCount, Rightful.AreKnownDays, Rightful.BeginsOnAnother, Tenancy.PutsOutOfPlace, Tenancy.GivesUnitTwice, Units.TakesName, Units.IsForOthers, Turns.PassesOver, Admitted.IsAboveLimit, Admitted.BearsAll, Months.ClosesAnother, Closing.ClosesOverRents, Closing.ClosesOverAnnual}
 
@@ -37,7 +37,7 @@ pub data StandsAgainst (most today : ℕ) (about : Matter) (refusal : Refusal) :
 -- days that it knows
 pub record IsSound (about : Matter) : Type 0 where
   pub kept : AllInTurn about.known
-  pub numbered : AreNumbered about.known.units
+  pub numbered : UnitsAreNumbered about.known.units
   pub named : HaveOwnNames about.known.units
   pub rents : RentActsRise about.known.rents
   pub limits : LimitActsRise about.known.limits

@@ -2,10 +2,10 @@
 use Rattle.std.specs.Prelude.{ℕ, ◌≡◌, ◌≢◌, ◌↔◌, ◌+◌, ◌≤◌, ◌<◌, ◌⊎◌, Some, None, List, length, Contains}
 use Rattle.days_core.specs.Calendar.{month_of, first_of as first_day_of, last_of as last_day_of}
 use Rattle.record_history.specs.{declared.records.Kind.Kind, declared.records.Record.Record, Law.IsInForceOn}
-use Rattle.rent_table.specs.{declared.plan.Plan.Plan, declared.rows.Unit.Unit as UnitRow, declared.rows.RentRow.RentRow, Table.AreNumbered, Table.RentActsRise, Standing.SetsRentsOn}
+use Rattle.rent_table.specs.{declared.plan.Plan.Plan, declared.rows.Unit.Unit as UnitRow, declared.rows.RentRow.RentRow, Table.RentActsRise, Standing.SetsRentsOn}
 use Rattle.due_dates.specs.Law.{IsNextAnniversary}
 use Rattle.voucher_core.specs.Certified.{certified_amount}
-use Rattle.office_step.specs.{declared.refusal.Refusal.Refusal, Known.Known, Known.own_in, Matter.Matter, Against.rent_due, Against.overdue}
+use Rattle.office_step.specs.{declared.refusal.Refusal.Refusal, Known.Known, Known.UnitsAreNumbered, Known.own_in, Matter.Matter, Against.rent_due, Against.overdue}
 use Rattle.office_step.specs.plain.Counting.{AllInTurn, Counts, IsFirstOf, IsLastOf}
 
 -- it is told of the household, and of no lesser one
@@ -55,7 +55,7 @@ pub record ClosesOverRents (about : Matter) (refusal : Refusal) : Type 0 where
   pub least : IsLeastOf (OwesGross about.known month) (length about.known.households) household refusal
 
 abbrev pub RentDueIsPlain : Type 0
-RentDueIsPlain = (about : Matter) (refusal : Refusal) → AllInTurn about.known → AreNumbered about.known.units → RentActsRise about.known.rents →
+RentDueIsPlain = (about : Matter) (refusal : Refusal) → AllInTurn about.known → UnitsAreNumbered about.known.units → RentActsRise about.known.rents →
     (rent_due about ≡ Some refusal) ↔ ClosesOverRents about refusal
 
 -- ---- 23: a missing annual

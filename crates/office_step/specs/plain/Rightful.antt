@@ -3,10 +3,10 @@
 use Rattle.std.specs.Prelude.{ℕ, ◌≡◌, ◌≢◌, ◌↔◌, ◌+◌, ◌≤◌, ◌<◌, ◌⊎◌, Option, Some, None, List, All, Contains}
 use Rattle.days_core.specs.OfficeDays.{last_office_day}
 use Rattle.record_history.specs.{declared.records.Dates.Dates, declared.records.Kind.Kind, declared.records.Record.Record}
-use Rattle.rent_table.specs.{declared.plan.Plan.Plan, Table.AreNumbered, Table.RentActsRise}
+use Rattle.rent_table.specs.{declared.plan.Plan.Plan, Table.RentActsRise}
 use Rattle.due_dates.specs.Law.{IsMonthAfter, IsFirstStart, IsNextAnniversary}
 use Rattle.tenancy_rules.specs.OrderLaw.{Precedes}
-use Rattle.office_step.specs.{declared.refusal.Refusal.Refusal, Known.Known, Households.AreBy, Matter.Matter, Matter.own, Made.record_in, Against.wrong_day}
+use Rattle.office_step.specs.{declared.refusal.Refusal.Refusal, Known.Known, Known.UnitsAreNumbered, Households.AreBy, Matter.Matter, Matter.own, Made.record_in, Against.wrong_day}
 use Rattle.office_step.specs.plain.{Counting.AllInTurn, Counting.Counts, Counting.IsFirstOf, Counting.IsLastOf, Closing.HasOldRents}
 
 -- ---- interims
@@ -89,5 +89,5 @@ abbrev pub AreKnownDays : Option Dates → Type 0
 AreKnownDays told = (dates : Dates) → told ≡ Some dates → AreBy last_office_day dates
 
 abbrev pub WrongDayIsPlain : Type 0
-WrongDayIsPlain = (about : Matter) (refusal : Refusal) → AllInTurn about.known → AreNumbered about.known.units → RentActsRise about.known.rents →
+WrongDayIsPlain = (about : Matter) (refusal : Refusal) → AllInTurn about.known → UnitsAreNumbered about.known.units → RentActsRise about.known.rents →
     AreKnownDays about.told → All (λ r. AreKnownDays r.dates) (own about) → (wrong_day about ≡ Some refusal) ↔ BeginsOnAnother about refusal

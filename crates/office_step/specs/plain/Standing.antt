@@ -1,8 +1,8 @@
 -- When rents, limits or a record that should stand on a day don't, in plain facts (docs/REFUSALS.md, 10 to 12).
 use Rattle.std.specs.Prelude.{ℕ, ◌≡◌, ◌≢◌, ◌↔◌, ◌≤◌, ◌⊎◌, Some, Contains}
 use Rattle.record_history.specs.declared.records.{Kind.Kind, Record.Record}
-use Rattle.rent_table.specs.{declared.rows.Unit.Unit as UnitRow, declared.rows.RentRow.RentRow, declared.rows.LimitRow.LimitRow, Table.AreNumbered, Standing.SetsRentsBy, Standing.SetsLimitsBy}
-use Rattle.office_step.specs.{declared.heading.Heading.Heading, declared.refusal.Refusal.Refusal, Matter.Matter, Matter.nothing, Matter.own, Made.heading_in, Against.no_rent, Against.no_limits, Against.not_live}
+use Rattle.rent_table.specs.{declared.rows.Unit.Unit as UnitRow, declared.rows.RentRow.RentRow, declared.rows.LimitRow.LimitRow, Standing.SetsRentsBy, Standing.SetsLimitsBy}
+use Rattle.office_step.specs.{declared.heading.Heading.Heading, declared.refusal.Refusal.Refusal, Known.UnitsAreNumbered, Matter.Matter, Matter.nothing, Matter.own, Made.heading_in, Against.no_rent, Against.no_limits, Against.not_live}
 
 -- 10: the record certifies something, and its unit's group has no rents on its first day
 pub record HasNoRents (about : Matter) (refusal : Refusal) : Type 0 where
@@ -16,7 +16,7 @@ pub record HasNoRents (about : Matter) (refusal : Refusal) : Type 0 where
   pub none : (row : RentRow) → ¬ SetsRentsBy about.known.rents unit.group heading.from row
 
 abbrev pub NoRentIsPlain : Type 0
-NoRentIsPlain = (about : Matter) (refusal : Refusal) → AreNumbered about.known.units → (no_rent about ≡ Some refusal) ↔ HasNoRents about refusal
+NoRentIsPlain = (about : Matter) (refusal : Refusal) → UnitsAreNumbered about.known.units → (no_rent about ≡ Some refusal) ↔ HasNoRents about refusal
 
 -- 11: the record is a move-in, and no limits stand on its first day
 pub record HasNoLimits (about : Matter) (refusal : Refusal) : Type 0 where

@@ -1,8 +1,8 @@
 -- When somebody else is next for a unit, in plain facts (docs/REFUSALS.md, 18; docs/RULES.md, "Who is next for a unit").
 use Rattle.std.specs.Prelude.{◌≡◌, ◌≢◌, ◌↔◌, Option, Some, Contains}
-use Rattle.rent_table.specs.{declared.plan.Plan.Plan, declared.rows.Unit.Unit as UnitRow, Table.AreNumbered, Table.limits_on}
+use Rattle.rent_table.specs.{declared.plan.Plan.Plan, declared.rows.Unit.Unit as UnitRow, Table.limits_on}
 use Rattle.wait_list.specs.{declared.ask.Candidate.Candidate, Waiting.ActsRise, RightfulNext.IsRightAnswer}
-use Rattle.office_step.specs.{declared.moving.MoveIn.MoveIn, declared.refusal.Refusal.Refusal, Candidates.asked_of, Candidates.targets_of, Matter.Matter, Against.not_next}
+use Rattle.office_step.specs.{declared.moving.MoveIn.MoveIn, declared.refusal.Refusal.Refusal, Candidates.asked_of, Candidates.targets_of, Known.UnitsAreNumbered, Matter.Matter, Against.not_next}
 
 -- 18: another than who moves is rightly next for the unit on the day, or nobody is
 pub record PassesOver (about : Matter) (refusal : Refusal) : Type 0 where
@@ -20,5 +20,5 @@ pub record PassesOver (about : Matter) (refusal : Refusal) : Type 0 where
   pub another : next ≢ Some moves.candidate
 
 abbrev pub NotNextIsPlain : Type 0
-NotNextIsPlain = (about : Matter) (refusal : Refusal) → AreNumbered about.known.units → ActsRise about.known.waiting →
+NotNextIsPlain = (about : Matter) (refusal : Refusal) → UnitsAreNumbered about.known.units → ActsRise about.known.waiting →
     (not_next about ≡ Some refusal) ↔ PassesOver about refusal

@@ -1,8 +1,8 @@
 -- When a unit's name, or how many persons it is for, stands against an act, in plain facts (docs/REFUSALS.md, 15 and 16).
 use Rattle.std.specs.Prelude.{ℕ, ◌≡◌, ◌↔◌, ◌<◌, ◌⊎◌, Some, List, Contains, slice_get}
 use Rattle.record_history.specs.declared.records.Record.{Record}
-use Rattle.rent_table.specs.{declared.plan.Bound.Bound, declared.plan.Plan.Plan, declared.rows.Unit.Unit as UnitRow, Table.AreNumbered, Table.HaveOwnNames}
-use Rattle.office_step.specs.{declared.moving.MoveIn.MoveIn, declared.refusal.Refusal.Refusal, Matter.Matter, Made.record_in, Against.name_taken, Against.size_misfit}
+use Rattle.rent_table.specs.{declared.plan.Bound.Bound, declared.plan.Plan.Plan, declared.rows.Unit.Unit as UnitRow, Table.HaveOwnNames}
+use Rattle.office_step.specs.{declared.moving.MoveIn.MoveIn, declared.refusal.Refusal.Refusal, Known.UnitsAreNumbered, Matter.Matter, Made.record_in, Against.name_taken, Against.size_misfit}
 
 -- 15: a unit has the name already
 pub record TakesName (about : Matter) (refusal : Refusal) : Type 0 where
@@ -31,4 +31,4 @@ pub record IsForOthers (about : Matter) (refusal : Refusal) : Type 0 where
   pub outside : (bound : Bound) → slice_get plan.bounds unit.bedrooms ≡ Some bound → (made.persons < bound.least) ⊎ (bound.most < made.persons)
 
 abbrev pub SizeMisfitIsPlain : Type 0
-SizeMisfitIsPlain = (about : Matter) (refusal : Refusal) → AreNumbered about.known.units → (size_misfit about ≡ Some refusal) ↔ IsForOthers about refusal
+SizeMisfitIsPlain = (about : Matter) (refusal : Refusal) → UnitsAreNumbered about.known.units → (size_misfit about ≡ Some refusal) ↔ IsForOthers about refusal

@@ -2,14 +2,14 @@
 use Rattle.office_laws.proofs.Words.{nat_tests, common_steps, arith, Refusal, ◌≡◌, refl, ℕ, false, Option, Some, None, is_some, if◌then◌else◌, Plan, unit_at, Command, Known, known_of, HouseholdChange, MoveIn, Passed, is_plan, none_such, are_there, matter_of, changing, option_and_then, Candidate}
 use Rattle.std.proofs.Common.{subst}
 use Rattle.rent_table.specs.declared.rows.Unit.{Unit as UnitRow}
-use Rattle.rent_table.specs.Table.{AreNumbered, limits_on}
-use Rattle.rent_table.proofs.FoundLemmas.{found_by_number}
+use Rattle.rent_table.specs.Table.{limits_on}
 use Rattle.wait_list.specs.{Next.Asked, Next.next_candidate, RightfulNext.IsRightAnswer}
 use Rattle.wait_list.proofs.PlainNext.{next_is_plain}
-use Rattle.office_step.specs.Candidates.{asked_of, targets_of}
+use Rattle.office_step.specs.{Candidates.asked_of, Candidates.targets_of, Known.UnitsAreNumbered}
 use Rattle.office_step.specs.declared.refusal.Named.{Named}
 use Rattle.office_step.specs.Against.{moving_on, next_for, other_next, not_next}
 use Rattle.office_laws.specs.{Movers.IsAsked, Targets.AreCounted, Taken.TakesNextBy, Taken.IsNextFor, Taken.TakesNext}
+use Rattle.office_step.proofs.Exactly.Numbered.{found_by_number}
 use Rattle.office_laws.proofs.{AllSound.reached_books_are_sound, Inversion.passes, Movers.asked_is_plain, Targets.targets_are_counted, Reached.plan_there}
 use Rattle.office_laws.proofs.laws.next_is_taken.Goals as goal
 
@@ -29,7 +29,7 @@ AsksPlainly known = (plan : Plan) (unit : UnitRow) (day : ℕ) →
 abbrev CountsPlainly : Known → Type 0
 CountsPlainly known = (plan : Plan) (day : ℕ) → known.plan ≡ Some plan → AreCounted known plan day (targets_of plan day known.households)
 
-module _ (known : Known) (numbered : AreNumbered known.units) (asks : AsksPlainly known) (counts : CountsPlainly known) where
+module _ (known : Known) (numbered : UnitsAreNumbered known.units) (asks : AsksPlainly known) (counts : CountsPlainly known) where
   -- who moves is next
   is_taken : (mover : MoveIn) → (plan : Plan) × (known.plan ≡ Some plan) → none_such Named.Unit (λ unit. is_some (unit_at known.units unit)) (Some mover.unit) ≡ None →
       option_and_then (λ move. other_next (next_for known move) move.candidate) (option_and_then (moving_on known mover) known.plan) ≡ None →

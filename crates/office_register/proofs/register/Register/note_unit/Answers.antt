@@ -1,10 +1,10 @@
 use Rattle.office_register.proofs.Words.{◌+◌, refl, ap, arith, length, unit_row, known_in}
-use Rattle.office_register.proofs.{Lists.unchanged, Sound.sound_unit, Standing.few, Standing.bedrooms_fit}
+use Rattle.office_register.proofs.{Lists.unchanged, Sound.sound_unit, Standing.few, Standing.bedrooms_fit, Standing.no_unit_at}
 use Rattle.office_register.proofs.register.Register.note_unit.Goals as goal
 
 pub push_unit-requires-clause-number : goal.push_unit-requires-clause-number
 push_unit-requires-clause-number c =
-    omega (arith, ap length c.unit_rows.ensures.rows)
+    no_unit_at c.self.inside.table.units (length c.self.inside.table.units + 1) (omega arith) c.self.invariant.sound.units.numbers
 
 pub invariant_of-self : goal.invariant_of-self
 invariant_of-self c =
