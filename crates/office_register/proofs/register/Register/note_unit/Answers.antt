@@ -4,7 +4,7 @@ use Rattle.office_register.proofs.register.Register.note_unit.Goals as goal
 
 pub push_unit-requires-clause-number : goal.push_unit-requires-clause-number
 push_unit-requires-clause-number c =
-    no_unit_at c.self.inside.table.units (length c.self.inside.table.units + 1) (omega arith) c.self.invariant.sound.units.numbers
+    no_unit_at c.self.inside.table.units _ (omega (arith, ap length c.unit_rows.ensures.rows)) c.self.invariant.sound.units.numbers
 
 pub invariant_of-self : goal.invariant_of-self
 invariant_of-self c =
