@@ -1,6 +1,6 @@
 -- The values that are written of facts are plain, and are read again as these facts.
-use Rattle.std.proofs.Common.{◌≤◌, codes, refl}
-use Rattle.json_form.specs.Form.{one_of, is_object_at, field, only}
+use Rattle.std.proofs.Common.{◌≤◌, Bool, true, false, codes, refl}
+use Rattle.json_form.specs.Form.{one_of, is_object_at, field, optional_field, only}
 use Rattle.json_form.proofs.Stands.{Stands, word, number, day, flag, array}
 use Rattle.serde_json.specs.Data.{string}
 use Rattle.facts_core.specs.declared.{members.Relation.Relation, members.Member.Member, incomes.IncomeKind.IncomeKind, incomes.Income.Income, property.Asset.Asset, property.Disposal.Disposal, facts.Facts.Facts}
@@ -24,9 +24,11 @@ kind_stands IncomeKind.Welfare = record { again = refl; plain = word (codes "Wel
 kind_stands IncomeKind.Adoption = record { again = refl; plain = word (codes "Adoption") refl }
 kind_stands IncomeKind.Other = record { again = refl; plain = word (codes "Other") refl }
 
-member_stands : (person : Member) → person.born ≤ 116877 → Stands 1 member_at (member_data person) person
-unfolding member_at member_data is_object_at field only
-member_stands person fits =
+-- whether the person is eligible is written or not
+person_stands : (person : Member) (eligible : Bool) → person.born ≤ 116877 →
+    Stands 1 member_at (member_data (record person { eligible = eligible })) (record person { eligible = eligible })
+unfolding member_at member_data is_object_at field optional_field only
+person_stands person true fits =
     let relation = relation_stands person.relation in
     let born = day 0 person.born fits in
     let disabled = flag 0 person.disabled in
@@ -37,6 +39,21 @@ member_stands person fits =
       again = simp (relation.again, born.again, disabled.again, student.again, helped.again, cared.again) refl;
       plain = (refl, refl, (born.plain, (tt, (tt, (tt, (relation.plain, (tt, tt)))))));
     }
+person_stands person false fits =
+    let relation = relation_stands person.relation in
+    let born = day 0 person.born fits in
+    let disabled = flag 0 person.disabled in
+    let student = flag 0 person.student in
+    let helped = flag 0 person.helped in
+    let cared = flag 0 person.cared in
+    let eligible = flag 0 false in
+    record {
+      again = simp (relation.again, born.again, disabled.again, student.again, helped.again, cared.again, eligible.again) refl;
+      plain = (refl, refl, (born.plain, (tt, (tt, (tt, (tt, (relation.plain, (tt, tt))))))));
+    }
+
+member_stands : (person : Member) → person.born ≤ 116877 → Stands 1 member_at (member_data person) person
+member_stands person fits = person_stands person person.eligible fits
 
 income_stands : (income : Income) → IncomeFits income → Stands 1 income_at (income_data income) income
 unfolding income_at income_data is_object_at field only

@@ -1,9 +1,9 @@
 -- How the facts of a household are written in JSON: the form of each part, and the members that it is written with, in
--- the byte order of their names.
-use Rattle.std.specs.Prelude.{ℕ, ◌<◌, ◌≤◌, ◌^◌, List, [], ◌∷◌, Result, Ok, codes}
+-- the byte order of their names. Only whether a member is eligible may be missing, and then it is so.
+use Rattle.std.specs.Prelude.{ℕ, ◌<◌, ◌≤◌, ◌^◌, Bool, true, false, List, [], ◌∷◌, Result, Ok, codes, unwrap_or}
 use Rattle.std.specs.List.{All}
 use Rattle.serde_json.specs.Data.{Data, boolean, string, object, Members, member, no_members}
-use Rattle.json_form.specs.Form.{◌>>=◌, bool_at, u32_at, day_at, one_of, is_object_at, field, closed_by, array_at}
+use Rattle.json_form.specs.Form.{◌>>=◌, bool_at, u32_at, day_at, one_of, is_object_at, field, optional_field, closed, closed_by, array_at}
 use Rattle.json_form.specs.Written.{number_data, day_data, array_data}
 use Rattle.facts_core.specs.declared.{members.Relation.Relation, members.Member.Member, incomes.IncomeKind.IncomeKind, incomes.Income.Income, property.Asset.Asset, property.Disposal.Disposal, facts.Facts.Facts}
 use Rattle.days_core.specs.Calendar.{last_day}
@@ -23,14 +23,26 @@ relation_word Relation.Cohead = codes "Cohead"
 relation_word Relation.Other = codes "Other"
 relation_word Relation.Aide = codes "Aide"
 
+-- the names of a member's fields
+abbrev pub member_names : List (List ℕ)
+member_names =
+    codes "born" ∷ codes "cared" ∷ codes "disabled" ∷ codes "eligible" ∷ codes "helped" ∷ codes "relation"
+    ∷ codes "student" ∷ []
+
+-- whether a person is eligible is written only if it isn't so
+abbrev pub with_eligible : Bool → Members → Members
+with_eligible true members = members
+with_eligible false members = member (codes "eligible") (boolean false) members
+
 abbrev pub member_members : Member → Members
 member_members person =
     member (codes "born") (day_data person.born) (
     member (codes "cared") (boolean person.cared) (
     member (codes "disabled") (boolean person.disabled) (
+    with_eligible person.eligible (
     member (codes "helped") (boolean person.helped) (
     member (codes "relation") (string (relation_word person.relation)) (
-    member (codes "student") (boolean person.student) no_members)))))
+    member (codes "student") (boolean person.student) no_members))))))
 
 unfoldable pub member_data : Member → Data
 member_data person = object (member_members person)
@@ -44,7 +56,8 @@ member_at d = do
   student ← field (codes "student") bool_at d
   helped ← field (codes "helped") bool_at d
   cared ← field (codes "cared") bool_at d
-  closed_by member_members (record { relation = relation; born = born; disabled = disabled; student = student; helped = helped; cared = cared }) d
+  eligible ← optional_field (codes "eligible") bool_at d
+  closed member_names (record { relation = relation; born = born; disabled = disabled; student = student; helped = helped; cared = cared; eligible = unwrap_or eligible true }) d
 
 -- ---- incomes
 

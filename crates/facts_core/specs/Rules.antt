@@ -1,7 +1,7 @@
--- The seven rules that the facts of a household keep on a day.
+-- The eight rules that the facts of a household keep on a day.
 use Rattle.std.specs.Prelude.{ℕ, ◌&&◌, ◌==◌, nat_le, nat_lt, Bool, true, false, not, if◌then◌else◌, length, count_by, Option, Some, None}
 use Rattle.std.specs.List.{list_all}
-use Rattle.facts_core.specs.declared.{members.Relation.Relation, facts.Facts.Facts}
+use Rattle.facts_core.specs.declared.{members.Relation.Relation, members.Member.Member, facts.Facts.Facts}
 
 -- an amount of the facts, in whole dollars
 abbrev pub is_amount : ℕ → Bool
@@ -57,6 +57,18 @@ is_in_size facts =
 abbrev pub has_births_by : Facts → ℕ → Bool
 has_births_by facts day = list_all (λ member. nat_le member.born day) facts.members
 
+-- a member of the family who is eligible for assistance (24 CFR 5.520); a live-in aide's flag has no meaning
+abbrev pub is_eligible : Member → Bool
+is_eligible member = not (is_aide member.relation) && member.eligible
+
+-- how many they are
+abbrev pub eligible_members : Facts → ℕ
+eligible_members facts = count_by is_eligible facts.members
+
+-- 8. Some member of the family is eligible (own rule).
+abbrev pub has_an_eligible_member : Facts → Bool
+has_an_eligible_member facts = nat_lt 0 (eligible_members facts)
+
 -- the least rule that is broken
 abbrev pub broken_rule : Facts → ℕ → Option ℕ
 broken_rule facts day =
@@ -67,4 +79,5 @@ broken_rule facts day =
     else (if not (has_fair_disposals facts) then Some 5
     else (if not (is_in_size facts) then Some 6
     else (if not (has_births_by facts day) then Some 7
-    else None))))))
+    else (if not (has_an_eligible_member facts) then Some 8
+    else None)))))))

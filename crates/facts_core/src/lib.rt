@@ -13,4 +13,4 @@ pub use incomes::{Income, IncomeKind};
 pub use json::{facts_of_value, facts_read_back, value_of_facts};
 pub use members::{Member, Relation};
 pub use property::{Asset, Disposal};
-pub use rules::broken_rule;
+pub use rules::{broken_rule, eligible_members};

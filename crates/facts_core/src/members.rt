@@ -6,7 +6,9 @@ ghost use Rattle.json_form.specs.Form.{one_of};
 ghost use Rattle.facts_core.specs.Facts.{relations, relation_word, member_at, member_data};
 
 use days_core::Day;
-use json_form::{Exact, FormFault, Formed, Members, Written, closed, field, object, one_of};
+use json_form::{
+    Exact, FormFault, Formed, Members, Written, closed, field, object, one_of, optional_field,
+};
 use plain_data::NoMemory;
 use serde_json::Value;
 use std::alloc::Global;
@@ -36,6 +38,8 @@ pub struct Member {
     pub helped: bool,
     /// The child care makes this member's earning possible.
     pub cared: bool,
+    /// Eligible for assistance (24 CFR 5.520). A live-in aide's flag has no meaning.
+    pub eligible: bool,
 }
 
 impl Formed for Relation {
@@ -65,7 +69,10 @@ impl Formed for Member {
         let student = field(alloc, value, "student")?;
         let helped = field(alloc, value, "helped")?;
         let cared = field(alloc, value, "cared")?;
-        let names = ["born", "cared", "disabled", "helped", "relation", "student"];
+        let eligible: Option<bool> = optional_field(alloc, value, "eligible")?;
+        let names = [
+            "born", "cared", "disabled", "eligible", "helped", "relation", "student",
+        ];
         let member = Member {
             relation,
             born,
@@ -73,6 +80,7 @@ impl Formed for Member {
             student,
             helped,
             cared,
+            eligible: eligible.unwrap_or(true),
         };
         closed(alloc, value, &names, member)
     }
@@ -110,6 +118,9 @@ impl Written for Member {
             .with("helped", &self.helped)?
             .with("relation", &self.relation)?
             .with("student", &self.student)?;
-        Ok(members.done())
+        if self.eligible {
+            return Ok(members.done());
+        }
+        Ok(members.with("eligible", &false)?.done())
     }
 }

@@ -1,6 +1,6 @@
-//! The seven rules that facts keep on a day.
+//! The eight rules that facts keep on a day.
 
-ghost use Rattle.std.specs.Prelude.{◌≡◌, ◌&&◌, not, count_by, nat_lt, nat_le};
+ghost use Rattle.std.specs.Prelude.{◌≡◌, ◌≤◌, ◌&&◌, length, not, count_by, nat_lt, nat_le};
 ghost use Rattle.std.specs.List.{list_all};
 ghost use Rattle.facts_core.specs.Rules.{is_head, is_amount};
 ghost use Rattle.facts_core.specs.Rules as rule;
@@ -14,11 +14,12 @@ use days_core::Day;
 /// The most dollars of one amount.
 const MOST: u32 = 9_999_999;
 
-/// The least rule of the facts that is broken on a day, from 1 to 7, and None where they keep all.
+/// The least rule of the facts that is broken on a day, from 1 to 8, and None where they keep all.
 ///
 /// 1: there is exactly one head. 2: spouses and co-heads together are at most one. 3: each income names a member.
 /// 4: no amount is above 9,999,999. 5: no disposal received more than its value. 6: there are at most 12 members
-/// other than aides, 16 members, 40 incomes, 40 assets and 40 disposals. 7: no birth is after the day.
+/// other than aides, 16 members, 40 incomes, 40 assets and 40 disposals. 7: no birth is after the day. 8: at least one
+/// member other than an aide is eligible.
 pub fn broken_rule(facts: &Facts, day: Day) -> Option<u8>
     ensures { result ≡ rule.broken_rule facts.now day }
 {
@@ -42,6 +43,9 @@ pub fn broken_rule(facts: &Facts, day: Day) -> Option<u8>
     }
     if !has_births_by(facts, day) {
         return Some(7);
+    }
+    if !has_an_eligible_member(facts) {
+        return Some(8);
     }
     None
 }
@@ -179,4 +183,27 @@ fn are_born_by(members: &[Member], day: Day) -> bool
     ensures { result ≡ list_all (λ member. nat_le member.born day) members.now }
 {
     members.iter().all(|member| member.born <= day)
+}
+
+fn has_an_eligible_member(facts: &Facts) -> bool
+    ensures { result ≡ rule.has_an_eligible_member facts.now }
+{
+    eligible_among(facts.members.as_slice()) > 0
+}
+
+/// The members other than aides who are eligible for assistance (24 CFR 5.520).
+pub fn eligible_members(facts: &Facts) -> u32
+    requires few { length facts.now.members ≤ 16 }
+    ensures { result ≡ rule.eligible_members facts.now }
+{
+    eligible_among(facts.members.as_slice()) as u32
+}
+
+fn eligible_among(members: &[Member]) -> usize
+    ensures { result ≡ count_by rule.is_eligible members.now }
+{
+    members
+        .iter()
+        .filter(|member| member.relation != Relation::Aide && member.eligible)
+        .count()
 }

@@ -1,5 +1,5 @@
 -- What it says of facts that they break no rule.
-use Rattle.income_rules.proofs.Words.{◌≡◌, ℕ, zero, suc, ◌≤◌, true, List, [], ◌∷◌, length, Some, None, ◌&&◌, nat_le, slice_get, list_all, and_parts, Member, Facts, is_amount, has_one_head, has_at_most_one_partner, names_members, has_amounts, has_fair_disposals, is_in_size, has_births_by, broken_rule, arith, common_steps, nat_tests, unless_none}
+use Rattle.income_rules.proofs.Words.{◌≡◌, ℕ, zero, suc, ◌≤◌, true, List, [], ◌∷◌, length, Some, None, ◌&&◌, nat_le, slice_get, list_all, and_parts, Member, Facts, is_amount, has_one_head, has_at_most_one_partner, names_members, has_amounts, has_fair_disposals, is_in_size, has_births_by, has_an_eligible_member, broken_rule, arith, common_steps, nat_tests, unless_none}
 
 -- the rules that the sums rest on
 pub record Keeps (facts : Facts) (day : ℕ) : Type 0 where
@@ -7,6 +7,7 @@ pub record Keeps (facts : Facts) (day : ℕ) : Type 0 where
   pub amounts : has_amounts facts ≡ true
   pub size : is_in_size facts ≡ true
   pub births : has_births_by facts day ≡ true
+  pub eligible : has_an_eligible_member facts ≡ true
 
 pub keeps : (facts : Facts) (day : ℕ) → broken_rule facts day ≡ None → Keeps facts day
 keeps facts day e =
@@ -17,7 +18,8 @@ keeps facts day e =
     let fair = unless_none (has_fair_disposals facts) _ _ amounts.1 in
     let size = unless_none (is_in_size facts) _ _ fair.1 in
     let births = unless_none (has_births_by facts day) _ _ size.1 in
-    record { head = head.0; amounts = amounts.0; size = size.0; births = births.0 }
+    let eligible = unless_none (has_an_eligible_member facts) _ _ births.1 in
+    record { head = head.0; amounts = amounts.0; size = size.0; births = births.0; eligible = eligible.0 }
 
 -- the lists are no longer than the rules allow
 pub record IsShort (facts : Facts) : Type 0 where

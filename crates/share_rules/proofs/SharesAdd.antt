@@ -81,7 +81,7 @@ up_to amount last days some =
     from_nothing (share_to amount 0 days) _ (share_to amount last days) (begins amount days some)
     (steps (λ (day : ℕ). share_to amount day days) 0 last grown ∙ ap (λ (day : ℕ). share_to amount day days) end)
 
-nearest : (numerator denominator : ℕ) → 0 < denominator → IsNearest (round_half_up numerator denominator) numerator denominator
+pub nearest : (numerator denominator : ℕ) → 0 < denominator → IsNearest (round_half_up numerator denominator) numerator denominator
 nearest numerator denominator some = record { not_above = omega arith; not_below = omega arith }
 
 pub total_their_part : SharesTotalTheirPart
