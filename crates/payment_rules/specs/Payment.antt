@@ -1,6 +1,6 @@
 -- What a family pays for its unit and what the office claims for it, in whole dollars a month. Half a dollar is rounded up
 -- (own rule).
-use Rattle.std.specs.Prelude.{ℕ, ◌+◌, ◌-◌, max, min, Bool, true, false}
+use Rattle.std.specs.Prelude.{ℕ, ◌+◌, ◌-◌, ◌*◌, max, min, Bool, true, false}
 use Rattle.days_core.specs.{declared.rents.Rents.Rents, Rounding.round_half_up}
 use Rattle.payment_rules.specs.declared.figures.Payment.{Payment}
 
@@ -27,31 +27,38 @@ total_tenant_payment_of annual adjusted welfare exempt =
 abbrev pub gross_rent_of : Rents → ℕ
 gross_rent_of rents = rents.contract_rent + rents.utility
 
--- what the family bears of the gross rent: its payment, but no more than that rent (own rule)
-abbrev pub family_share_of : ℕ → Rents → ℕ
-family_share_of ttp rents = min ttp (gross_rent_of rents)
+-- what the payment leaves of the gross rent, and nothing if it is above that rent (own rule)
+abbrev pub full_assistance_of : ℕ → Rents → ℕ
+full_assistance_of ttp rents = gross_rent_of rents - min ttp (gross_rent_of rents)
 
--- what the office claims: the rest of the gross rent (24 CFR part 880, in outline)
-abbrev pub assistance_of : ℕ → Rents → ℕ
-assistance_of ttp rents = gross_rent_of rents - family_share_of ttp rents
+-- what the office claims: all of that for a family of whom all are eligible (24 CFR part 880, in outline), and else the part
+-- of its eligible members (24 CFR 5.520)
+abbrev pub assistance_of : ℕ → Rents → ℕ → ℕ → ℕ
+assistance_of ttp rents eligible size = round_half_up (full_assistance_of ttp rents * eligible) size
+
+-- what the family bears of the gross rent: what the office doesn't claim of it
+abbrev pub family_share_of : ℕ → Rents → ℕ
+family_share_of assistance rents = gross_rent_of rents - assistance
 
 -- what the family pays the owner (24 CFR 5.634): its share less the allowance for utilities, where that is positive
 abbrev pub tenant_rent_of : ℕ → Rents → ℕ
-tenant_rent_of ttp rents = family_share_of ttp rents - rents.utility
+tenant_rent_of assistance rents = family_share_of assistance rents - rents.utility
 
 -- what the family is paid back (24 CFR 5.632): the allowance less its share, where that is positive
 abbrev pub reimbursement_of : ℕ → Rents → ℕ
-reimbursement_of ttp rents = rents.utility - family_share_of ttp rents
+reimbursement_of assistance rents = rents.utility - family_share_of assistance rents
 
--- how a total tenant payment splits a unit's rents (24 CFR 5.628 to 5.634)
-abbrev pub split_of : ℕ → Rents → Payment
-split_of ttp rents = record {
+-- how a total tenant payment splits a unit's rents (24 CFR 5.520, 5.628 to 5.634)
+abbrev pub split_of : ℕ → Rents → ℕ → ℕ → Payment
+split_of ttp rents eligible size = record {
   ttp = ttp;
-  tenant_rent = tenant_rent_of ttp rents;
-  reimbursement = reimbursement_of ttp rents;
-  assistance = assistance_of ttp rents;
+  tenant_rent = tenant_rent_of (assistance_of ttp rents eligible size) rents;
+  reimbursement = reimbursement_of (assistance_of ttp rents eligible size) rents;
+  assistance = assistance_of ttp rents eligible size;
 }
 
--- the payment of a family with these incomes for the year, this welfare rent and this exemption, in a unit with these rents
-abbrev pub payment_of : ℕ → ℕ → ℕ → Bool → Rents → Payment
-payment_of annual adjusted welfare exempt rents = split_of (total_tenant_payment_of annual adjusted welfare exempt) rents
+-- the payment of a family with these incomes for the year, this welfare rent and this exemption, in a unit with these rents,
+-- of whom so many are eligible
+abbrev pub payment_of : ℕ → ℕ → ℕ → Bool → Rents → ℕ → ℕ → Payment
+payment_of annual adjusted welfare exempt rents eligible size =
+    split_of (total_tenant_payment_of annual adjusted welfare exempt) rents eligible size
