@@ -3,7 +3,7 @@ use Rattle.std.proofs.Common.{◌≡◌, ℕ, ◌≤◌, cond, None, arith, true
 use Rattle.std.proofs.lemmas.{Bool.Decides.nat_tests, List.Sums.count_by-le-length, List.Sums.sum_by-le-sum_by, Grind.common_steps}
 use Rattle.std.specs.Prelude.{not, count_by}
 use Rattle.facts_core.specs.declared.{members.Relation.Relation, members.Member.Member, facts.Facts.Facts}
-use Rattle.facts_core.specs.Rules.{is_head, is_aide, has_one_head, is_in_size, broken_rule}
+use Rattle.facts_core.specs.Rules.{is_head, is_aide, is_eligible, eligible_members, has_one_head, is_in_size, has_an_eligible_member, broken_rule}
 use Rattle.income_rules.proofs.Kept.{keeps, is_short}
 use Rattle.certified_figures.specs.Figures.{persons_of, size_of}
 
@@ -17,6 +17,8 @@ pub record HasFamily (facts : Facts) : Type 0 where
   pub few : size_of facts ≤ 12
   pub persons : size_of facts ≤ persons_of facts
   pub few_persons : persons_of facts ≤ 16
+  pub some_eligible : 1 ≤ eligible_members facts
+  pub eligible : eligible_members facts ≤ size_of facts
 
 at_least_one : (facts : Facts) → has_one_head facts ≡ true → 1 ≤ size_of facts
 at_least_one facts e =
@@ -27,6 +29,13 @@ at_least_one facts e =
 at_most_twelve : (facts : Facts) → is_in_size facts ≡ true → size_of facts ≤ 12
 at_most_twelve facts e = grind (arith, common_steps, e)
 
+-- who is eligible is of the family
+eligible_counts : (member : Member) → cond (is_eligible member) 1 0 ≤ cond (not (is_aide member.relation)) 1 0
+eligible_counts member = grind (arith, common_steps)
+
+some_is_eligible : (facts : Facts) → has_an_eligible_member facts ≡ true → 1 ≤ eligible_members facts
+some_is_eligible facts e = grind (arith, nat_tests, e)
+
 pub has_family : (facts : Facts) (day : ℕ) → broken_rule facts day ≡ None → HasFamily facts
 has_family facts day e =
     let kept = keeps facts day e in
@@ -35,4 +44,6 @@ has_family facts day e =
       few = at_most_twelve facts kept.size;
       persons = count_by-le-length (λ (member : Member). not (is_aide member.relation)) facts.members;
       few_persons = (is_short facts kept.size).members;
+      some_eligible = some_is_eligible facts kept.eligible;
+      eligible = sum_by-le-sum_by (λ (member : Member). cond (is_eligible member) 1 0) (λ member. cond (not (is_aide member.relation)) 1 0) facts.members eligible_counts;
     }

@@ -1,7 +1,7 @@
--- What a record certifies of a household (24 CFR 5.609, 5.611, 5.628; Handbook 4350.3 REV-1, chapters 5 and 7).
-use Rattle.std.specs.Prelude.{ℕ, ◌≤◌, not, length, count_by}
+-- What a record certifies of a household (24 CFR 5.520, 5.609, 5.611, 5.628; Handbook 4350.3 REV-1, chapters 5 and 7).
+use Rattle.std.specs.Prelude.{ℕ, ◌≤◌, ◌==◌, if◌then◌else◌, not, length, count_by}
 use Rattle.days_core.specs.{declared.rents.Rents.Rents, RentBounds.most_gross_rent}
-use Rattle.facts_core.specs.{declared.facts.Facts.Facts, Rules.is_aide}
+use Rattle.facts_core.specs.{declared.facts.Facts.Facts, Rules.is_aide, Rules.eligible_members}
 use Rattle.income_rules.specs.Annual.{annual_income_of}
 use Rattle.deduction_rules.specs.Deductions.{adjusted_income_of}
 use Rattle.payment_rules.specs.Payment.{total_tenant_payment_of, assistance_of}
@@ -38,19 +38,24 @@ figures_of facts day passbook rents = record {
   adjusted = adjusted_of facts day passbook;
   ttp = ttp_of facts day passbook;
   rents = rents;
-  assistance = assistance_of (ttp_of facts day passbook) rents;
+  assistance = assistance_of (ttp_of facts day passbook) rents (eligible_members facts) (size_of facts);
 }
 
+-- what the office claims by what another record certified of a family of whom so many are eligible: nothing if that
+-- certified nobody
+abbrev pub carried_assistance : Record → ℕ → Rents → ℕ
+carried_assistance held eligible rents = if held.size == 0 then 0 else assistance_of held.ttp rents eligible held.size
+
 -- what another record certified, split anew by these rents: for a gross rent change and for a transfer
-abbrev pub carried_figures : Record → Rents → Figures
-carried_figures held rents = record {
+abbrev pub carried_figures : Record → ℕ → Rents → Figures
+carried_figures held eligible rents = record {
   persons = held.persons;
   size = held.size;
   annual = held.annual;
   adjusted = held.adjusted;
   ttp = held.ttp;
   rents = rents;
-  assistance = assistance_of held.ttp rents;
+  assistance = carried_assistance held eligible rents;
 }
 
 -- nothing: of a move-out, a termination and a withdrawal
@@ -64,6 +69,12 @@ no_figures = record {
   rents = record { contract_rent = 0; utility = 0 };
   assistance = 0;
 }
+
+-- of a family of that size so many are eligible: one at least, if there is a family
+pub record AreEligible (eligible size : ℕ) : Type 0 where
+  pub some : 1 ≤ size → 1 ≤ eligible
+  pub among : eligible ≤ size
+  pub few : size ≤ 12
 
 -- the household is a family for which there are income limits, and some person lives in the unit
 pub record IsFamily (figures : Figures) : Type 0 where

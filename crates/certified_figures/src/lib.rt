@@ -4,5 +4,5 @@
 mod certified;
 mod figures;
 
-pub use certified::{figures_carried, figures_of_facts, no_figures};
+pub use certified::{family_eligible, family_size, figures_carried, figures_of_facts, no_figures};
 pub use figures::Figures;

@@ -1,6 +1,6 @@
 use Rattle.std.proofs.Common.{arith}
 use Rattle.certified_figures.proofs.Family.{has_family}
-use Rattle.certified_figures.proofs.certified.size.Goals as goal
+use Rattle.certified_figures.proofs.certified.family_size.Goals as goal
 
 pub overflow_cast-result : goal.overflow_cast-result
 overflow_cast-result c =
