@@ -6,7 +6,7 @@ use Rattle.record_history.specs.{declared.records.Record.Record, Records.newest_
 use Rattle.rent_table.specs.Table.{limits_on}
 use Rattle.certified_figures.specs.{Figures.figures_of, Figures.carried_figures, Figures.no_figures, declared.figures.Figures.Figures}
 use Rattle.book_rows.specs.declared.{command.Command.Command, household.HouseholdAct.HouseholdAct, household.HouseholdChange.HouseholdChange}
-use Rattle.office_step.specs.{declared.heading.Heading.Heading, Known.Known, Known.own_in, Households.record_at, Households.continued}
+use Rattle.office_step.specs.{declared.heading.Heading.Heading, Known.Known, Known.own_in, Households.record_at, Households.continued, Eligible.eligible_of_record}
 use Rattle.office_step.specs.Matter.{Matter, Basis, from_facts, carried, nothing, certifies, matter_of, household_of, own, begins_on}
 use Rattle.office_step.specs.Made.{rents_in_unit, made_with, told_extremely_low, made_on, heading_in, heading_with, heading_of, own_heading, heading_over, correction_heading, withdrawal_heading, record_of}
 
@@ -34,7 +34,7 @@ under known (from_facts facts) heading r is =
 under known carried heading r is =
     option_and_then_some _ (continued (own_in known heading.household) heading.from) r is (λ held continues of_held.
     option_map_some _ (rents_in_unit known heading.unit heading.from) r of_held (λ rents stand same.
-    record { extremely = false; figures = carried_figures held rents; is = sym same }))
+    record { extremely = false; figures = carried_figures held (eligible_of_record known.eligible held) rents; is = sym same }))
 under known nothing heading r is = record { extremely = false; figures = no_figures; is = sym (same_Some _ r is) }
 
 pub made_is_headed : (known : Known) (asked : Command) (r : Record) → record_of known asked ≡ Some r → IsHeaded known asked r

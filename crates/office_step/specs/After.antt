@@ -1,10 +1,10 @@
 -- What an office knows once one more act is there.
-use Rattle.std.specs.Prelude.{ℕ, ◌+◌, ◌-◌, not, Option, Some, None, List, [], ◌++◌, length, map, filter, option_to_list, slice_set}
-use Rattle.std.specs.Option.{option_map, option_or}
+use Rattle.std.specs.Prelude.{ℕ, ◌+◌, ◌-◌, not, Option, Some, None, List, [], ◌∷◌, ◌++◌, length, map, filter, option_to_list, slice_set}
+use Rattle.std.specs.Option.{option_map, option_map_or, option_or}
 use Rattle.record_history.specs.{declared.records.Record.Record, Held.with_record}
 use Rattle.wait_list.specs.declared.applicant.Applicant.{Applicant}
 use Rattle.book_rows.specs.declared.{applicants.ApplyAct.ApplyAct, command.Command.Command}
-use Rattle.office_step.specs.{declared.known.Request.Request, Known.Known}
+use Rattle.office_step.specs.{declared.known.Request.Request, Known.Known, Known.own_in, Households.continued, Basis.basis_of, Eligible.eligible_by}
 use Rattle.office_step.specs.Acts.{plan_in, unit_in, unit_row, rents_in, rent_row, limits_in, limit_row, apply_in, application_by, applicant_of, ranks_of, takes_off_list, name_given, request_by, closing_of}
 
 -- the number of the next act
@@ -40,6 +40,11 @@ requests_after known (Command.AskTransfer ask) =
     slice_set known.requests (ask.household - 1) (Some (request_by (next_act known) ask))
 requests_after known asked = known.requests ++ map (λ name. None) (names_given known asked)
 
+-- the eligible members of the record that the act makes, and 0 if it makes none
+abbrev pub eligible_next : Known → Command → Option Record → ℕ
+eligible_next known asked made =
+    option_map_or (λ r. eligible_by known.eligible (continued (own_in known r.household) r.from) (basis_of asked)) made 0
+
 -- what is known after an act of that command, which made that record or none
 abbrev pub known_after : Known → Command → Option Record → Known
 known_after known asked made = record {
@@ -54,5 +59,6 @@ known_after known asked made = record {
   names = known.names ++ names_given known asked;
   households = households_after known asked made;
   requests = requests_after known asked;
+  eligible = known.eligible ++ eligible_next known asked made ∷ [];
   closing = option_or (closing_of (record { n = next_act known; command = asked })) known.closing;
 }

@@ -221,12 +221,12 @@ above_limit known made = option_and_then (λ plan. option_and_then (λ row.
 abbrev pub ineligible : Matter → Option Refusal
 ineligible about = option_and_then (λ applicant. option_and_then (above_limit about.known) (record_in about)) about.applicant
 
--- the household would bear the whole gross rent
-abbrev pub rent_borne : Record → Option Refusal
-rent_borne made = refused_if (nat_le (gross_rent_of made.rents) made.ttp) (Refusal.NoAssistance made.ttp (gross_rent_of made.rents))
+-- there is nothing for the office to pay
+abbrev pub nothing_paid : Record → Option Refusal
+nothing_paid made = refused_if (made.assistance == 0) (Refusal.NoAssistance made.ttp (gross_rent_of made.rents))
 
 abbrev pub no_assistance : Matter → Option Refusal
-no_assistance about = if about.begins then option_and_then rent_borne (record_in about) else None
+no_assistance about = if about.begins then option_and_then nothing_paid (record_in about) else None
 
 -- ---- 21 to 23: closing
 

@@ -6,9 +6,11 @@ use Rattle.wait_list.specs.declared.applicant.Applicant.{Applicant}
 use Rattle.book_rows.specs.Book.{Book}
 use Rattle.office_step.specs.{declared.known.Application.Application, declared.known.Request.Request, declared.known.Closed.Closed, Households.households_of}
 use Rattle.office_step.specs.Acts.{Act, acts_of, plan_of, plan_act, units_of, rents_of, limits_of, applications_of, ranks_of, waiting_of, names_of, household_count, requests_of, last_closing}
+use Rattle.office_step.specs.Eligible.{eligible_of}
 
 -- how many acts there are, the plan and the act that gave it, the rows that acts set, all who applied and those who still
--- wait, and of each household its name, its records and the last that it said of another unit; and the last closing
+-- wait, of each household its name, its records and the last that it said of another unit, and of each act the eligible
+-- members of its record; and the last closing
 pub record Known : Type 0 where
   pub count : ℕ
   pub plan : Option Plan
@@ -21,6 +23,7 @@ pub record Known : Type 0 where
   pub names : List (List ℕ)
   pub households : List (List Record)
   pub requests : List (Option Request)
+  pub eligible : List ℕ
   pub closing : Option Closed
 
 -- what is known by these acts and records
@@ -37,6 +40,7 @@ known_by count acts records = record {
   names = names_of acts;
   households = households_of records (household_count acts);
   requests = requests_of acts;
+  eligible = eligible_of records acts;
   closing = last_closing acts;
 }
 

@@ -1,5 +1,7 @@
 pub mod Acts
 pub mod Households
+pub mod Basis
+pub mod Eligible
 pub mod Known
 pub mod After
 pub mod Candidates

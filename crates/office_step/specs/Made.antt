@@ -10,7 +10,7 @@ use Rattle.due_dates.specs.Stale.{unit_rents_on}
 use Rattle.voucher_core.specs.{declared.closing.Closing.Closing, declared.line.Line.Line, Lines.closing_lines, Lines.placed}
 use Rattle.certified_figures.specs.{declared.figures.Figures.Figures, Figures.figures_of, Figures.carried_figures, Figures.no_figures}
 use Rattle.book_rows.specs.declared.{command.Command.Command, closings.CloseAct.CloseAct}
-use Rattle.office_step.specs.{declared.heading.Heading.Heading, Known.Known, Known.own_in, Households.record_at, Households.continued, Households.unit_continued}
+use Rattle.office_step.specs.{declared.heading.Heading.Heading, Known.Known, Known.own_in, Households.record_at, Households.continued, Households.unit_continued, Eligible.eligible_of_record}
 use Rattle.office_step.specs.Matter.{Matter, Basis, from_facts, carried, nothing, certifies, matter_of, household_of, own, begins_on}
 
 -- the rents of a unit on a day
@@ -65,7 +65,7 @@ made_of_facts known heading facts =
 -- a record that carries over what was certified, with its unit's rents on its first day
 abbrev pub made_of_carried : Known → Heading → Option Record
 made_of_carried known heading =
-    option_and_then (λ held. option_map (λ rents. made_with known heading false (carried_figures held rents))
+    option_and_then (λ held. option_map (λ rents. made_with known heading false (carried_figures held (eligible_of_record known.eligible held) rents))
     (rents_in_unit known heading.unit heading.from)) (continued (own_in known heading.household) heading.from)
 
 -- a record that certifies nothing

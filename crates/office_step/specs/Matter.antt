@@ -2,21 +2,11 @@
 -- stands against a command, or of the record that it makes, asks which command it is.
 use Rattle.std.specs.Prelude.{ℕ, ◌+◌, Bool, true, false, Option, Some, None, List, length, unwrap_or}
 use Rattle.std.specs.Option.{option_map, option_or}
-use Rattle.facts_core.specs.declared.facts.Facts.{Facts}
 use Rattle.record_history.specs.declared.records.{Dates.Dates, Kind.Kind, Record.Record}
 use Rattle.wait_list.specs.declared.ask.Candidate.{Candidate}
 use Rattle.book_rows.specs.declared.{command.Command.Command, household.HouseholdChange.HouseholdChange}
 use Rattle.office_step.specs.{declared.moving.MoveIn.MoveIn, Known.Known, Known.own_in}
-
--- what a record certifies comes of facts, or of what was certified before, or it certifies nothing
-pub data Basis : Type 0 where
-  from_facts : Facts → Basis
-  carried : Basis
-  nothing : Basis
-
-abbrev pub certifies : Basis → Bool
-certifies nothing = false
-certifies _ = true
+pub use Rattle.office_step.specs.Basis.{Basis, from_facts, carried, nothing, certifies, basis_in, basis_of}
 
 -- What is known when it is asked, and what the command says:
 -- * whether it gives a plan, the month that it closes, the name of the unit that it adds, and from which day on it sets
@@ -68,9 +58,9 @@ quiet known = record {
   begins = false;
 }
 
--- one that makes a record of that kind and first day, on that basis
-abbrev pub recording : Known → Kind → ℕ → Basis → Matter
-recording known kind from basis = record (quiet known) { kind = Some kind; from = Some from; basis = basis }
+-- one that makes a record of that kind and first day
+abbrev pub recording : Known → Kind → ℕ → Matter
+recording known kind from = record (quiet known) { kind = Some kind; from = Some from }
 
 -- all three days are the one on which the work was done
 abbrev pub resumed_dates : ℕ → Option Dates
@@ -81,20 +71,20 @@ move_in candidate unit from = Some (record { candidate = candidate; unit = unit;
 
 -- what a change of the household says
 abbrev pub said_in : Known → ℕ → HouseholdChange → Matter
-said_in known household (HouseholdChange.Annual annual) = recording known Kind.AR annual.from (from_facts annual.facts)
+said_in known household (HouseholdChange.Annual annual) = recording known Kind.AR annual.from
 said_in known household (HouseholdChange.Interim interim) =
-    record (recording known Kind.IR interim.from (from_facts interim.facts)) { told = Some interim.dates }
+    record (recording known Kind.IR interim.from) { told = Some interim.dates }
 said_in known household (HouseholdChange.Resume resume) =
-    record (recording known Kind.IC resume.from (from_facts resume.facts)) { told = resumed_dates resume.done; begins = true }
-said_in known household (HouseholdChange.Gross gross) = recording known Kind.GR gross.from carried
+    record (recording known Kind.IC resume.from) { told = resumed_dates resume.done; begins = true }
+said_in known household (HouseholdChange.Gross gross) = recording known Kind.GR gross.from
 said_in known household (HouseholdChange.Correct correct) =
-    record (quiet known) { target = Some correct.target; from = Some correct.from; basis = from_facts correct.facts }
-said_in known household (HouseholdChange.Transfer transfer) = record (recording known Kind.UT transfer.from carried) {
+    record (quiet known) { target = Some correct.target; from = Some correct.from }
+said_in known household (HouseholdChange.Transfer transfer) = record (recording known Kind.UT transfer.from) {
   unit = Some transfer.unit;
   moves = move_in (Candidate.Household household) transfer.unit transfer.from;
 }
 said_in known household (HouseholdChange.MoveOut move_out) = record (quiet known) { kind = Some Kind.MO; last = Some move_out.last }
-said_in known household (HouseholdChange.Terminate terminate) = recording known Kind.TM terminate.from nothing
+said_in known household (HouseholdChange.Terminate terminate) = recording known Kind.TM terminate.from
 said_in known household (HouseholdChange.Withdraw withdraw) = record (quiet known) { kind = Some Kind.WD; target = Some withdraw.target }
 
 -- what a command says
@@ -106,8 +96,8 @@ said_by known (Command.Limits limits) = record (quiet known) { sets_from = Some 
 said_by known (Command.Apply apply) = quiet known
 said_by known (Command.Remove remove) = record (quiet known) { applicant = Some remove.applicant }
 said_by known (Command.Start start) =
-    record (recording known Kind.IC start.from (from_facts start.facts)) { unit = Some start.unit }
-said_by known (Command.Admit admit) = record (recording known Kind.MI admit.from (from_facts admit.facts)) {
+    record (recording known Kind.IC start.from) { unit = Some start.unit }
+said_by known (Command.Admit admit) = record (recording known Kind.MI admit.from) {
   applicant = Some admit.applicant;
   unit = Some admit.unit;
   moves = move_in (Candidate.Applicant admit.applicant) admit.unit admit.from;
@@ -120,7 +110,7 @@ said_by known (Command.Close close) = record (quiet known) { month = Some close.
 
 -- what a command is about
 abbrev pub matter_of : Known → Command → Matter
-matter_of known asked = record (said_by known asked) { known = known }
+matter_of known asked = record (said_by known asked) { known = known; basis = basis_of asked }
 
 -- ---- what is found at once
 

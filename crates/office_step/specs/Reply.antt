@@ -13,9 +13,9 @@ use Rattle.office_step.specs.Acts.{Act, acts_of, units_of, applications_of}
 abbrev pub acts_up_to : Book → ℕ → List Act
 acts_up_to book n = filter (λ act. nat_le act.n n) (acts_of book.acts)
 
--- what was certified, with tenant rent and reimbursement by the split of its payment and rents
+-- what was certified, with tenant rent and reimbursement by what its assistance leaves of its rents
 abbrev pub certified : Record → Made
-certified r = Made.Certified r.assistance r.household r.number (reimbursement_of r.ttp r.rents) (tenant_rent_of r.ttp r.rents) r.ttp
+certified r = Made.Certified r.assistance r.household r.number (reimbursement_of r.assistance r.rents) (tenant_rent_of r.assistance r.rents) r.ttp
 
 -- the total of a closing's lines, and how many they are
 abbrev pub closed : List Line → ℕ → Made

@@ -1,5 +1,5 @@
 -- An act is accepted exactly where no cause stands against it.
-use Rattle.std.proofs.Common.{◌≡◌, ◌∙◌, sym, ap, refl, subst, ℕ, ◌+◌, ◌≤◌, arith, Bool, true, false, List, [], ◌∷◌, Option, Some, None, length, ◌&&◌, not, IfSome, bytes_eq, eqb, find, if◌then◌else◌}
+use Rattle.std.proofs.Common.{◌≡◌, ◌∙◌, sym, ap, refl, subst, ℕ, ◌+◌, ◌≤◌, arith, Bool, false, List, [], ◌∷◌, Option, Some, None, length, ◌&&◌, not, IfSome, bytes_eq, eqb, find, if◌then◌else◌}
 use Rattle.std.specs.Prelude.{Contains}
 use Rattle.std.specs.Option.{option_map, option_map_or}
 use Rattle.std.proofs.lemmas.{Bool.false_from_ne_true, Bool.and_parts, Bool.and_left, Bool.eqb-true, Bool.le-ltb}

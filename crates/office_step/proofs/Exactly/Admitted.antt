@@ -1,14 +1,14 @@
 -- 19 and 20: incomes and rents.
-use Rattle.std.proofs.Common.{◌≡◌, sym, ap, refl, ℕ, ◌-◌, Bool, true, false, Some, None, if◌then◌else◌, nat_le}
+use Rattle.std.proofs.Common.{◌≡◌, sym, ap, refl, ℕ, ◌-◌, Bool, true, false, Some, None, if◌then◌else◌, eqb}
 use Rattle.std.specs.Prelude.{nat_lt, option_and_then, slice_index_or}
-use Rattle.std.proofs.lemmas.Bool.{ltb-true, lt-ltb, leb-true, le-leb}
+use Rattle.std.proofs.lemmas.Bool.{ltb-true, lt-ltb, eqb-true}
 use Rattle.payment_rules.specs.Payment.{gross_rent_of}
 use Rattle.record_history.specs.declared.records.Record.{Record}
 use Rattle.rent_table.specs.{declared.plan.Plan.Plan, declared.rows.LimitRow.LimitRow, Admission.admission_limit, Admission.limit_for, Table.limits_on}
 use Rattle.rent_table.proofs.StandingLemmas.{row_sets_limits}
-use Rattle.office_step.specs.{declared.refusal.Refusal.Refusal, Made.record_in, Refusals.refused_if, Against.above_limit, Against.rent_borne}
+use Rattle.office_step.specs.{declared.refusal.Refusal.Refusal, Made.record_in, Refusals.refused_if, Against.above_limit, Against.nothing_paid}
 use Rattle.office_step.proofs.Exactly.Options.{refused_if-some, and_then-some}
-use Rattle.office_step.specs.plain.Admitted.{IneligibleIsPlain, BearsAll, NoAssistanceIsPlain}
+use Rattle.office_step.specs.plain.Admitted.{IneligibleIsPlain, GetsNothing, NoAssistanceIsPlain}
 
 limit_is : (early : Bool) (row : LimitRow) (size limit : ℕ) → (early ≡ true → limit ≡ slice_index_or row.low (size - 1) 0) →
     (early ≡ false → limit ≡ slice_index_or row.very_low (size - 1) 0) → (if early then limit_for row.low size else limit_for row.very_low size) ≡ limit
@@ -46,13 +46,13 @@ ineligible_is_plain about refusal rise = (
 pub no_assistance_is_plain : NoAssistanceIsPlain
 no_assistance_is_plain about refusal = (
   λ is. by_begins about.begins refl is,
-  λ at. rw (at.begins, at.makes, le-leb (gross_rent_of at.made.rents) at.made.ttp at.borne, at.told) refl,
+  λ at. rw (at.begins, at.makes, at.unpaid, at.told) refl,
 )
   where
-    by_begins : (begins : Bool) → about.begins ≡ begins → (if begins then option_and_then rent_borne (record_in about) else None) ≡ Some refusal → BearsAll about refusal
+    by_begins : (begins : Bool) → about.begins ≡ begins → (if begins then option_and_then nothing_paid (record_in about) else None) ≡ Some refusal → GetsNothing about refusal
     by_begins true begins is =
-        let makes = and_then-some rent_borne (record_in about) refusal is in
+        let makes = and_then-some nothing_paid (record_in about) refusal is in
         let made : Record = makes.0 in
-        let has = refused_if-some (nat_le (gross_rent_of made.rents) made.ttp) (Refusal.NoAssistance made.ttp (gross_rent_of made.rents)) refusal makes.2 in
-        record { made = made; told = has.1; begins = begins; makes = makes.1; borne = leb-true (gross_rent_of made.rents) made.ttp has.0 }
+        let has = refused_if-some (eqb made.assistance 0) (Refusal.NoAssistance made.ttp (gross_rent_of made.rents)) refusal makes.2 in
+        record { made = made; told = has.1; begins = begins; makes = makes.1; unpaid = eqb-true made.assistance 0 has.0 }
     by_begins false begins is = absurd (cc)

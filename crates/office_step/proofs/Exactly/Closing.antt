@@ -1,5 +1,5 @@
 -- 22 and 23: what a closing waits for.
-use Rattle.std.proofs.Common.{◌≡◌, ◌≢◌, ◌∙◌, sym, ap, refl, subst, ℕ, zero, suc, ◌+◌, ◌<◌, ◌≤◌, ◌⊎◌, inl, inr, arith, Bool, true, false, List, Option, Some, None, ◌&&◌, filter, eqb, length, if◌then◌else◌, nat_le, map, ◌==◌}
+use Rattle.std.proofs.Common.{◌≡◌, ◌∙◌, sym, ap, refl, subst, ℕ, zero, suc, ◌+◌, ◌<◌, ◌≤◌, ◌⊎◌, inl, inr, arith, Bool, true, false, List, Option, Some, None, ◌&&◌, filter, length, if◌then◌else◌, nat_le, map, ◌==◌}
 use Rattle.std.specs.Prelude.{◌↔◌, Contains, option_and_then}
 use Rattle.std.specs.{List.range_with_len, Option.option_map, Option.option_map_or}
 use Rattle.std.proofs.lemmas.{Bool.false≢true, Bool.false_from_ne_true, Bool.leb-true, Bool.le-leb, Bool.and_parts, Bool.and_from, Bool.eqb-false, Bool.ne_eqb, Option.same_Some, Option.cond_some}

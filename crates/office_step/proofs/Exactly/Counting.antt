@@ -1,6 +1,6 @@
 -- Which records count, and which of some is the first or the last.
-use Rattle.std.proofs.Common.{◌≡◌, ◌≢◌, ◌∙◌, sym, ap, refl, ◌-◌, arith, Bool, true, false, List, Option, Some, None, not, filter, eqb, subst}
-use Rattle.std.specs.Prelude.{◌↔◌, All, Contains, IsSomeAnd, IfSome}
+use Rattle.std.proofs.Common.{◌≡◌, ◌≢◌, ◌∙◌, sym, ap, refl, arith, Bool, true, false, List, Option, Some, None, not, filter, eqb, subst}
+use Rattle.std.specs.Prelude.{◌↔◌, Contains, IsSomeAnd, IfSome}
 use Rattle.std.specs.List.{list_any}
 use Rattle.std.proofs.lemmas.{Bool.false≢true, Bool.false_from_ne_true, Bool.not-true, Bool.not_from_false, Bool.and_parts, Bool.and_from, Bool.ne_eqb, Bool.eqb-false, List.Folds.list_any_none, Bool.Decides.nat_tests}
 use Rattle.std.proofs.lemmas.List.Elements.{All-contains}

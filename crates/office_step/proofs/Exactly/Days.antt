@@ -1,5 +1,5 @@
 -- 9: days outside their ranges.
-use Rattle.std.proofs.Common.{◌≡◌, ◌∙◌, ap, refl, ℕ, ◌-◌, inl, inr, arith, Bool, true, false, Some, None, ◌&&◌, nat_le}
+use Rattle.std.proofs.Common.{◌≡◌, ◌∙◌, ap, refl, ℕ, inl, inr, arith, Bool, true, false, Some, None, ◌&&◌, nat_le}
 use Rattle.std.specs.Prelude.{◌↔◌, option_and_then}
 use Rattle.std.proofs.lemmas.{Bool.leb-true, Bool.leb-false, Bool.le-leb, Bool.lt-leb, Bool.and_parts, Bool.and_from, Bool.and_cases, Bool.and_left, Bool.and_right}
 use Rattle.days_core.specs.OfficeDays.{first_office_day, last_office_day}

@@ -1,14 +1,14 @@
 -- 8: the rules of the facts.
-use Rattle.std.proofs.Common.{◌≡◌, ◌≢◌, ◌∙◌, sym, ap, refl, subst, ℕ, zero, suc, ◌+◌, ◌<◌, ◌≤◌, ◌⊎◌, inl, inr, arith, Bool, true, false, List, [], ◌∷◌, Option, Some, None, ◌&&◌, not, length, nat_le, if◌then◌else◌, count_by, cond, eqb}
+use Rattle.std.proofs.Common.{◌≡◌, ◌≢◌, ◌∙◌, sym, ap, refl, subst, ℕ, zero, suc, ◌+◌, ◌<◌, ◌≤◌, ◌⊎◌, inl, inr, arith, Bool, true, false, List, [], ◌∷◌, Option, Some, None, ◌&&◌, not, length, nat_le, if◌then◌else◌, count_by, cond}
 use Rattle.std.specs.Prelude.{◌↔◌, Contains, nat_lt, slice_get}
 use Rattle.std.specs.{List.list_all}
 use Rattle.std.proofs.lemmas.{Bool.false≢true, Bool.false_from_ne_true, Bool.leb-true, Bool.le-leb, Bool.ltb-true, Bool.lt-ltb, Bool.and_parts, Bool.and_from, Bool.eqb-true, Bool.eq-eqb, Option.same_Some, Option.none-some, List.Sums.sum_by-cons}
 use Rattle.std.proofs.lemmas.List.Elements.{Contains-append_right}
 use Rattle.facts_core.specs.declared.{members.Member.Member, members.Relation.Relation, incomes.Income.Income, property.Asset.Asset, property.Disposal.Disposal, facts.Facts.Facts}
-use Rattle.facts_core.specs.Rules.{is_amount, is_head, is_partner, is_aide, has_one_head, has_at_most_one_partner, names_members, has_amounts, has_fair_disposals, is_in_size, has_births_by, broken_rule}
+use Rattle.facts_core.specs.Rules.{is_amount, is_head, is_partner, is_aide, has_one_head, has_at_most_one_partner, names_members, has_amounts, has_fair_disposals, is_in_size, has_births_by, is_eligible, eligible_members, has_an_eligible_member, broken_rule}
 use Rattle.office_step.specs.{declared.refusal.Refusal.Refusal, Matter.Basis, Matter.from_facts, Matter.carried, Matter.nothing, Against.rule_broken}
 use Rattle.office_step.proofs.Exactly.{Options.and_then-some, Options.and_then-from, Options.map-some, Options.map-from}
-use Rattle.office_step.specs.plain.Facts.{IsHeadAt, IsPartnerAt, is_family, Rule, head, partners, earners, amounts, disposals, sizes, births, number_of, Keep, BreaksRule, FactsRuleIsPlain}
+use Rattle.office_step.specs.plain.Facts.{IsHeadAt, IsPartnerAt, is_family, Rule, head, partners, earners, amounts, disposals, sizes, births, eligible, number_of, Keep, BreaksRule, FactsRuleIsPlain}
 
 -- ---- lists
 
@@ -92,6 +92,21 @@ module _ {X : Type 0} (p : X → Bool) where
       by_count zero is = absurd (none-at xs is place at)
       by_count (suc n) is = omega (arith, is)
 
+  -- some are counted exactly if one passes
+  some-held : (xs : List X) → 1 ≤ count_by p xs → (x : X) × Contains xs x × (p x ≡ true)
+  some-held [] some = absurd (omega (arith, some))
+  some-held (y ∷ ys) some = by_test (p y) refl (some-held ys)
+    where
+      by_test : (b : Bool) → p y ≡ b → (1 ≤ count_by p ys → (x : X) × Contains ys x × (p x ≡ true)) → (x : X) × Contains (y ∷ ys) x × (p x ≡ true)
+      by_test true passes later = (y, (0, omega arith, refl), passes)
+      by_test false fails later =
+          let rest = later (omega (arith, some, not_one y ys fails)) in (rest.0, Contains-append_right (y ∷ []) ys rest.0 rest.1, rest.2)
+
+  held-some : (xs : List X) (x : X) → Contains xs x → p x ≡ true → 1 ≤ count_by p xs
+  held-some [] x held passes = absurd (omega (arith, held.1))
+  held-some (y ∷ ys) x (zero, within, same) passes = omega (arith, yes y ys (ap p same ∙ passes))
+  held-some (y ∷ ys) x (suc k, within, same) passes = omega (arith, held-some ys x (k, omega (arith, within), same) passes, count-cons y ys)
+
 -- ---- kinds of members
 
 heads : (relation : Relation) → (is_head relation ≡ true) ↔ (relation ≡ Relation.Head)
@@ -113,6 +128,20 @@ family : (relation : Relation) → not (is_aide relation) ≡ is_family relation
 family Relation.Aide = refl
 family _ = refl
 
+no_aide : (relation : Relation) → (not (is_aide relation) ≡ true) ↔ (relation ≢ Relation.Aide)
+no_aide relation = (to relation, from relation)
+  where
+    to : (relation : Relation) → not (is_aide relation) ≡ true → relation ≢ Relation.Aide
+    to Relation.Aide is same = false≢true is
+    to Relation.Head is same = absurd (cc)
+    to Relation.Spouse is same = absurd (cc)
+    to Relation.Cohead is same = absurd (cc)
+    to Relation.Other is same = absurd (cc)
+
+    from : (relation : Relation) → relation ≢ Relation.Aide → not (is_aide relation) ≡ true
+    from Relation.Aide other = absurd (other refl)
+    from _ other = refl
+
 -- ---- the rules
 
 module _ (facts : Facts) (day : ℕ) where
@@ -124,6 +153,7 @@ module _ (facts : Facts) (day : ℕ) where
   test disposals = has_fair_disposals facts
   test sizes = is_in_size facts
   test births = has_births_by facts day
+  test eligible = has_an_eligible_member facts
 
   head_at : (place : ℕ) → At (λ (member : Member). is_head member.relation) facts.members place → IsHeadAt facts place
   head_at place (member, at, is) = (member, at, (heads member.relation).0 is)
@@ -176,6 +206,16 @@ module _ (facts : Facts) (day : ℕ) where
   all_born = (
     λ is member held. leb-true member.born day (all-each (λ (member : Member). nat_le member.born day) facts.members is member held),
     λ each. each-all (λ (member : Member). nat_le member.born day) facts.members (λ member held. le-leb member.born day (each member held)),
+  )
+
+  some_eligible : (has_an_eligible_member facts ≡ true) ↔ Keep facts day eligible
+  some_eligible = (
+    λ is.
+        (let at = some-held is_eligible facts.members (ltb-true 0 (eligible_members facts) is) in
+        let parts = and_parts (not (is_aide at.0.relation)) at.0.eligible at.2 in (at.0, at.1, (no_aide at.0.relation).0 parts.0, parts.1)),
+    λ (member, held, other, flag).
+        lt-ltb 0 (eligible_members facts)
+        (held-some is_eligible facts.members member held (and_from (not (is_aide member.relation)) member.eligible ((no_aide member.relation).1 other) flag)),
   )
 
   all_amounts : (has_amounts facts ≡ true) ↔ Keep facts day amounts
@@ -246,6 +286,7 @@ module _ (facts : Facts) (day : ℕ) where
   plain disposals = all_fair
   plain sizes = few
   plain births = all_born
+  plain eligible = some_eligible
 
   breaks : (rule : Rule) → test rule ≡ false → ¬ Keep facts day rule
   breaks rule fails keep = false≢true (sym fails ∙ (plain rule).1 keep)
@@ -276,9 +317,12 @@ module _ (facts : Facts) (day : ℕ) where
             | inl here ↦ record { rule = disposals; numbered = here.1; broken = breaks disposals here.0; kept_before = before_disposals k1 k2 k3 k4 }
             | inr more ↦ let k5 = (plain disposals).0 more.0 in elim (step (test sizes) 6 number _ more.1) [
               | inl here ↦ record { rule = sizes; numbered = here.1; broken = breaks sizes here.0; kept_before = before_sizes k1 k2 k3 k4 k5 }
-              | inr more ↦ let k6 = (plain sizes).0 more.0 in elim (step (test births) 7 number None more.1) [
+              | inr more ↦ let k6 = (plain sizes).0 more.0 in elim (step (test births) 7 number _ more.1) [
                 | inl here ↦ record { rule = births; numbered = here.1; broken = breaks births here.0; kept_before = before_births k1 k2 k3 k4 k5 k6 }
-                | inr more ↦ absurd (none-some number more.1)
+                | inr more ↦ let k7 = (plain births).0 more.0 in elim (step (test eligible) 8 number None more.1) [
+                  | inl here ↦ record { rule = eligible; numbered = here.1; broken = breaks eligible here.0; kept_before = before_eligible k1 k2 k3 k4 k5 k6 k7 }
+                  | inr more ↦ absurd (none-some number more.1)
+                ]
               ]
             ]
           ]
@@ -331,7 +375,18 @@ module _ (facts : Facts) (day : ℕ) where
       before_births k1 k2 k3 k4 k5 k6 amounts less = k4
       before_births k1 k2 k3 k4 k5 k6 disposals less = k5
       before_births k1 k2 k3 k4 k5 k6 sizes less = k6
-      before_births k1 k2 k3 k4 k5 k6 births less = absurd (omega (arith, less))
+      before_births k1 k2 k3 k4 k5 k6 _ less = absurd (omega (arith, less))
+
+      before_eligible : Keep facts day head → Keep facts day partners → Keep facts day earners → Keep facts day amounts → Keep facts day disposals →
+          Keep facts day sizes → Keep facts day births → (other : Rule) → number_of other < 8 → Keep facts day other
+      before_eligible k1 k2 k3 k4 k5 k6 k7 head less = k1
+      before_eligible k1 k2 k3 k4 k5 k6 k7 partners less = k2
+      before_eligible k1 k2 k3 k4 k5 k6 k7 earners less = k3
+      before_eligible k1 k2 k3 k4 k5 k6 k7 amounts less = k4
+      before_eligible k1 k2 k3 k4 k5 k6 k7 disposals less = k5
+      before_eligible k1 k2 k3 k4 k5 k6 k7 sizes less = k6
+      before_eligible k1 k2 k3 k4 k5 k6 k7 births less = k7
+      before_eligible k1 k2 k3 k4 k5 k6 k7 eligible less = absurd (omega (arith, less))
 
   here : (b : Bool) (n number : ℕ) (rest : Option ℕ) → b ≡ false → number ≡ n → (if not b then Some n else rest) ≡ Some number
   here true n number rest is told = absurd (cc)
@@ -362,7 +417,12 @@ module _ (facts : Facts) (day : ℕ) where
       by_rule births told fails kept =
           later (test head) 1 number _ (kept head (omega arith)) (later (test partners) 2 number _ (kept partners (omega arith))
           (later (test earners) 3 number _ (kept earners (omega arith)) (later (test amounts) 4 number _ (kept amounts (omega arith))
-          (later (test disposals) 5 number _ (kept disposals (omega arith)) (later (test sizes) 6 number _ (kept sizes (omega arith)) (here (test births) 7 number None fails told))))))
+          (later (test disposals) 5 number _ (kept disposals (omega arith)) (later (test sizes) 6 number _ (kept sizes (omega arith)) (here (test births) 7 number _ fails told))))))
+      by_rule eligible told fails kept =
+          later (test head) 1 number _ (kept head (omega arith)) (later (test partners) 2 number _ (kept partners (omega arith))
+          (later (test earners) 3 number _ (kept earners (omega arith)) (later (test amounts) 4 number _ (kept amounts (omega arith))
+          (later (test disposals) 5 number _ (kept disposals (omega arith)) (later (test sizes) 6 number _ (kept sizes (omega arith))
+          (later (test births) 7 number _ (kept births (omega arith)) (here (test eligible) 8 number None fails told)))))))
 
 -- ---- 8
 

@@ -1,5 +1,5 @@
 -- 21: the month that is next to close.
-use Rattle.std.proofs.Common.{◌≡◌, sym, refl, ℕ, inl, inr, Bool, Option, Some, None}
+use Rattle.std.proofs.Common.{◌≡◌, sym, refl, ℕ, inl, inr, Option, Some, None}
 use Rattle.std.specs.Prelude.{nat_eq}
 use Rattle.std.specs.Option.{option_eq}
 use Rattle.std.proofs.lemmas.Bool.{cases_lt, lt-ltb, le-ltb}

@@ -1,6 +1,6 @@
 -- 5: a number that names nothing.
 use Rattle.std.proofs.Common.{◌≡◌, ◌≢◌, ◌∙◌, sym, ap, refl, ℕ, ◌<◌, inl, inr, arith, Bool, true, false, List, Option, Some, None, ◌⊎◌, length, not, nat_le, eqb, is_some}
-use Rattle.std.specs.Prelude.{◌↔◌, Contains, All}
+use Rattle.std.specs.Prelude.{◌↔◌, Contains}
 use Rattle.std.specs.{Option.option_map_or}
 use Rattle.std.proofs.lemmas.Bool.{leb-false, lt-leb, and_cases, and_left, and_right, or_parts, or_from, not-false, not_from_true, false≢true, eqb-true, eqb-false, ne_eqb}
 use Rattle.std.proofs.lemmas.{List.Folds.list_any_none}

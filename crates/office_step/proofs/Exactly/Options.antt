@@ -1,5 +1,5 @@
 -- What it takes that a test refuses.
-use Rattle.std.proofs.Common.{◌≡◌, ◌≢◌, ◌∙◌, sym, ap, refl, ℕ, ◌<◌, arith, Bool, true, false, List, [], ◌∷◌, Option, Some, None, get_or, inl, inr, ◌⊎◌, eqb}
+use Rattle.std.proofs.Common.{◌≡◌, ◌≢◌, ◌∙◌, sym, ap, refl, ℕ, ◌<◌, arith, Bool, true, false, List, [], ◌∷◌, Option, Some, None, get_or, inl, inr, ◌⊎◌}
 use Rattle.std.specs.Prelude.{◌↔◌, All, AllPairs, Contains, is_some, option_and_then, nat_eq}
 use Rattle.std.specs.{Option.option_eq, Option.option_map, List.list_any}
 use Rattle.std.proofs.lemmas.{Option.same_Some, Bool.false≢true, Bool.eqb-false, Bool.ne_eqb, Bool.false_from_ne_true, List.Folds.list_any_at, List.get_or_default, Bool.cases_lt}

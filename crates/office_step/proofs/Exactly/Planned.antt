@@ -3,7 +3,7 @@ use Rattle.std.proofs.Common.{◌≡◌, refl, ℕ, Bool, true, false, Option, S
 use Rattle.std.specs.Prelude.{is_some}
 use Rattle.std.proofs.lemmas.{Bool.leb-true, Bool.le-leb}
 use Rattle.std.specs.Option.{option_map}
-use Rattle.office_step.specs.{declared.refusal.Refusal.Refusal, Refusals.refused_if}
+use Rattle.office_step.specs.{declared.refusal.Refusal.Refusal}
 use Rattle.office_step.proofs.Exactly.Options.{refused_if-some, map-some}
 use Rattle.office_step.specs.plain.Planned.{NoPlanIsPlain, IsSecondPlan, PlanGivenIsPlain, BookFullIsPlain}
 

@@ -4,10 +4,10 @@ use Rattle.payment_rules.specs.Payment.{tenant_rent_of, reimbursement_of}
 use Rattle.office_step.specs.plain.Replies.{CertifiedIsPlain}
 
 pub certified_is_plain : CertifiedIsPlain
-certified_is_plain r split = record {
-  tenant_rent = tenant_rent_of r.ttp r.rents;
-  reimbursement = reimbursement_of r.ttp r.rents;
+certified_is_plain r within = record {
+  tenant_rent = tenant_rent_of r.assistance r.rents;
+  reimbursement = reimbursement_of r.assistance r.rents;
   is = refl;
-  covered = omega (arith, split);
+  covered = omega (arith, within);
   one_way = λ pays. omega (arith, pays);
 }

@@ -1,5 +1,5 @@
 -- 13: the rightful day.
-use Rattle.std.proofs.Common.{◌≡◌, ◌≢◌, ◌∙◌, sym, ap, refl, subst, ℕ, ◌+◌, ◌<◌, ◌≤◌, ◌⊎◌, inl, inr, arith, Bool, true, false, List, Option, Some, None, ◌&&◌, not, filter, eqb, if◌then◌else◌, nat_le}
+use Rattle.std.proofs.Common.{◌≡◌, ◌∙◌, sym, ap, refl, subst, ℕ, ◌+◌, ◌<◌, ◌≤◌, ◌⊎◌, inl, inr, arith, Bool, true, false, List, Option, Some, None, ◌&&◌, not, filter, eqb, if◌then◌else◌, nat_le}
 use Rattle.std.specs.Prelude.{◌↔◌, All, Contains, nat_lt, nat_eq}
 use Rattle.std.specs.Option.{option_map_or, option_eq}
 use Rattle.std.proofs.lemmas.{Bool.false≢true, Bool.cases_Bool, Bool.cases_lt, Bool.leb-true, Bool.le-leb, Bool.lt-leb, Bool.ltb-true, Bool.lt-ltb, Bool.and_parts, Bool.and_from, Bool.not-true, Bool.not_from_false, Bool.eqb-false, Bool.ne_eqb, Bool.false_from_ne_true, Option.same_Some}
@@ -13,7 +13,7 @@ use Rattle.due_dates.proofs.{RightfulLemmas.is_next_anniversary, RightfulLemmas.
 use Rattle.tenancy_rules.specs.{OrderLaw.Precedes, Order.earliest}
 use Rattle.tenancy_rules.proofs.{InPlace.comes, InPlace.precedes, Numbers.rise}
 use Rattle.office_step.specs.{declared.refusal.Refusal.Refusal, declared.rightful.Rightful.Rightful, Known.Known, Known.UnitsAreNumbered, Households.AreBy, Households.begins_year, Households.record_at, Households.standing_on, Matter.Matter, Matter.household_of, Matter.own, Made.record_in, Against.by_payment, Against.own_right, Against.right_of, Against.wrong}
-use Rattle.office_step.specs.Refusals.{refused_unless, others_of, base, annual_day, annual_right, corrected_annual_right, is_higher, interim_right, corrected_by, corrected_right}
+use Rattle.office_step.specs.Refusals.{others_of, base, annual_day, annual_right, corrected_annual_right, is_higher, interim_right, corrected_by, corrected_right}
 use Rattle.office_step.proofs.Exactly.{Options.each, Options.refused_unless-some, Options.refused_unless-from, Options.and_then-some, Options.and_then-from, Options.another, Options.no_other, Counting.counting, Counting.last_one, Counting.last_none, Counting.first_one, Counting.first_none, Named.found_numbered, Named.record_found, Closing.old, Closing.is_old, Closing.begins_kind, Closing.kind_begins, Closing.one_anniversary}
 use Rattle.office_step.specs.plain.{Counting.AreInTurn, Counting.AllInTurn, Counting.Counts, Counting.IsFirstOf, Counting.IsLastOf, Closing.HasOldRents}
 use Rattle.office_step.specs.plain.Rightful.{IsHigher, IsInterimDay, BeginsYear, IsAnnualDay, IsGrossDay, IsAnother, HasRightAgain, annual, interim, resumed, HasRight, of_annual, of_gross, of_interim, of_resumed, of_correction, BeginsOnAnother, AreKnownDays, WrongDayIsPlain}

@@ -1,5 +1,5 @@
 -- 6 and 7: what the clerk saw of the household.
-use Rattle.std.proofs.Common.{◌≡◌, ◌∙◌, sym, ap, refl, ℕ, ◌≤◌, inl, inr, arith, Bool, true, List, [], ◌∷◌, max, fold, ◌⊎◌}
+use Rattle.std.proofs.Common.{◌≡◌, ◌∙◌, sym, ap, refl, ℕ, ◌≤◌, inl, inr, arith, List, [], ◌∷◌, max, fold, ◌⊎◌}
 use Rattle.std.specs.Prelude.{Contains, nat_lt, All}
 use Rattle.std.proofs.lemmas.{Bool.ltb-true, Bool.lt-ltb, Bool.cases_lt}
 use Rattle.std.proofs.lemmas.List.Elements.{All-nil, All-cons, All-contains, Contains-append_right}

@@ -1,5 +1,5 @@
 -- 10 to 12: rents, limits and records that should stand.
-use Rattle.std.proofs.Common.{◌≡◌, ◌≢◌, ◌∙◌, sym, ap, refl, ℕ, ◌⊎◌, inl, inr, Bool, true, false, List, Some, None, if◌then◌else◌, ◌||◌, not, nat_le, filter, eqb, is_some}
+use Rattle.std.proofs.Common.{◌≡◌, ◌∙◌, sym, ap, refl, ℕ, ◌⊎◌, inl, inr, Bool, true, false, Some, None, if◌then◌else◌, ◌||◌, not, nat_le, eqb, is_some}
 use Rattle.std.specs.Prelude.{Contains, option_and_then}
 use Rattle.std.specs.List.{list_any}
 use Rattle.std.proofs.lemmas.Bool.{leb-true, le-leb, or_parts, not-false, not-true, not_from_false, and_parts, and_from, cases_Bool, false≢true, false_from_ne_true, eqb-true, eq-eqb}

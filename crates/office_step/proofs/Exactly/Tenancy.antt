@@ -1,5 +1,5 @@
 -- 14 and 17: the order of records, and who has a unit.
-use Rattle.std.proofs.Common.{◌≡◌, ◌≢◌, ◌∙◌, sym, ap, refl, ℕ, ◌+◌, ◌<◌, inl, inr, arith, Bool, true, false, List, [], Option, Some, None, ◌||◌, not, filter, eqb, if◌then◌else◌, is_some}
+use Rattle.std.proofs.Common.{◌≡◌, ◌≢◌, ◌∙◌, sym, ap, refl, ℕ, ◌+◌, ◌<◌, inl, inr, arith, Bool, true, false, List, [], Option, Some, None, ◌||◌, not, eqb, if◌then◌else◌, is_some}
 use Rattle.std.specs.Prelude.{◌↔◌, Contains, IfSome, option_and_then}
 use Rattle.std.proofs.lemmas.{Bool.false≢true, Bool.false_from_ne_true, Bool.cond_both, Bool.not-true, Bool.not_from_false, Bool.or_cases, Bool.or_left, Bool.or_right, Bool.eqb-false, Bool.ne_eqb}
 use Rattle.std.proofs.lemmas.List.Kept.{AllPairs-filter}

@@ -1,12 +1,12 @@
 -- 18: who is next.
-use Rattle.std.proofs.Common.{◌≡◌, ◌≢◌, ◌∙◌, sym, ap, refl, subst, ℕ, ◌<◌, ◌≤◌, ◌⊎◌, inl, inr, arith, Bool, true, false, List, Option, Some, None}
+use Rattle.std.proofs.Common.{◌≡◌, ◌≢◌, ◌∙◌, sym, ap, refl, subst, ℕ, ◌<◌, ◌≤◌, ◌⊎◌, inl, inr, arith, true, false, List, Option, Some, None}
 use Rattle.std.specs.Option.{option_map_or}
 use Rattle.std.proofs.lemmas.{Bool.false≢true, Bool.cases_Bool, Bool.ne_eqb}
 use Rattle.rent_table.specs.{Table.limits_on}
 use Rattle.wait_list.specs.{declared.applicant.Applicant.Applicant, declared.ask.Candidate.Candidate, declared.targets.Targets.Targets, Next.Asked, Waiting.ActsRise}
 use Rattle.wait_list.specs.RightfulNext.{IsOfGroup, IsAhead, NobodyIsNext, FamilyIsNext, MoverIsNext, IsRightAnswer}
 use Rattle.wait_list.proofs.PlainNext.{next_is_plain}
-use Rattle.office_step.specs.{declared.refusal.Refusal.Refusal, Candidates.asked_of, Candidates.targets_of, Refusals.refused_unless, Against.Moving, Against.moving_of, Against.is_same_candidate, Against.next_for, Against.other_next}
+use Rattle.office_step.specs.{declared.refusal.Refusal.Refusal, Candidates.asked_of, Candidates.targets_of, Against.Moving, Against.moving_of, Against.is_same_candidate, Against.next_for, Against.other_next}
 use Rattle.office_step.proofs.Exactly.{Options.refused_unless-some, Options.refused_unless-from, Options.and_then-some, Options.and_then-from, Options.risen_key, Numbered.found_by_number, Units.is_move, Units.moving}
 use Rattle.office_step.specs.plain.Turns.{NotNextIsPlain}
 

@@ -1,5 +1,5 @@
 -- 15 and 16: a unit's name, and how many persons it is for.
-use Rattle.std.proofs.Common.{◌≡◌, ◌∙◌, sym, ap, refl, ℕ, zero, suc, ◌<◌, ◌⊎◌, inl, inr, arith, Bool, false, List, [], ◌∷◌, Option, Some, ◌&&◌, nat_le}
+use Rattle.std.proofs.Common.{◌≡◌, ◌∙◌, sym, ap, refl, ℕ, zero, suc, ◌<◌, ◌⊎◌, inl, inr, arith, Bool, false, List, [], ◌∷◌, Some, ◌&&◌, nat_le}
 use Rattle.std.specs.Prelude.{option_and_then, slice_get, slice_index_or}
 use Rattle.std.specs.Option.{option_map}
 use Rattle.std.proofs.lemmas.{Option.same_Some, Option.none-some}

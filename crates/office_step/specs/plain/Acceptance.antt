@@ -6,7 +6,7 @@ use Rattle.wait_list.specs.Waiting.{ActsRise}
 use Rattle.book_rows.specs.{declared.rows.ActRow.ActRow, declared.rows.Batch.Batch, Book.Book}
 use Rattle.office_step.specs.{declared.call.Call.Call, declared.call.Capacity.Capacity, declared.refusal.Refusal.Refusal, Known.UnitsAreNumbered, Known.known_of, Made.lines_of, Matter.Matter, Matter.matter_of, Matter.own, Against.tests_on, Refusals.first_of}
 use Rattle.office_step.specs.Step.{act_day, step, appends, refused}
-use Rattle.office_step.specs.plain.{Counting.AllInTurn, Planned.ComesBeforePlan, Planned.IsSecondPlan, Planned.HasNoRoom, Named.NamesNothing, Seen.MissedNewer, Seen.SawNoSuch, Facts.BreaksRule, Days.TellsOutside, Standing.HasNoRents, Standing.HasNoLimits, Standing.DoesNotCount, Rightful.AreKnownDays, Rightful.BeginsOnAnother, Tenancy.PutsOutOfPlace, Tenancy.GivesUnitTwice, Units.TakesName, Units.IsForOthers, Turns.PassesOver, Admitted.IsAboveLimit, Admitted.BearsAll, Months.ClosesAnother, Closing.ClosesOverRents, Closing.ClosesOverAnnual}
+use Rattle.office_step.specs.plain.{Counting.AllInTurn, Planned.ComesBeforePlan, Planned.IsSecondPlan, Planned.HasNoRoom, Named.NamesNothing, Seen.MissedNewer, Seen.SawNoSuch, Facts.BreaksRule, Days.TellsOutside, Standing.HasNoRents, Standing.HasNoLimits, Standing.DoesNotCount, Rightful.AreKnownDays, Rightful.BeginsOnAnother, Tenancy.PutsOutOfPlace, Tenancy.GivesUnitTwice, Units.TakesName, Units.IsForOthers, Turns.PassesOver, Admitted.IsAboveLimit, Admitted.GetsNothing, Months.ClosesAnother, Closing.ClosesOverRents, Closing.ClosesOverAnnual}
 
 -- that refusal stands against the act, on that day and where a book may hold so many acts
 pub data StandsAgainst (most today : ℕ) (about : Matter) (refusal : Refusal) : Type 0 where
@@ -28,7 +28,7 @@ pub data StandsAgainst (most today : ℕ) (about : Matter) (refusal : Refusal) :
   unit_taken : GivesUnitTwice about refusal → StandsAgainst most today about refusal
   not_next : PassesOver about refusal → StandsAgainst most today about refusal
   ineligible : IsAboveLimit about refusal → StandsAgainst most today about refusal
-  no_assistance : BearsAll about refusal → StandsAgainst most today about refusal
+  no_assistance : GetsNothing about refusal → StandsAgainst most today about refusal
   wrong_month : ClosesAnother about refusal → StandsAgainst most today about refusal
   rent_due : ClosesOverRents about refusal → StandsAgainst most today about refusal
   overdue : ClosesOverAnnual about refusal → StandsAgainst most today about refusal

@@ -1,5 +1,5 @@
 -- When incomes and rents stand against an admission or a resumed certification, in plain facts (docs/REFUSALS.md, 19 and 20).
-use Rattle.std.specs.Prelude.{ℕ, ◌≡◌, ◌↔◌, ◌+◌, ◌-◌, ◌≤◌, ◌<◌, true, false, Some, slice_index_or}
+use Rattle.std.specs.Prelude.{ℕ, ◌≡◌, ◌↔◌, ◌+◌, ◌-◌, ◌<◌, true, false, Some, slice_index_or}
 use Rattle.record_history.specs.declared.records.Record.{Record}
 use Rattle.rent_table.specs.{declared.plan.Plan.Plan, declared.rows.LimitRow.LimitRow, Table.LimitActsRise, Standing.SetsLimitsOn}
 use Rattle.office_step.specs.{declared.refusal.Refusal.Refusal, Matter.Matter, Made.record_in, Against.ineligible, Against.no_assistance}
@@ -24,13 +24,13 @@ pub record IsAboveLimit (about : Matter) (refusal : Refusal) : Type 0 where
 abbrev pub IneligibleIsPlain : Type 0
 IneligibleIsPlain = (about : Matter) (refusal : Refusal) → LimitActsRise about.known.limits → (ineligible about ≡ Some refusal) ↔ IsAboveLimit about refusal
 
--- 20: assistance begins by the act, and the total tenant payment is at least the gross rent
-pub record BearsAll (about : Matter) (refusal : Refusal) : Type 0 where
+-- 20: assistance begins by the act, and there is none to pay
+pub record GetsNothing (about : Matter) (refusal : Refusal) : Type 0 where
   pub made : Record
   pub told : refusal ≡ Refusal.NoAssistance made.ttp (made.rents.contract_rent + made.rents.utility)
   pub begins : about.begins ≡ true
   pub makes : record_in about ≡ Some made
-  pub borne : made.rents.contract_rent + made.rents.utility ≤ made.ttp
+  pub unpaid : made.assistance ≡ 0
 
 abbrev pub NoAssistanceIsPlain : Type 0
-NoAssistanceIsPlain = (about : Matter) (refusal : Refusal) → (no_assistance about ≡ Some refusal) ↔ BearsAll about refusal
+NoAssistanceIsPlain = (about : Matter) (refusal : Refusal) → (no_assistance about ≡ Some refusal) ↔ GetsNothing about refusal

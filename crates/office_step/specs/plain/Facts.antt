@@ -1,6 +1,6 @@
 -- When a rule of the facts stands against an act, in plain facts (docs/REFUSALS.md, 8; docs/RULES.md, "Facts that are
 -- refused").
-use Rattle.std.specs.Prelude.{ℕ, ◌≡◌, ◌↔◌, ◌≤◌, ◌<◌, ◌⊎◌, Bool, true, false, Some, length, count_by, Contains, slice_get}
+use Rattle.std.specs.Prelude.{ℕ, ◌≡◌, ◌≢◌, ◌↔◌, ◌≤◌, ◌<◌, ◌⊎◌, Bool, true, false, Some, length, count_by, Contains, slice_get}
 use Rattle.facts_core.specs.declared.{members.Member.Member, members.Relation.Relation, incomes.Income.Income, property.Asset.Asset, property.Disposal.Disposal, facts.Facts.Facts}
 use Rattle.office_step.specs.{declared.refusal.Refusal.Refusal, Matter.Matter, Matter.from_facts, Against.facts_rule}
 
@@ -42,7 +42,7 @@ pub record AreFew (facts : Facts) : Type 0 where
   pub assets : length facts.assets ≤ 40
   pub disposals : length facts.disposals ≤ 40
 
--- the seven rules
+-- the eight rules
 pub data Rule : Type 0 where
   head : Rule
   partners : Rule
@@ -51,6 +51,7 @@ pub data Rule : Type 0 where
   disposals : Rule
   sizes : Rule
   births : Rule
+  eligible : Rule
 
 abbrev pub number_of : Rule → ℕ
 number_of head = 1
@@ -60,6 +61,7 @@ number_of amounts = 4
 number_of disposals = 5
 number_of sizes = 6
 number_of births = 7
+number_of eligible = 8
 
 -- the facts keep it on the day
 abbrev pub Keep : Facts → ℕ → Rule → Type 0
@@ -70,6 +72,7 @@ Keep facts day amounts = HaveAmounts facts
 Keep facts day disposals = (disposal : Disposal) → Contains facts.disposals disposal → disposal.received ≤ disposal.value
 Keep facts day sizes = AreFew facts
 Keep facts day births = (member : Member) → Contains facts.members member → member.born ≤ day
+Keep facts day eligible = (member : Member) × Contains facts.members member × (member.relation ≢ Relation.Aide) × (member.eligible ≡ true)
 
 -- 8: the first rule that the facts break on the first day of the record
 pub record BreaksRule (about : Matter) (refusal : Refusal) : Type 0 where
