@@ -57,7 +57,7 @@ pub fn ineligible(about: &Matter, made: &Option<Record>) -> Option<Refusal>
     refused_if(limit < annual, Refusal::Ineligible { limit, annual })
 }
 
-/// Refused if assistance would begin for a household that bears the whole gross rent.
+/// Refused if assistance would begin for a household for which there is none to pay.
 pub fn no_assistance(about: &Matter, made: &Option<Record>) -> Option<Refusal>
     requires value { made.now ≡ record_in (matter_by about.now) }
     requires made { IfSome made.now (IsMade about.now.register.now.known) }
@@ -68,5 +68,5 @@ pub fn no_assistance(about: &Matter, made: &Option<Record>) -> Option<Refusal>
     }
     let made = made.as_ref()?;
     let (ttp, gross) = (made.ttp, made.rents.contract_rent + made.rents.utility);
-    refused_if(gross <= ttp, Refusal::NoAssistance { ttp, gross })
+    refused_if(made.assistance == 0, Refusal::NoAssistance { ttp, gross })
 }

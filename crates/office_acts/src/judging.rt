@@ -21,11 +21,11 @@ use crate::names::{book_full, no_plan, no_such, plan_given, stale, unseen};
 use crate::places::{disorder, name_taken, size_misfit, unit_taken};
 use crate::records::record_in;
 use crate::terms::{day_range, facts_rule, no_limits, no_rent, not_live, wrong_day};
+use admission_order::office_refusals::Basis;
 use admission_order::office_register::Register;
 use admission_order::office_step::{MoveIn, Refusal};
 use book_rows::Command;
 use days_core::{Day, Month};
-use facts_core::Facts;
 use plain_data::Text;
 use record_history::{Dates, Kind, Record};
 use wait_list::Candidate;
@@ -73,7 +73,7 @@ fn judge_any(
 {
     let about = matter_of(register, command);
     // The check of loans refuses a type that the function doesn't name.
-    let (_name, _facts): (Option<&Text>, Option<&Facts>) = (about.name, about.facts);
+    let (_name, _basis): (Option<&Text>, Basis) = (about.name, about.basis);
     judge_matter(&about, most, today)
 }
 

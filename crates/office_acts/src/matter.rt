@@ -4,13 +4,13 @@ ghost use Rattle.std.specs.Prelude.{◌≡◌, ◌+◌, ◌<◌, Some};
 ghost use Rattle.days_core.specs.OfficeDays.{last_office_day};
 ghost use Rattle.book_rows.specs.declared.{command.Command.Command, household.HouseholdChange.HouseholdChange};
 ghost use Rattle.office_acts.specs.Matter.{matter_by};
-ghost use Rattle.admission_order.specs.Below.office_step.Matter.{from_facts, carried, quiet, recording, resumed_dates, move_in, said_in, said_by, matter_of};
+ghost use Rattle.admission_order.specs.Below.office_step.Matter.{quiet, recording, resumed_dates, move_in, said_in, said_by, matter_of};
 
+use admission_order::office_refusals::{Basis, basis_of};
 use admission_order::office_register::Register;
 use admission_order::office_step::MoveIn;
 use book_rows::{AdmitAct, Command, HouseholdChange, TransferAct};
 use days_core::{Day, Month};
-use facts_core::Facts;
 use plain_data::Text;
 use record_history::{Dates, Kind};
 use wait_list::Candidate;
@@ -32,9 +32,7 @@ pub struct Matter<'a> {
     pub from: Option<Day>,
     pub last: Option<Day>,
     pub kind: Option<Kind>,
-    pub facts: Option<&'a Facts>,
-    /// Whether it carries over what was certified before.
-    pub carries: bool,
+    pub basis: Basis<'a>,
     pub moves: Option<MoveIn>,
     pub begins: bool,
 }
@@ -42,6 +40,16 @@ pub struct Matter<'a> {
 /// What the command is about.
 pub fn matter_of<'a>(register: &'a Register, command: &'a Command) -> Matter<'a>
     ensures { matter_by result ≡ matter_of register.now.known command.now }
+{
+    Matter {
+        basis: basis_of(command),
+        ..said_by(register, command)
+    }
+}
+
+/// What it says, but for what its record rests on.
+fn said_by<'a>(register: &'a Register, command: &'a Command) -> Matter<'a>
+    ensures { matter_by result ≡ said_by register.now.known command.now }
 {
     let quiet = quiet(register);
     match command {
@@ -62,7 +70,7 @@ pub fn matter_of<'a>(register: &'a Register, command: &'a Command) -> Matter<'a>
         },
         Command::Start(start) => Matter {
             unit: Some(start.unit),
-            ..certifying(register, Kind::IC, start.from, &start.facts)
+            ..recording(register, Kind::IC, start.from)
         },
         Command::Admit(admit) => admitting(register, admit),
         Command::AskTransfer(ask) => Matter {
@@ -86,23 +94,20 @@ fn change_of<'a>(register: &'a Register, household: u32, change: &'a HouseholdCh
     ensures { matter_by result ≡ said_in register.now.known household change.now }
 {
     match change {
-        HouseholdChange::Annual(annual) => {
-            certifying(register, Kind::AR, annual.from, &annual.facts)
-        }
+        HouseholdChange::Annual(annual) => recording(register, Kind::AR, annual.from),
         HouseholdChange::Interim(interim) => Matter {
             told: Some(interim.dates),
-            ..certifying(register, Kind::IR, interim.from, &interim.facts)
+            ..recording(register, Kind::IR, interim.from)
         },
         HouseholdChange::Resume(resume) => Matter {
             told: resumed_dates(resume.done),
             begins: true,
-            ..certifying(register, Kind::IC, resume.from, &resume.facts)
+            ..recording(register, Kind::IC, resume.from)
         },
-        HouseholdChange::Gross(gross) => carrying(register, Kind::GR, gross.from),
+        HouseholdChange::Gross(gross) => recording(register, Kind::GR, gross.from),
         HouseholdChange::Correct(correct) => Matter {
             target: Some(correct.target),
             from: Some(correct.from),
-            facts: Some(&correct.facts),
             ..quiet(register)
         },
         HouseholdChange::Transfer(transfer) => transferring(register, household, *transfer),
@@ -111,11 +116,7 @@ fn change_of<'a>(register: &'a Register, household: u32, change: &'a HouseholdCh
             last: Some(move_out.last),
             ..quiet(register)
         },
-        HouseholdChange::Terminate(terminate) => Matter {
-            kind: Some(Kind::TM),
-            from: Some(terminate.from),
-            ..quiet(register)
-        },
+        HouseholdChange::Terminate(terminate) => recording(register, Kind::TM, terminate.from),
         HouseholdChange::Withdraw(withdraw) => Matter {
             kind: Some(Kind::WD),
             target: Some(withdraw.target),
@@ -144,7 +145,7 @@ fn admitting<'a>(register: &'a Register, admit: &'a AdmitAct) -> Matter<'a>
         unit: Some(admit.unit),
         moves: move_in(candidate, admit.unit, admit.from),
         begins: true,
-        ..certifying(register, Kind::MI, admit.from, &admit.facts)
+        ..recording(register, Kind::MI, admit.from)
     }
 }
 
@@ -156,30 +157,17 @@ fn transferring(register: &Register, household: u32, transfer: TransferAct) -> M
     Matter {
         unit: Some(transfer.unit),
         moves: move_in(candidate, transfer.unit, transfer.from),
-        ..carrying(register, Kind::UT, transfer.from)
+        ..recording(register, Kind::UT, transfer.from)
     }
 }
 
-/// One that makes a record by facts.
-fn certifying<'a>(register: &'a Register, kind: Kind, from: Day, facts: &'a Facts) -> Matter<'a>
-    ensures { matter_by result ≡ recording register.now.known kind from (from_facts facts.now) }
+/// One that makes a record of that kind and first day.
+fn recording(register: &Register, kind: Kind, from: Day) -> Matter
+    ensures { matter_by result ≡ recording register.now.known kind from }
 {
     Matter {
         kind: Some(kind),
         from: Some(from),
-        facts: Some(facts),
-        ..quiet(register)
-    }
-}
-
-/// One that makes a record by what was certified before.
-fn carrying(register: &Register, kind: Kind, from: Day) -> Matter
-    ensures { matter_by result ≡ recording register.now.known kind from carried }
-{
-    Matter {
-        kind: Some(kind),
-        from: Some(from),
-        carries: true,
         ..quiet(register)
     }
 }
@@ -203,8 +191,7 @@ fn quiet(register: &Register) -> Matter
         from: None,
         last: None,
         kind: None,
-        facts: None,
-        carries: false,
+        basis: Basis::Nothing,
         moves: None,
         begins: false,
     }
@@ -260,7 +247,10 @@ impl Matter<'_> {
     pub fn certifies(&self) -> bool
         ensures { result ≡ certifies (matter_by self.now).basis }
     {
-        self.facts.is_some() || self.carries
+        match self.basis {
+            Basis::Facts(_) | Basis::Carried => true,
+            Basis::Nothing => false,
+        }
     }
 
     /// The first day of its record.

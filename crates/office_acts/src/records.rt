@@ -14,7 +14,9 @@ ghost use Rattle.office_acts.specs.Matter.{matter_by};
 ghost use Rattle.record_history.specs.Limits.{most_acts};
 
 use crate::matter::Matter;
-use admission_order::office_refusals::{continued, entry, rents_in_unit, told_extremely_low};
+use admission_order::office_refusals::{
+    Basis, continued, entry, rents_in_unit, told_extremely_low,
+};
 use admission_order::office_register::Register;
 use admission_order::office_step::Heading;
 use certified_figures::{Figures, figures_carried, figures_of_facts, no_figures};
@@ -32,10 +34,10 @@ pub fn record_in(about: &Matter, heading: &Option<Heading>) -> Option<Record>
     ensures size { IfSome result (HasSizeBy (matter_by about.now).basis) }
 {
     let heading = heading.as_ref()?;
-    match about.facts {
-        Some(facts) => made_of_facts(about.register, heading, facts),
-        None if about.carries => made_of_carried(about.register, heading),
-        None => Some(made_of_nothing(about.register, heading)),
+    match about.basis {
+        Basis::Facts(facts) => made_of_facts(about.register, heading, facts),
+        Basis::Carried => made_of_carried(about.register, heading),
+        Basis::Nothing => Some(made_of_nothing(about.register, heading)),
     }
 }
 
@@ -65,7 +67,7 @@ fn made_of_carried(register: &Register, heading: &Heading) -> Option<Record>
 {
     let held = continued(register.history(), heading.household, heading.from)?;
     let rents = rents_on(register, heading.unit, heading.from)?;
-    let figures = figures_carried(held, rents);
+    let figures = figures_carried(held, register.eligible_of_record(held), rents);
     Some(made_with(register, heading, false, &figures))
 }
 

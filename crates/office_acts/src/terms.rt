@@ -17,12 +17,12 @@ use crate::lookups::target_in;
 use crate::matter::Matter;
 use crate::refusing::refused_unless;
 use admission_order::office_refusals::{
-    annual_right, corrected_right, interim_right, resume_right,
+    Basis, annual_right, corrected_right, interim_right, resume_right,
 };
 use admission_order::office_step::{Heading, Refusal, Rightful};
 use days_core::{Day, FIRST_OFFICE_DAY, LAST_OFFICE_DAY, Month};
 use due_dates::gross_day;
-use facts_core::{Facts, broken_rule};
+use facts_core::broken_rule;
 use record_history::{Dates, Kind, Record};
 use wait_list::Candidate;
 
@@ -34,8 +34,12 @@ pub fn facts_rule(about: &Matter) -> Option<Refusal>
     ensures { result ≡ facts_rule (matter_by about.now) }
 {
     let from = about.from?;
-    let rule = broken_rule(about.facts?, from)?;
-    Some(Refusal::FactsRule { rule })
+    match about.basis {
+        Basis::Facts(facts) => Some(Refusal::FactsRule {
+            rule: broken_rule(facts, from)?,
+        }),
+        _ => None,
+    }
 }
 
 /// Refused if a day lies outside its range, in the order of the fields.

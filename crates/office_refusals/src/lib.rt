@@ -1,6 +1,7 @@
 //! Rightful days, what a closing waits for, and what a record is made of, by the tables that they read.
 #![tactic(auto)]
 
+mod basis;
 mod book;
 mod closing;
 mod days;
@@ -11,6 +12,7 @@ mod named;
 mod reply;
 mod rightful;
 
+pub use basis::{Basis, basis_of};
 pub use book::lines_full;
 pub use closing::{household_rent_due, next_to_close};
 pub use days::act_day;

@@ -1,10 +1,11 @@
 -- That the record of an accepted act is the next of its household.
-use Rattle.office_register.proofs.Words.{◌≡◌, ◌∙◌, sym, refl, ℕ, ◌≤◌, ◌<◌, List, Option, Some, None, Bool, true, arith, length, is_some, Record, UnitRow, RentRow, StartAct, AdmitAct, Command, Known, HouseholdAct, household_there, are_there, IsAccepted, IsNext, common_steps, not, option_and_then, test_passed, unit_at, rents_on}
+use Rattle.office_register.proofs.Words.{◌≡◌, ◌∙◌, sym, refl, ℕ, ◌≤◌, ◌<◌, List, Option, Some, None, Bool, true, arith, length, is_some, Record, UnitRow, RentRow, StartAct, AdmitAct, Command, Known, HouseholdAct, household_there, are_there, IsAccepted, IsNext, common_steps, not, option_and_then, test_passed, unit_at, rents_on, AllEligible, AreEligible}
 use Rattle.facts_core.specs.declared.facts.Facts.{Facts}
 use Rattle.due_dates.specs.Stale.{unit_rents_on}
-use Rattle.office_refusals.specs.Below.office_step.{declared.heading.Heading.Heading, Known.own_in, Matter.Matter, Matter.matter_of, Against.no_rent_on, Refusals.refused_if, Refusals.refused_unless, declared.refusal.Named.Named, declared.refusal.Refusal.Refusal}
+use Rattle.office_refusals.specs.Below.office_step.{declared.heading.Heading.Heading, Known.own_in, Matter.Matter, Matter.matter_of, After.eligible_next, Against.no_rent_on, Refusals.refused_if, Refusals.refused_unless, declared.refusal.Named.Named, declared.refusal.Refusal.Refusal}
 use Rattle.office_refusals.specs.Below.office_step.Made.{record_of, rents_in_unit, made_of_facts, heading_of}
 use Rattle.office_refusals.proofs.Below.office_step.{Earlier.under_it, Earlier.names_earlier, Headed.IsHeaded, Headed.IsUnder, Headed.made_is_headed, Headed.IsNextUnder, Headed.next_under, Headed.of_household, Headed.under_own}
+use Rattle.office_refusals.proofs.Below.office_step.Members.{eligible_made}
 use Rattle.record_history.specs.Held.{AreNumbered}
 use Rattle.office_register.proofs.Standing.{passes}
 
@@ -90,3 +91,11 @@ module _ (known : Known) (same : is_some known.plan_act ≡ is_some known.plan) 
   admission_makes admit made accepted =
       let about : Matter = matter_of known (Command.Admit admit) in
       new_makes admit.facts _ (passes accepted).no_plan (are_there about (passes accepted).no_such).unit (passes accepted).no_rent
+
+-- ---- eligible members
+
+-- of the family of the record that an accepted act makes some are eligible, and no more than it has members
+pub fits : (known : Known) (asked : Command) (made : Option Record) (r : Record) (eligible : ℕ) → AllEligible known.eligible known.households →
+    IsAccepted known asked made → made ≡ Some r → eligible ≡ eligible_next known asked made → AreEligible eligible r.size
+fits known asked made r eligible all accepted is same =
+    rw (same, is) (eligible_made known asked r all (passes accepted).facts_rule (sym accepted.is_made ∙ is))

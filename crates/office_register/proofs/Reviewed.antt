@@ -57,23 +57,23 @@ module _ (known : Known) (reviewed : Option Reviewed) (is : IfSome reviewed (IsR
   reviewed_alike after count first units rents households =
       reviewed_with after count first units rents (λ act household by old. ap (λ (lists : List (List Record)). records_of lists household) households)
 
-  pub reviewed_further : (r : Record) → r.act ≡ known.count + 1 → IfSome reviewed (IsReviewed (with_further known r))
-  reviewed_further r act =
-      reviewed_with (with_further known r) (omega arith) refl refl refl (λ seen household by old.
+  pub reviewed_further : (r : Record) (eligible : ℕ) → r.act ≡ known.count + 1 → IfSome reviewed (IsReviewed (with_further known r eligible))
+  reviewed_further r eligible act =
+      reviewed_with (with_further known r eligible) (omega arith) refl refl refl (λ seen household by old.
       no_newer known.households r seen household (omega (arith, act, by)) old)
 
-  pub reviewed_household : (name : List ℕ) (r : Record) → r.act ≡ known.count + 1 → IfSome reviewed (IsReviewed (with_household known name r))
-  reviewed_household name r act =
-      reviewed_with (with_household known name r) (omega arith) refl refl refl (λ seen household by old.
+  pub reviewed_household : (name : List ℕ) (r : Record) (eligible : ℕ) → r.act ≡ known.count + 1 → IfSome reviewed (IsReviewed (with_household known name r eligible))
+  reviewed_household name r eligible act =
+      reviewed_with (with_household known name r eligible) (omega arith) refl refl refl (λ seen household by old.
       no_newer (known.households ++ [] ∷ []) r seen household (omega (arith, act, by)) old ∙ none_yet known.households household)
 
   -- that gives rents from a day on which the review has not come to
   pub reviewed_rents : (row : RentRow) → IfSome reviewed (EndsBefore known row.from) →
-      IfSome reviewed (IsReviewed (record known { count = known.count + 1; rents = known.rents ++ row ∷ [] }))
+      IfSome reviewed (IsReviewed (record known { count = known.count + 1; rents = known.rents ++ row ∷ []; eligible = known.eligible ++ 0 ∷ [] }))
   reviewed_rents row ends = by_review reviewed is ends
     where
       by_review : (reviewed : Option Reviewed) → IfSome reviewed (IsReviewed known) → IfSome reviewed (EndsBefore known row.from) →
-          IfSome reviewed (IsReviewed (record known { count = known.count + 1; rents = known.rents ++ row ∷ [] }))
+          IfSome reviewed (IsReviewed (record known { count = known.count + 1; rents = known.rents ++ row ∷ []; eligible = known.eligible ++ 0 ∷ [] }))
       by_review None is ends = tt
       by_review (Some looked) is ends = record {
         act = omega (arith, is.act);
@@ -85,7 +85,7 @@ module _ (known : Known) (reviewed : Option Reviewed) (is : IfSome reviewed (IsR
 -- the closing that was accepted finds no stale rents before the day
 pub reviewed_now : (known : Known) (close : CloseAct) (next : ℕ) → rents_due known close.month ≡ None → plan_day known ≤ next →
     ((day : ℕ) → day < next → plan_day known ≤ day → day ≤ last_of close.month) →
-    IsReviewed (record known { count = known.count + 1; closing = Some (record { month = close.month; act = known.count + 1 }) }) (record { act = known.count + 1; next = next })
+    IsReviewed (record known { count = known.count + 1; eligible = known.eligible ++ 0 ∷ []; closing = Some (record { month = close.month; act = known.count + 1 }) }) (record { act = known.count + 1; next = next })
 reviewed_now known close next none from behind = record {
   act = omega arith;
   first = from;

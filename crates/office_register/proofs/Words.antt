@@ -14,5 +14,7 @@ pub use Rattle.record_history.specs.declared.records.Record.{Record}
 pub use Rattle.rent_table.specs.{Table.unit_at, Table.rents_on, declared.plan.Plan.Plan, declared.rows.RentRow.RentRow, declared.rows.Unit.Unit as UnitRow}
 pub use Rattle.wait_list.specs.{Waiting.without, Waiting.is_listed, declared.applicant.Applicant.Applicant}
 pub use Rattle.office_register.specs.Accepted.{applicant_name, with_household, with_further, IsAccepted, IsNext}
-pub use Rattle.office_register.specs.Registered.{HasDates, AreUnits, AreRents, AreLimits, AreApplicants, AreHouseholds, IsClosing, IsSound, IsRegister, Registered}
+pub use Rattle.office_register.specs.Registered.{HasDates, AreUnits, AreRents, AreLimits, AreApplicants, AreHouseholds, AreMembers, IsClosing, IsSound, IsRegister, Registered}
+pub use Rattle.certified_figures.specs.Figures.{AreEligible}
+pub use Rattle.office_refusals.specs.Below.office_step.Eligible.{AllEligible}
 pub use Rattle.office_register.specs.View.{known_in}

@@ -28,15 +28,20 @@ pub record IsNext (known : Known) (r : Record) : Type 0 where
   pub act : r.act ≡ next_act known
   pub earlier : r.corrects < r.number
 
--- what is known with a household more, of that name and first record
-abbrev pub with_household : Known → List ℕ → Record → Known
-with_household known name r = record known {
+-- what is known with a household more, of that name and first record, of whose members so many are eligible
+abbrev pub with_household : Known → List ℕ → Record → ℕ → Known
+with_household known name r eligible = record known {
   count = next_act known;
   names = known.names ++ name ∷ [];
   households = with_record (known.households ++ [] ∷ []) r;
   requests = known.requests ++ None ∷ [];
+  eligible = known.eligible ++ eligible ∷ [];
 }
 
 -- what is known with a record more of a household that there is
-abbrev pub with_further : Known → Record → Known
-with_further known r = record known { count = next_act known; households = with_record known.households r }
+abbrev pub with_further : Known → Record → ℕ → Known
+with_further known r eligible = record known {
+  count = next_act known;
+  households = with_record known.households r;
+  eligible = known.eligible ++ eligible ∷ [];
+}

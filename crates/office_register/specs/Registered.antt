@@ -7,7 +7,7 @@ use Rattle.wait_list.specs.declared.applicant.Applicant.{Applicant}
 use Rattle.book_rows.specs.Fit.{is_plan, are_rents}
 use Rattle.due_dates.specs.Stale.{is_rent_stale_on, rent_due_day_of}
 use Rattle.record_history.specs.Records.{newest_act}
-use Rattle.office_refusals.specs.Below.office_step.{declared.known.Application.Application, declared.known.Request.Request, declared.known.Closed.Closed, Known.Known, Known.own_in, Households.AreBy, Against.plan_day, Refusals.annual_right}
+use Rattle.office_refusals.specs.Below.office_step.{declared.known.Application.Application, declared.known.Request.Request, declared.known.Closed.Closed, Known.Known, Known.own_in, Households.AreBy, Eligible.AllEligible, Against.plan_day, Refusals.annual_right}
 use Rattle.office_register.specs.declared.register.Reviewed.{Reviewed}
 use Rattle.record_history.specs.Limits.{most_acts}
 
@@ -54,6 +54,11 @@ pub record AreHouseholds (count : ℕ) (names : List (List ℕ)) (households : L
   pub acts : All (All (λ r. r.act ≤ count)) households
   pub dates : All (All HasDates) households
 
+-- each act has the eligible members of its record
+pub record AreMembers (count : ℕ) (eligible : List ℕ) (households : List (List Record)) : Type 0 where
+  pub one_each : length eligible ≡ count
+  pub all : AllEligible eligible households
+
 -- a month up to 2099-12 was closed by one of the acts
 pub record IsClosing (count : ℕ) (closing : Closed) : Type 0 where
   pub month : closing.month ≤ last_office_month
@@ -69,6 +74,7 @@ pub record IsSound (known : Known) : Type 0 where
   pub limits : AreLimits known.count known.limits
   pub applicants : AreApplicants known.count known.applications known.waiting
   pub households : AreHouseholds known.count known.names known.households known.requests
+  pub members : AreMembers known.count known.eligible known.households
   pub closing : IfSome known.closing (IsClosing known.count)
 
 -- the least day of the span on which the household's rents are stale

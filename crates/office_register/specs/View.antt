@@ -16,6 +16,7 @@ known_in register = record {
   names = register.names.items;
   households = register.tenancies.households;
   requests = register.requests.items;
+  eligible = register.eligible.items;
   closing = register.closing;
 }
 
@@ -26,4 +27,5 @@ room_in register =
     (min (min register.table.unit_room (min register.table.rent_room register.table.limit_room))
     (min (vec_capacity register.applications - vec_len register.applications)
     (min (vec_capacity register.names - vec_len register.names)
-    (min (vec_capacity register.requests - vec_len register.requests) (vec_capacity register.annuals - vec_len register.annuals)))))
+    (min (vec_capacity register.requests - vec_len register.requests)
+    (min (vec_capacity register.annuals - vec_len register.annuals) (vec_capacity register.eligible - vec_len register.eligible))))))

@@ -9,8 +9,9 @@ use book_rows::{
     RentsAct, StartAct, UnitAct,
 };
 use days_core::{Day, Month, first_of};
-use office_refusals::annual_right;
+use facts_core::{Facts, eligible_members};
 use office_refusals::office_step::{Application, Closed, Request};
+use office_refusals::{Basis, annual_right, basis_of, continued};
 use plain_data::{Listed, NoMemory, Text};
 use record_history::{Dates, History, Record};
 use rent_table::{LimitRow, Plan, RentRow, RentTable, Unit};
@@ -32,6 +33,8 @@ pub struct Register {
     names: Vec<Text>,
     tenancies: Tenancies,
     requests: Vec<Option<Request>>,
+    // Of each act the eligible members of the record that it made, and 0 where it made none.
+    eligible: Vec<u32>,
     closing: Option<Closed>,
     reviewed: Option<Reviewed>,
     // The rightful day of each household's next annual, where it has one.
@@ -73,7 +76,11 @@ impl Register {
     ghost use Rattle.office_refusals.specs.Below.office_step.Known.{known_of, own_in};
     ghost use Rattle.office_refusals.specs.Below.office_step.Against.{plan_day};
     ghost use Rattle.office_refusals.specs.Below.office_step.Refusals.{annual_right};
-    ghost use Rattle.office_refusals.specs.Below.office_step.After.{next_act, known_after};
+    ghost use Rattle.office_refusals.specs.Below.office_step.After.{next_act, known_after, eligible_next};
+    ghost use Rattle.office_refusals.specs.Below.office_step.Eligible.{eligible_of_record, AllEligible};
+    ghost use Rattle.office_refusals.specs.Below.office_step.Households.{continued};
+    ghost use Rattle.certified_figures.specs.Figures.{AreEligible};
+    ghost use Rattle.std.specs.Option.{option_map_or};
     ghost use Rattle.office_register.specs.Registered.{HasDates, IsReviewed, EndsBefore, rent_due_from};
     ghost use Rattle.office_register.specs.Accepted.{IsAccepted, IsNext, with_household, with_further};
     ghost use Rattle.record_history.specs.Limits.{most_acts};
@@ -91,6 +98,7 @@ impl Register {
             names: Vec::new(alloc),
             tenancies: Tenancies::new(alloc)?,
             requests: Vec::new(alloc),
+            eligible: Vec::new(alloc),
             closing: None,
             reviewed: None,
             annuals: Vec::new(alloc),
@@ -212,6 +220,28 @@ impl Register {
         &self.requests
     }
 
+    /// The eligible members of the record's family (24 CFR 5.520).
+    pub fn eligible_of_record(&self, held: &Record) -> u32
+        ensures value { result ≡ eligible_of_record self.now.known.eligible held.now }
+        ensures all { AllEligible self.now.known.eligible self.now.known.households }
+    {
+        // The invariant is known where a field is read.
+        let _numbers = &self.eligible;
+        match self.eligible_by(held.act) {
+            Some(eligible) => *eligible,
+            None => 0,
+        }
+    }
+
+    fn eligible_by(&self, act: u32) -> Option<&u32>
+        ensures { option_copied result ≡ at_number self.now.known.eligible act }
+    {
+        if act == 0 {
+            return None;
+        }
+        self.eligible.get(act as usize - 1)
+    }
+
     /// The last closing.
     pub fn closing(&self) -> Option<Closed>
         ensures closing { result ≡ self.now.known.closing }
@@ -260,6 +290,7 @@ impl Register {
         requires name { name ≡ name_given self.old.known.applications command }
         ensures known { self.new.known ≡ known_after self.old.known command made }
     {
+        let eligible = self.eligible_next(&command, &made);
         match command {
             Command::Plan(plan) => self.note_plan(plan),
             Command::Unit(unit) => self.note_unit(unit),
@@ -267,11 +298,43 @@ impl Register {
             Command::Limits(limits) => self.note_limits(limits),
             Command::Apply(apply) => self.note_application(apply),
             Command::Remove(remove) => self.note_removal(remove),
-            Command::Start(start) => self.note_start(start, made),
-            Command::Admit(admit) => self.note_admission(admit, name, made),
+            Command::Start(start) => self.note_start(start, made, eligible),
+            Command::Admit(admit) => self.note_admission(admit, name, made, eligible),
             Command::AskTransfer(ask) => self.note_request(ask),
             Command::Close(close) => self.note_closing(close),
-            Command::Household(act) => self.note_further(&act, made),
+            Command::Household(act) => self.note_further(&act, made, eligible),
+        }
+    }
+
+    /// The eligible members of the record that the act makes, and 0 if it makes none.
+    fn eligible_next(&self, command: &Command, made: &Option<Record>) -> u32
+        requires accepted { IsAccepted self.now.known command.now made.now }
+        ensures { result ≡ eligible_next self.now.known command.now made.now }
+    {
+        match made {
+            Some(made) => self.eligible_of_next(command, made),
+            None => 0,
+        }
+    }
+
+    fn eligible_of_next(&self, command: &Command, made: &Record) -> u32
+        requires accepted { IsAccepted self.now.known command.now (Some made.now) }
+        ensures { result ≡ eligible_next self.now.known command.now (Some made.now) }
+    {
+        match basis_of(command) {
+            Basis::Facts(facts) => eligible_members(facts),
+            Basis::Carried => self.eligible_continued(made.household, made.from),
+            Basis::Nothing => 0,
+        }
+    }
+
+    /// The eligible members of the record that one of that first day continues.
+    fn eligible_continued(&self, household: u32, from: Day) -> u32
+        ensures { result ≡ option_map_or (eligible_of_record self.now.known.eligible) (continued (own_in self.now.known household) from) 0 }
+    {
+        match continued(self.history(), household, from) {
+            Some(held) => self.eligible_of_record(held),
+            None => 0,
         }
     }
 
@@ -336,27 +399,30 @@ impl Register {
         self.names.reserve(1)?;
         self.requests.reserve(1)?;
         self.annuals.reserve(1)?;
+        self.eligible.reserve(1)?;
         Ok(())
     }
 
-    /// Goes on to the next act, which nothing but its number is kept of.
+    /// Goes on to the next act, which makes no record, and of which nothing but its number is kept.
     fn pass(&mut self)
-        requires { self.old.known.count < most_acts }
-        ensures known { self.new.known ≡ record self.old.known { count = next_act self.old.known } }
-        ensures room { self.new.room ≡ self.old.room }
-        ensures record_room { self.new.record_room ≡ self.old.record_room }
+        requires few { self.old.known.count < most_acts }
+        requires room { 1 ≤ self.old.room }
+        ensures { self.new.known ≡ record self.old.known { count = next_act self.old.known; eligible = self.old.known.eligible ++ 0 ∷ [] } }
     {
         self.count += 1;
+        self.eligible.push_reserved(0);
     }
 
     fn note_plan(&mut self, plan: Plan)
-        requires { IsAccepted self.old.known (command.Plan plan) None }
+        requires room { 1 ≤ self.old.room }
+        requires accepted { IsAccepted self.old.known (command.Plan plan) None }
         ensures { self.new.known ≡ known_after self.old.known (command.Plan plan) None }
     {
         self.count += 1;
         self.plan = Some(plan);
         self.plan_act = Some(self.count);
         self.reviewed = None;
+        self.eligible.push_reserved(0);
     }
 
     fn note_unit(&mut self, unit: UnitAct)
@@ -374,6 +440,7 @@ impl Register {
             accessible: unit.accessible,
         });
         self.reviewed = None;
+        self.eligible.push_reserved(0);
     }
 
     fn note_rents(&mut self, rents: RentsAct)
@@ -390,6 +457,7 @@ impl Register {
             rents: rents.rents,
         });
         self.reviewed = reviewed;
+        self.eligible.push_reserved(0);
     }
 
     /// What is left of the last review where something changes from the day on.
@@ -424,6 +492,7 @@ impl Register {
             very_low,
             extremely_low,
         });
+        self.eligible.push_reserved(0);
     }
 
     fn note_application(&mut self, apply: ApplyAct)
@@ -445,10 +514,12 @@ impl Register {
             act: self.count,
             apply,
         });
+        self.eligible.push_reserved(0);
     }
 
     fn note_removal(&mut self, remove: RemoveAct)
-        requires { IsAccepted self.old.known (command.Remove remove) None }
+        requires room { 1 ≤ self.old.room }
+        requires accepted { IsAccepted self.old.known (command.Remove remove) None }
         ensures { self.new.known ≡ known_after self.old.known (command.Remove remove) None }
     {
         self.take_off(remove.applicant);
@@ -464,7 +535,8 @@ impl Register {
     }
 
     fn note_request(&mut self, ask: AskTransferAct)
-        requires { IsAccepted self.old.known (command.AskTransfer ask) None }
+        requires room { 1 ≤ self.old.room }
+        requires accepted { IsAccepted self.old.known (command.AskTransfer ask) None }
         ensures { self.new.known ≡ known_after self.old.known (command.AskTransfer ask) None }
     {
         self.count += 1;
@@ -473,10 +545,12 @@ impl Register {
             wanted: ask.wanted,
             accessible: ask.accessible,
         });
+        self.eligible.push_reserved(0);
     }
 
     fn note_closing(&mut self, close: CloseAct)
-        requires { IsAccepted self.old.known (command.Close close) None }
+        requires room { 1 ≤ self.old.room }
+        requires accepted { IsAccepted self.old.known (command.Close close) None }
         ensures { self.new.known ≡ known_after self.old.known (command.Close close) None }
     {
         let next = self.day_behind(close.month);
@@ -489,6 +563,7 @@ impl Register {
             act: self.count,
             next,
         });
+        self.eligible.push_reserved(0);
     }
 
     /// The first day behind the month, or the plan's first where that one is later.
@@ -501,36 +576,44 @@ impl Register {
         later_of(self.plan_day(), behind)
     }
 
-    fn note_start(&mut self, start: StartAct, made: Option<Record>)
+    fn note_start(&mut self, start: StartAct, made: Option<Record>, eligible: u32)
         requires room { 1 ≤ self.old.room }
         requires record_room { IfSome made (λ r. 1 ≤ room_of self.old.record_room r.household) }
         requires accepted { IsAccepted self.old.known (command.Start start) made }
         requires within { IfSome made IsWithin }
         requires dates { IfSome made HasDates }
+        requires eligible { eligible ≡ eligible_next self.old.known (command.Start start) made }
         ensures { self.new.known ≡ known_after self.old.known (command.Start start) made }
     {
         // The invariant is known where a field is read: what gave a plan left one.
         let _given = &self.plan_act;
-        self.add_household(start.name, record_in(made));
+        self.add_household(start.name, record_in(made), eligible);
     }
 
-    fn note_admission(&mut self, admit: AdmitAct, name: Option<Text>, made: Option<Record>)
+    fn note_admission(
+        &mut self,
+        admit: AdmitAct,
+        name: Option<Text>,
+        made: Option<Record>,
+        eligible: u32,
+    )
         requires room { 1 ≤ self.old.room }
         requires record_room { IfSome made (λ r. 1 ≤ room_of self.old.record_room r.household) }
         requires accepted { IsAccepted self.old.known (command.Admit admit) made }
         requires within { IfSome made IsWithin }
         requires dates { IfSome made HasDates }
+        requires eligible { eligible ≡ eligible_next self.old.known (command.Admit admit) made }
         requires name { name ≡ Some (applicant_name self.old.known.applications admit.applicant) }
         ensures { self.new.known ≡ known_after self.old.known (command.Admit admit) made }
     {
         // As above.
         let _given = &self.plan_act;
         self.take_off(admit.applicant);
-        self.add_household(name.unwrap(), record_in(made));
+        self.add_household(name.unwrap(), record_in(made), eligible);
     }
 
-    /// Adds the household that comes next, of which this is the first record.
-    fn add_household(&mut self, name: Text, held: Record)
+    /// Adds the household that comes next, of which this is the first record. Of its members so many are eligible.
+    fn add_household(&mut self, name: Text, held: Record, eligible: u32)
         requires few { self.old.known.count < most_acts }
         requires room { 1 ≤ self.old.room }
         requires record_room { 1 ≤ room_of self.old.record_room held.household }
@@ -538,7 +621,8 @@ impl Register {
         requires next { IsNext self.old.known held }
         requires within { IsWithin held }
         requires dates { HasDates held }
-        ensures { self.new.known ≡ with_household self.old.known name held }
+        requires eligible { AreEligible eligible held.size }
+        ensures { self.new.known ≡ with_household self.old.known name held eligible }
     {
         let household = held.household;
         self.count += 1;
@@ -547,38 +631,44 @@ impl Register {
         self.tenancies.push(held);
         let next = annual_right(self.tenancies.history(), household);
         self.annuals.push_reserved(next);
+        self.eligible.push_reserved(eligible);
     }
 
-    fn note_further(&mut self, act: &HouseholdAct, made: Option<Record>)
+    fn note_further(&mut self, act: &HouseholdAct, made: Option<Record>, eligible: u32)
+        requires room { 1 ≤ self.old.room }
         requires record_room { IfSome made (λ r. 1 ≤ room_of self.old.record_room r.household) }
         requires accepted { IsAccepted self.old.known (command.Household act.now) made }
         requires within { IfSome made IsWithin }
         requires dates { IfSome made HasDates }
+        requires eligible { eligible ≡ eligible_next self.old.known (command.Household act.now) made }
         ensures { self.new.known ≡ known_after self.old.known (command.Household act.now) made }
     {
         // That its records are numbered is known where they are read.
         let _records = self.tenancies.history().records(act.household);
         match made {
-            Some(held) => self.hold(held),
+            Some(held) => self.hold(held, eligible),
             None => self.pass(),
         }
     }
 
-    /// Holds the next record of a household that there is.
-    fn hold(&mut self, held: Record)
+    /// Holds the next record of a household that there is. Of its members so many are eligible.
+    fn hold(&mut self, held: Record, eligible: u32)
         requires few { self.old.known.count < most_acts }
+        requires room { 1 ≤ self.old.room }
         requires record_room { 1 ≤ room_of self.old.record_room held.household }
         requires household { held.household ≤ length self.old.known.households }
         requires next { IsNext self.old.known held }
         requires within { IsWithin held }
         requires dates { HasDates held }
-        ensures { self.new.known ≡ with_further self.old.known held }
+        requires eligible { AreEligible eligible held.size }
+        ensures { self.new.known ≡ with_further self.old.known held eligible }
     {
         let household = held.household;
         self.count += 1;
         self.tenancies.push(held);
         let next = annual_right(self.tenancies.history(), household);
         self.annuals[household as usize - 1] = next;
+        self.eligible.push_reserved(eligible);
     }
 }
 

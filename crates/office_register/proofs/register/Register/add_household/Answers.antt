@@ -10,13 +10,14 @@ invariant_of-self c =
       c.push_reserved.ensures.items,
       c.push_reserved-2.ensures.items,
       c.push_reserved-3.ensures.items,
+      c.push_reserved-4.ensures.items,
       c.annual_right-next.ensures,
       c.history.ensures,
       c.push.ensures.households,
       place_next c.self.inside.tenancies.households c.args.held.household asked.household,
     )
     (record {
-      sound = sound_household (known_in c.self.inside) c.self.invariant.sound asked.few c.args.name c.args.held asked.next.act c.requires.dates;
-      review = reviewed_household (known_in c.self.inside) c.self.inside.reviewed c.self.invariant.review c.args.name c.args.held asked.next.act;
+      sound = sound_household (known_in c.self.inside) c.self.invariant.sound asked.few c.args.name c.args.held c.args.eligible asked.next.act c.requires.dates c.requires.eligible;
+      review = reviewed_household (known_in c.self.inside) c.self.inside.reviewed c.self.invariant.review c.args.name c.args.held c.args.eligible asked.next.act;
       yearly = map_household annual_right c.self.inside.tenancies.households c.args.held c.self.inside.annuals.items c.self.invariant.yearly asked.household;
     })

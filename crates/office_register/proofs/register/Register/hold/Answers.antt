@@ -12,9 +12,9 @@ push-requires-clause-act c =
 pub invariant_of-self : goal.invariant_of-self
 invariant_of-self c =
     let asked = rw (← c.self.view_is) at c.requires in
-    rw (c.annual_right-next.ensures, c.history.ensures, c.push.ensures.households, place_there c.self.inside.tenancies.households c.self.inside.tenancies.room c.args.held.household asked.record_room asked.household)
+    rw (c.push_reserved.ensures.items, c.annual_right-next.ensures, c.history.ensures, c.push.ensures.households, place_there c.self.inside.tenancies.households c.self.inside.tenancies.room c.args.held.household asked.record_room asked.household)
     (record {
-      sound = sound_further (known_in c.self.inside) c.self.invariant.sound asked.few c.args.held asked.next.act c.requires.dates;
-      review = reviewed_further (known_in c.self.inside) c.self.inside.reviewed c.self.invariant.review c.args.held asked.next.act;
+      sound = sound_further (known_in c.self.inside) c.self.invariant.sound asked.few c.args.held c.args.eligible asked.next.act c.requires.dates c.requires.eligible;
+      review = reviewed_further (known_in c.self.inside) c.self.inside.reviewed c.self.invariant.review c.args.held c.args.eligible asked.next.act;
       yearly = map_further annual_right c.self.inside.tenancies.households c.args.held c.self.inside.annuals.items c.self.invariant.yearly (is_household c.self.inside.tenancies.room c.args.held.household asked.record_room) asked.household;
     })

@@ -9,7 +9,7 @@ push-requires-clause-number c =
 pub invariant_of-self : goal.invariant_of-self
 invariant_of-self c =
     let long : c.len.result ≡ length c.self.inside.applications.items = omega arith in
-    rw (c.push.ensures.applicants, c.push_reserved.ensures.items, c.rank_by.ensures, long)
+    rw (c.push.ensures.applicants, c.push_reserved.ensures.items, c.push_reserved-2.ensures.items, c.rank_by.ensures, long)
     (record {
       sound = sound_application (known_in c.self.inside) c.self.invariant.sound (few (rw (← c.self.view_is) at c.requires.accepted))
           (application_by (c.self.inside.count + 1) c.args.apply) (applying (known_in c.self.inside) c.args.apply) refl refl;
@@ -20,4 +20,4 @@ invariant_of-self c =
 pub returns : goal.returns
 returns c =
     let long : c.len.result ≡ length c.self.inside.applications.items = omega arith in
-    rw (c.push.ensures.applicants, c.push_reserved.ensures.items, c.rank_by.ensures, long, ← c.self.view_is) (simp unchanged)
+    rw (c.push.ensures.applicants, c.push_reserved.ensures.items, c.push_reserved-2.ensures.items, c.rank_by.ensures, long, ← c.self.view_is) (simp unchanged)

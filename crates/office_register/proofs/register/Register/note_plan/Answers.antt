@@ -4,11 +4,11 @@ use Rattle.office_register.proofs.register.Register.note_plan.Goals as goal
 
 pub invariant_of-self : goal.invariant_of-self
 invariant_of-self c =
-    let accepted = rw (← c.self.view_is) at c.requires in
-    record { sound = sound_plan (known_in c.self.inside) c.self.invariant.sound (few accepted) c.args.plan accepted.fit; review = tt; yearly = c.self.invariant.yearly }
+    let accepted = rw (← c.self.view_is) at c.requires.accepted in
+    rw c.push_reserved.ensures.items (record { sound = sound_plan (known_in c.self.inside) c.self.invariant.sound (few accepted) c.args.plan accepted.fit; review = tt; yearly = c.self.invariant.yearly })
 
 pub returns : goal.returns
 returns c =
-    let no_act = none_given c.self.inside.plan_act (passes (rw (← c.self.view_is) at c.requires)).plan_given in
+    let no_act = none_given c.self.inside.plan_act (passes (rw (← c.self.view_is) at c.requires.accepted)).plan_given in
     let none = none_there c.self.inside.plan_act c.self.inside.plan no_act c.self.invariant.sound.plan_act in
-    rw (← c.self.view_is) (simp (none, no_act, append-nil, filter_whole))
+    rw (c.push_reserved.ensures.items, ← c.self.view_is) (simp (none, no_act, append-nil, filter_whole))

@@ -9,7 +9,7 @@ push_unit-requires-clause-number c =
 pub invariant_of-self : goal.invariant_of-self
 invariant_of-self c =
     let accepted = rw (← c.self.view_is) at c.requires.accepted in
-    rw (c.push_unit.ensures.units, c.push_unit.ensures.rents, c.push_unit.ensures.limits, c.unit_rows.ensures.rows)
+    rw (c.push_reserved.ensures.items, c.push_unit.ensures.units, c.push_unit.ensures.rents, c.push_unit.ensures.limits, c.unit_rows.ensures.rows)
     (record {
       sound = sound_unit (known_in c.self.inside) c.self.invariant.sound (few accepted) (unit_row (length c.self.inside.table.units + 1) c.args.unit) refl
           (bedrooms_fit c.args.unit accepted.fit);
@@ -18,4 +18,4 @@ invariant_of-self c =
     })
 
 pub returns : goal.returns
-returns c = rw (c.push_unit.ensures.units, c.push_unit.ensures.rents, c.push_unit.ensures.limits, c.unit_rows.ensures.rows, ← c.self.view_is) (simp unchanged)
+returns c = rw (c.push_reserved.ensures.items, c.push_unit.ensures.units, c.push_unit.ensures.rents, c.push_unit.ensures.limits, c.unit_rows.ensures.rows, ← c.self.view_is) (simp unchanged)
