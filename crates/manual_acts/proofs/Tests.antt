@@ -7,7 +7,7 @@ use Rattle.record_history.specs.{declared.records.Record.Record}
 use Rattle.office_step.specs.{declared.refusal.Refusal.Refusal, declared.rightful.Rightful.Rightful, Known.own_in, Households.change_by, Made.record_in}
 use Rattle.office_step.specs.Matter.{Matter}
 use Rattle.office_step.specs.Refusals.{first_of, refused_unless}
-use Rattle.office_step.specs.Against.{no_plan, plan_given, book_full, no_such, stale, unseen, facts_rule, day_range, no_rent, no_limits, not_live, wrong_day, disorder, name_taken, size_misfit, unit_taken, not_next, ineligible, no_assistance, wrong_month, rent_due, overdue, tests_on, out_of_order, may_collide, taken, above_limit, rent_borne, moving_of, right_of, by_payment, wrong}
+use Rattle.office_step.specs.Against.{no_plan, plan_given, book_full, no_such, stale, unseen, facts_rule, day_range, no_rent, no_limits, not_live, wrong_day, disorder, name_taken, size_misfit, unit_taken, not_next, ineligible, no_assistance, wrong_month, rent_due, overdue, tests_on, out_of_order, may_collide, taken, above_limit, nothing_paid, moving_of, right_of, by_payment, wrong}
 use Rattle.office_step.proofs.Passed.{none_at}
 
 -- ---- the tests that ask about the record, by the record
@@ -28,7 +28,7 @@ abbrev ineligible_by : Matter → Option Record → Option Refusal
 ineligible_by about made = option_and_then (λ applicant. option_and_then (above_limit about.known) made) about.applicant
 
 abbrev borne_by : Matter → Option Record → Option Refusal
-borne_by about made = if about.begins then option_and_then rent_borne made else None
+borne_by about made = if about.begins then option_and_then nothing_paid made else None
 
 -- those that ask about no day of the calendar, no other household and no applicant
 abbrev plain_tests : Matter → Option Record → List (Option Refusal)

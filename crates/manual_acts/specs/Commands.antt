@@ -9,7 +9,7 @@ use Rattle.manual_acts.specs.Days.{january, on_1953_06_01, on_1980_01_01, on_202
 -- one person who was born on the day, with one income and some medical expenses
 abbrev pub living_alone : ℕ → IncomeKind → ℕ → ℕ → Facts
 living_alone born kind annual medical = record {
-  members = record { relation = Relation.Head; born = born; disabled = false; student = false; helped = false; cared = false } ∷ [];
+  members = record { relation = Relation.Head; born = born; disabled = false; student = false; helped = false; cared = false; eligible = true } ∷ [];
   incomes = record { member = 0; kind = kind; annual = annual } ∷ [];
   assets = [];
   disposals = [];

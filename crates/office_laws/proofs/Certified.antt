@@ -1,25 +1,28 @@
 -- What a record certifies, by how it is made.
-use Rattle.std.proofs.Common.{◌≡◌, ◌≢◌, ◌∙◌, sym, ap, refl, subst, ℕ, ◌+◌, ◌*◌, ◌<◌, ◌≤◌, min, max, arith, Bool, true, false, not, List, Option, Some, None, ◌==◌, nat_le}
+use Rattle.std.proofs.Common.{◌≡◌, ◌≢◌, ◌∙◌, sym, ap, refl, subst, ℕ, ◌+◌, ◌*◌, ◌<◌, ◌≤◌, max, arith, ◌-◌, ◌&&◌, Bool, true, false, not, List, Option, Some, None, ◌==◌, nat_le, if◌then◌else◌}
 use Rattle.std.specs.Prelude.{Contains, count_by, is_some}
 use Rattle.std.specs.Option.{option_map_or, option_or}
-use Rattle.std.proofs.lemmas.{Bool.leb-true, Bool.leb-false, Bool.eqb-true, Bool.false≢true, Option.option_and_then_some, List.Elements.All-contains_itself}
+use Rattle.std.proofs.lemmas.{Bool.Decides.nat_tests, Bool.leb-true, Bool.leb-false, Bool.eqb-true, Bool.false≢true, Option.option_and_then_some, List.Elements.All-contains_itself}
 use Rattle.list_laws.proofs.{Finds.find_holds, Options.option_map_some}
 use Rattle.days_core.specs.{declared.rents.Rents.Rents, Rounding.round_half_up}
-use Rattle.facts_core.specs.{declared.members.Member.Member, declared.members.Relation.Relation, declared.facts.Facts.Facts, Rules.is_aide, Rules.broken_rule}
-use Rattle.payment_rules.specs.Payment.{total_tenant_payment_of, minimum_rent_of, gross_rent_of, assistance_of, share_of_adjusted, share_of_annual}
+use Rattle.facts_core.specs.{declared.members.Member.Member, declared.members.Relation.Relation, declared.facts.Facts.Facts, Rules.is_aide, Rules.eligible_members, Rules.broken_rule}
+use Rattle.payment_rules.specs.Payment.{total_tenant_payment_of, minimum_rent_of, gross_rent_of, full_assistance_of, assistance_of, share_of_adjusted, share_of_annual}
 use Rattle.record_history.specs.{declared.records.Kind.Kind, declared.records.Record.Record, Held.AreNumbered, Records.in_force}
 use Rattle.record_history.proofs.ForceLemmas.{one_now}
 use Rattle.rent_table.specs.{declared.plan.Plan.Plan, declared.rows.Unit.Unit as UnitRow, declared.rows.LimitRow.LimitRow, Admission.limit_for, Table.RentActsRise, Table.LimitActsRise, Table.unit_at, Table.rents_on, Table.limits_on}
 use Rattle.rent_table.proofs.StandingLemmas.{row_sets_rents, row_sets_limits}
 use Rattle.tenancy_rules.specs.Order.{is_move_in}
-use Rattle.certified_figures.specs.{declared.figures.Figures.Figures, Figures.figures_of, Figures.carried_figures}
-use Rattle.office_step.specs.{declared.heading.Heading.Heading, Known.Known, Known.UnitsAreNumbered, Known.own_in, Households.record_at, Households.continued, Households.unit_continued}
+use Rattle.share_rules.proofs.SharesAdd.{nearest, at_most as part_at_most}
+use Rattle.certified_figures.specs.{declared.figures.Figures.Figures, Figures.figures_of, Figures.size_of, Figures.carried_figures, Figures.carried_assistance, Figures.AreEligible}
+use Rattle.certified_figures.proofs.Family.{HasFamily, has_family}
+use Rattle.office_step.specs.{declared.heading.Heading.Heading, Known.Known, Known.UnitsAreNumbered, Known.own_in, Households.record_at, Households.continued, Households.unit_continued, Eligible.eligible_of_record, Eligible.AllEligible}
 use Rattle.office_step.specs.Made.{rents_in_unit, made_with, made_of_facts, made_of_carried, told_extremely_low}
 use Rattle.office_step.specs.plain.Facts.{is_family}
+use Rattle.office_step.proofs.Members.{continued_in}
 use Rattle.office_step.proofs.Exactly.{Options.and_then-some, Numbered.found_by_number}
 use Rattle.office_laws.proofs.{CertifiedIncomes.annual_income, CertifiedIncomes.named, CertifiedDeductions.adjusted_income}
 use Rattle.office_laws.specs.Closing.{HasRentsOfItsUnit}
-use Rattle.office_laws.specs.Certifies.{CoversAll, TellsExtremelyLow, IsByFacts, IsContinued, in_force as by_force, first, IsCarriedOver, KeepsItsUnit}
+use Rattle.office_laws.specs.Certifies.{family_eligible, ClaimsItsPart, CoversAll, TellsExtremelyLow, IsByFacts, IsContinued, in_force as by_force, first, IsCarriedOver, KeepsItsUnit}
 
 -- ---- rents and assistance
 
@@ -34,8 +37,39 @@ its_rents known numbered rise r stand =
 from_one : (units : List UnitRow) → UnitsAreNumbered units → (unit : UnitRow) → Contains units unit → 1 ≤ unit.number
 from_one units numbered unit (k, within, is) = omega (arith, numbered k unit within, ap (λ (unit : UnitRow). unit.number) is)
 
-splits : (ttp : ℕ) (rents : Rents) → assistance_of ttp rents + min ttp (gross_rent_of rents) ≡ gross_rent_of rents
-splits ttp rents = omega arith
+-- the office claims no more than the gross rent
+part_within : (ttp : ℕ) (rents : Rents) (eligible size : ℕ) → 1 ≤ size → eligible ≤ size → assistance_of ttp rents eligible size ≤ gross_rent_of rents
+part_within ttp rents eligible size some among =
+    let part = part_at_most (full_assistance_of ttp rents) eligible size (omega (arith, some)) among in
+    let all : full_assistance_of ttp rents ≤ gross_rent_of rents = omega arith in
+    omega (arith, part, all)
+
+carried_within : (held : Record) (eligible : ℕ) (rents : Rents) → AreEligible eligible held.size → carried_assistance held eligible rents ≤ gross_rent_of rents
+carried_within held eligible rents are = by_size (held.size == 0) refl
+  where
+    by_size : (none : Bool) → (held.size == 0) ≡ none → (if none then 0 else assistance_of held.ttp rents eligible held.size) ≤ gross_rent_of rents
+    by_size true is = omega arith
+    by_size false is = part_within held.ttp rents eligible held.size (grind (arith, nat_tests, is)) are.among
+
+-- and claims the part of the eligible members
+claims_part : (eligible : ℕ) (r : Record) → (1 ≤ r.size → r.assistance ≡ assistance_of r.ttp r.rents eligible r.size) → (r.size ≡ 0 → r.assistance ≡ 0) →
+    ClaimsItsPart eligible r
+claims_part eligible r some none = record {
+  left = full_assistance_of r.ttp r.rents;
+  leaves = omega arith;
+  part = λ one. rw (some one) (nearest (full_assistance_of r.ttp r.rents * eligible) r.size (omega (arith, one)));
+  nobody = none;
+}
+
+carried_some : (held : Record) (eligible : ℕ) (rents : Rents) → 1 ≤ held.size → carried_assistance held eligible rents ≡ assistance_of held.ttp rents eligible held.size
+carried_some held eligible rents some = by_size (held.size == 0) refl
+  where
+    by_size : (none : Bool) → (held.size == 0) ≡ none → (if none then 0 else assistance_of held.ttp rents eligible held.size) ≡ assistance_of held.ttp rents eligible held.size
+    by_size true is = absurd (grind (arith, nat_tests, is, some))
+    by_size false is = refl
+
+carried_none : (held : Record) (eligible : ℕ) (rents : Rents) → held.size ≡ 0 → carried_assistance held eligible rents ≡ 0
+carried_none held eligible rents none = rw none refl
 
 -- ---- payment
 
@@ -86,6 +120,9 @@ family : (relation : Relation) → not (is_aide relation) ≡ is_family relation
 family Relation.Aide = refl
 family _ = refl
 
+pub eligible_family : (facts : Facts) → eligible_members facts ≡ family_eligible facts
+eligible_family facts = ap (λ (p : Member → Bool). count_by p facts.members) (λ i member. family member.relation i && member.eligible)
+
 tells_low : (known : Known) → LimitActsRise known.limits → (r : Record) (row : LimitRow) → limits_on known.limits r.from ≡ Some row →
     r.extremely ≡ nat_le r.annual (limit_for row.extremely_low r.size) → TellsExtremelyLow known r
 tells_low known rise r row on told = record {
@@ -114,18 +151,21 @@ module _ (known : Known) (numbered : UnitsAreNumbered known.units) (rise : RentA
         IsByFacts known facts (made_with known heading (told_extremely_low heading.kind (limits_on known.limits heading.from) figures) figures)
     by_figures plan rents planned stand figures is =
         let of : Figures = figures_of facts heading.from plan.passbook rents in
+        let has : HasFamily facts = has_family facts heading.from kept in
         let r : Record = made_with known heading (told_extremely_low heading.kind (limits_on known.limits heading.from) figures) figures in record {
           plan = plan;
           planned = planned;
           certifies = record {
             rents = its_rents known numbered rise r (stand ∙ ap (λ (figures : Figures). Some figures.rents) (sym is));
-            split = rw is (splits of.ttp rents);
+            within = rw is (part_within of.ttp rents (eligible_members facts) (size_of facts) has.one has.eligible);
           };
           persons = ap (λ (figures : Figures). figures.persons) is;
           size = ap (λ (figures : Figures). figures.size) is ∙ ap (λ (p : Member → Bool). count_by p facts.members) (λ i member. family member.relation i);
           annual = rw is (annual_income facts heading.from plan.passbook kept);
           adjusted = rw is (adjusted_income facts heading.from of.annual (named facts heading.from kept));
           payment = rw is (record { covers = covers_all facts of.annual of.adjusted; least = least_all facts of.annual of.adjusted });
+          eligible = rw (← eligible_family facts, is) (claims_part (eligible_members facts) (made_with known heading (told_extremely_low heading.kind (limits_on known.limits heading.from) of) of)
+              (λ some. refl) (λ none. absurd (omega (arith, none, has.one))));
           move_in = λ moves.
               (let row = there (limits_on known.limits heading.from) (limits (ap is_move_in moves)) in
               tells_low known limits_rise r row.0 row.1 (by_move_in heading.kind (limits_on known.limits heading.from) row.0 figures moves row.1));
@@ -164,15 +204,18 @@ module _ (known : Known) (numbered : UnitsAreNumbered known.units) (rise : RentA
             let zero : r.unit ≡ 0 = is ∙ ap (λ (o : Option Record). option_map_or (λ r. r.unit) o 0) none in
             absurd (omega (arith, from_one known.units numbered rents.unit rents.held, rents.numbered, zero))
 
-  pub carried_over : (heading : Heading) → AreNumbered (own_in known heading.household) → (r : Record) → made_of_carried known heading ≡ Some r →
-      IsCarriedOver known (own_in known heading.household) r
-  carried_over heading own_numbered r is =
+  pub carried_over : (heading : Heading) → AreNumbered (own_in known heading.household) → AllEligible known.eligible known.households → (r : Record) →
+      made_of_carried known heading ≡ Some r → IsCarriedOver known (own_in known heading.household) r
+  carried_over heading own_numbered all r is =
       option_and_then_some _ (continued (own_in known heading.household) heading.from) r is (λ held continues of_held.
       option_map_some _ (rents_in_unit known heading.unit heading.from) r of_held (λ rents stand same.
+      (let eligible : ℕ = eligible_of_record known.eligible held in
+      let its : Record = made_with known heading false (carried_figures held eligible rents) in
       subst (IsCarriedOver known (own_in known heading.household)) same (record {
         certifies = record {
-          rents = its_rents known numbered rise (made_with known heading false (carried_figures held rents)) stand;
-          split = splits held.ttp rents;
+          rents = its_rents known numbered rise its stand;
+          within = carried_within held eligible rents
+              (continued_in (λ r. AreEligible (eligible_of_record known.eligible r) r.size) known heading.household heading.from held all continues);
         };
         held = held;
         continued = is_continued (own_in known heading.household) own_numbered heading.from held continues;
@@ -181,5 +224,6 @@ module _ (known : Known) (numbered : UnitsAreNumbered known.units) (rise : RentA
         annual = refl;
         adjusted = refl;
         ttp = refl;
+        eligible = claims_part eligible its (carried_some held eligible rents) (carried_none held eligible rents);
         extremely = refl;
-      })))
+      }))))

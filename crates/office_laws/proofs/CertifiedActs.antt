@@ -11,7 +11,7 @@ use Rattle.rent_table.specs.Table.{RentActsRise, LimitActsRise, limits_on}
 use Rattle.due_dates.specs.Law.{IsMonthAfter}
 use Rattle.tenancy_rules.specs.Order.{is_move_in}
 use Rattle.book_rows.specs.{declared.rows.Batch.Batch, declared.command.Command.Command, declared.household.HouseholdAct.HouseholdAct, declared.household.HouseholdChange.HouseholdChange, declared.certifications.CorrectAct.CorrectAct, declared.moves.WithdrawAct.WithdrawAct}
-use Rattle.office_step.specs.{declared.heading.Heading.Heading, declared.refusal.Refusal.Refusal, Known.Known, Known.UnitsAreNumbered, Known.known_of, Known.own_in, Households.record_at, Households.unit_continued, Refusals.refused_unless}
+use Rattle.office_step.specs.{declared.heading.Heading.Heading, declared.refusal.Refusal.Refusal, Known.Known, Known.UnitsAreNumbered, Known.known_of, Known.own_in, Households.record_at, Households.unit_continued, Eligible.AllEligible, Refusals.refused_unless}
 use Rattle.office_step.specs.Matter.{Matter, Basis, from_facts, carried, nothing, matter_of, own as own_records}
 use Rattle.office_step.specs.Made.{made_of_facts, made_of_nothing, made_on, heading_in, own_heading, correction_heading, withdrawal_heading, record_in, record_of}
 use Rattle.office_step.specs.Against.{no_limits, facts_rule, wrong_day, overdue}
@@ -19,7 +19,7 @@ use Rattle.office_step.specs.plain.{Acceptance.IsSound, Counting.AllInTurn, Coun
 use Rattle.office_step.specs.plain.Rightful.{BeginsYear, IsAnnualDay, IsGrossDay, IsInterimDay, AreKnownDays}
 use Rattle.office_step.proofs.{Headed.IsUnder, Headed.under, Headed.IsHeaded, Headed.made_is_headed, Headed.of_household, Headed.changing, Passed.Passed, Exactly.Acceptance.told_known}
 use Rattle.office_laws.specs.Certifies.{CertifiesNothing, IsByFacts, IsCarriedOver, KeepsItsUnit, IsOf, ChangeCertifies, CertifiesRightly, RecordsCertifyRightly}
-use Rattle.office_laws.proofs.{Inversion.accepted, Inversion.passes, Reached.books_are_kept, Rows.last_within, AllSound.reached_books_are_sound, Certified.by_facts, Certified.keeps_unit, Certified.carried_over}
+use Rattle.office_laws.proofs.{Members.all_eligible, Inversion.accepted, Inversion.passes, Reached.books_are_kept, Rows.last_within, AllSound.reached_books_are_sound, Certified.by_facts, Certified.keeps_unit, Certified.carried_over}
 use Rattle.office_laws.proofs.CertifiedMade.{IsMade, Makes, record_is_made}
 use Rattle.office_laws.proofs.{CertifiedDays.annual_begins, CertifiedDays.interim_begins, CertifiedDays.resume_begins, CertifiedDays.gross_begins, CertifiedDays.begins_again, CertifiedClosings.nobody_is_overdue}
 
@@ -44,7 +44,7 @@ no_rule : (facts : Facts) (from : ℕ) → option_map (λ rule. Refusal.FactsRul
 no_rule facts from none = option_map_none (λ rule. Refusal.FactsRule rule) (broken_rule facts from) none
 
 module _ (known : Known) (numbered : UnitsAreNumbered known.units) (rise : RentActsRise known.rents) (limits_rise : LimitActsRise known.limits)
-    (kept : AllInTurn known) where
+    (kept : AllInTurn known) (all : AllEligible known.eligible known.households) where
   abbrev HasLimits : Heading → Type 0
   HasLimits heading = is_move_in heading.kind ≡ true → is_some (limits_on known.limits heading.from) ≡ true
 
@@ -112,7 +112,7 @@ module _ (known : Known) (numbered : UnitsAreNumbered known.units) (rise : RentA
         let its : IsUnder known heading r = under known carried heading r is in (
           (ap (λ (r : Record). r.kind) its.is, ap (λ (r : Record). r.from) its.is),
           ap (λ (r : Record). r.unit) its.is,
-          carried_over known numbered rise limits_rise heading (kept heading.household).numbered r is,
+          carried_over known numbered rise limits_rise heading (kept heading.household).numbered all r is,
         )
 
     change_certifies : (done : HouseholdChange) → record_in (about done) ≡ Some r → IsFree (about done) → All (λ r. AreKnownDays r.dates) own →
@@ -196,6 +196,6 @@ records_certify_rightly capacity book rows reached appends =
     let free : Passed (known_of book) capacity.acts rows.act.day appends.call.command = passes capacity book rows appends in
     let by : rows.act.day ≤ last_office_day =
     omega (arith, (accepted capacity book rows appends).day, last_within book.acts (books_are_kept capacity book reached).acts.years) in
-    certifies_rightly (known_of book) sound.numbered sound.rents sound.limits sound.kept rows appends.call.command
+    certifies_rightly (known_of book) sound.numbered sound.rents sound.limits sound.kept (all_eligible capacity book reached) rows appends.call.command
     (record { limits = free.no_limits; facts = free.facts_rule; day = free.wrong_day; told = told_known rows.act.day about by free.day_range })
     sound.dates free.overdue (record_is_made capacity book rows reached appends) (accepted capacity book rows appends).made

@@ -1,7 +1,7 @@
 -- What is known once there is one act more.
-use Rattle.office_laws.proofs.Words.{names_given, Book, Batch, Capacity, appended, empty_book, IsAppended, IsReached, reached_empty, reached_more, ◌≡◌, ◌∙◌, sym, ap, refl, subst, ℕ, ◌+◌, arith, List, [], ◌∷◌, ◌++◌, Option, Some, None, length, map, option_to_list, option_map, append-nil, length_push, IfSome, ask_in, Record, with_record, Command, Act, acts_of, plan_of, plan_act, applications_of, name_given, household_count, waiting_of, ranks_of, requests_of, households_of, Known, known_by, known_of, record_of, known_after, waiting_after, requests_after, households_after, plan_given, matter_of, refused_by, Accepted, IsOneOf, NamesOnlyThose, passed, option_or-none, option_map_none, filter_map_more, rents_in, rent_row, limits_in, limit_row, common_steps}
+use Rattle.office_laws.proofs.Words.{names_given, Book, Batch, Capacity, appended, empty_book, IsAppended, IsReached, reached_empty, reached_more, ◌≡◌, ◌∙◌, sym, ap, refl, subst, ℕ, ◌+◌, ◌≤◌, arith, List, [], ◌∷◌, ◌++◌, Option, Some, None, length, map, option_to_list, option_map, append-nil, length_push, IfSome, All, ask_in, Record, with_record, Command, Act, acts_of, plan_of, plan_act, applications_of, name_given, household_count, waiting_of, ranks_of, requests_of, households_of, Known, known_by, known_of, record_of, known_after, waiting_after, requests_after, households_after, plan_given, matter_of, refused_by, Accepted, IsOneOf, Kept, NamesOnlyThose, passed, option_or-none, option_map_none, filter_map_more, rents_in, rent_row, limits_in, limit_row, common_steps}
 use Rattle.office_laws.specs.After.{KnownAfter}
-use Rattle.office_laws.proofs.{Inversion.accepted, Naming.asked_there, Naming.held_there, Grown.names-more, Grown.count-more, Reached.acts_appended, Reached.books_are_kept}
+use Rattle.office_laws.proofs.{Eligible.eligible-more, Makes.record_names_act, Replies.acts_within, Inversion.accepted, Naming.asked_there, Naming.held_there, Grown.names-more, Grown.count-more, Reached.acts_appended, Reached.books_are_kept}
 use Rattle.office_laws.proofs.Grown.{plan-more, plan_act-more, units-more, applications-more, closing-more}
 use Rattle.office_laws.proofs.Changed.{waiting-more, households-longer, households-held, requests-longer, requests-said}
 
@@ -33,7 +33,8 @@ asks count acts records only asked there =
     rw (count-more acts records (record { n = count + 1; command = asked }) only)
     (requests-longer acts (count + 1) asked (household_count acts) only.asked (λ household. refl) (name_given (applications_of acts) asked))
 
-module _ (count : ℕ) (acts : List Act) (records : List Record) (only : NamesOnlyThose acts records) (most today : ℕ) (asked : Command)
+module _ (count : ℕ) (acts : List Act) (records : List Record) (only : NamesOnlyThose acts records)
+    (numbers : All (λ act. act.n ≤ count) acts) (made_by : All (λ r. r.act ≤ count) records) (most today : ℕ) (asked : Command)
     (allowed : refused_by (known_by count acts records) most today asked ≡ None) where
   abbrev known : Known
   known = known_by count acts records
@@ -64,14 +65,17 @@ module _ (count : ℕ) (acts : List Act) (records : List Record) (only : NamesOn
     names = names-more acts records act only i;
     households = holds (record_of known asked) (held_there count acts records only (count + 1) most today asked allowed) i;
     requests = asks count acts records only asked (asked_there count acts records asked (passed known most today asked allowed).no_such) i;
+    eligible = eligible-more count records made_by acts only.held asked (record_of known asked) (λ r is. record_names_act known asked r is)
+        (λ r is. (held_there count acts records only (count + 1) most today asked allowed r is).least) numbers i;
     closing = closing-more acts act i;
   }
 
 pub known_after_each : KnownAfter
 known_after_each capacity book rows reached appends =
     let is : Accepted capacity book appends.call rows = accepted capacity book rows appends in
+    let kept : Kept capacity book = books_are_kept capacity book reached in
     rw (acts_appended appends, is.made, length_push book.acts rows.act, is.n)
-    (known_more (length book.acts) (acts_of book.acts) book.records (books_are_kept capacity book reached).names capacity.acts rows.act.day appends.call.command is.is_allowed)
+    (known_more (length book.acts) (acts_of book.acts) book.records kept.names (acts_within book.acts kept.acts) kept.made.of_records capacity.acts rows.act.day appends.call.command is.is_allowed)
 
 -- what is known after the act that makes the record of the command
 abbrev pub next : Known → Command → Known

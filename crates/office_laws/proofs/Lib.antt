@@ -7,6 +7,8 @@ pub mod Rows
 pub mod Makes
 pub mod Reached
 pub mod Changed
+pub mod Places
+pub mod Eligible
 pub mod Known
 pub mod Replies
 pub mod InPlace
@@ -16,6 +18,7 @@ pub mod Judged
 pub mod InOrder
 pub mod Placed
 pub mod Dated
+pub mod Members
 pub mod Lived
 pub mod Terms
 pub mod Unit
@@ -23,7 +26,6 @@ pub mod Conserved
 pub mod LineOrder
 pub mod AllSound
 pub mod Allowed
-pub mod Places
 pub mod Fitting
 pub mod Requests
 pub mod Movers
@@ -43,6 +45,7 @@ pub mod CertifiedClosings
 pub mod CertifiedWaiting
 pub mod CertifiedMade
 pub mod CertifiedActs
+pub mod MembersKept
 pub mod RepliesTold
 pub mod Counts
 pub mod Turns

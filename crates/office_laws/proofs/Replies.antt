@@ -9,7 +9,7 @@ pub act_numbered : (row : ActRow) (act : Act) → act_of row ≡ Some act → ro
 act_numbered row act is = grind (arith, common_steps, is)
 
 -- every act of a book has a number up to theirs
-acts_within : (rows : List ActRow) → AreActs rows → All (λ act. act.n ≤ length rows) (acts_of rows)
+pub acts_within : (rows : List ActRow) → AreActs rows → All (λ act. act.n ≤ length rows) (acts_of rows)
 acts_within rows are =
     All-filter_map (λ row. row.n ≤ length rows) (λ act. act.n ≤ length rows) act_of
     (λ row act is by. omega (arith, by, act_numbered row act is)) rows (λ k d within. omega (arith, are.numbers k d within))

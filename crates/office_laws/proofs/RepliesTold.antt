@@ -2,25 +2,25 @@
 use Rattle.office_laws.proofs.Words.{◌≡◌, ◌∙◌, sym, ap, refl, subst, ◌==◌, arith, Option, Some, None, List, Contains, nat_tests, common_steps, option_map_or, find_first, Record, ActRow, Batch, Book, appended, Command, HouseholdChange, Capacity, Known, known_of, own_in, Made, Done, done_of, record_of, made_now, IsReached, reached_more}
 use Rattle.std.specs.Prelude.{IsSomeAnd}
 use Rattle.std.proofs.lemmas.List.Elements.{Contains-push}
-use Rattle.office_step.specs.plain.Replies.{SplitsItsRent, TellsRecord}
+use Rattle.office_step.specs.plain.Replies.{IsWithinItsRent, TellsRecord}
 use Rattle.office_step.specs.Reply.{certified}
 use Rattle.office_step.proofs.Exactly.Replies.{certified_is_plain}
 use Rattle.office_laws.specs.{Certifies.CertifiesNothing, Certifies.ChangeCertifies, Certifies.CertifiesRightly, InPlace.book_before, InPlace.rows_by, InPlace.IsInPlace, Replies.RepliesTellRecords}
 use Rattle.office_laws.proofs.{Inversion.accepted, Reached.books_are_kept, Replies.made_is, Replies.replies_stay, InPlace.acts_are_in_place, CertifiedActs.records_certify_rightly}
 
-splits_nothing : (r : Record) → CertifiesNothing r → SplitsItsRent r
-splits_nothing r none = omega (arith, none.ttp, none.assistance, none.contract_rent, none.utility)
+nothing_within : (r : Record) → CertifiesNothing r → IsWithinItsRent r
+nothing_within r none = omega (arith, none.assistance)
 
-change_splits : (known : Known) (own : List Record) (change : HouseholdChange) (r : Record) → ChangeCertifies known own change r → SplitsItsRent r
-change_splits known own (HouseholdChange.Annual annual) r is = is.2.certifies.split
-change_splits known own (HouseholdChange.Interim interim) r is = is.2.certifies.split
-change_splits known own (HouseholdChange.Resume resume) r is = is.2.certifies.split
-change_splits known own (HouseholdChange.Gross gross) r is = is.2.certifies.split
-change_splits known own (HouseholdChange.Correct correct) r is = is.1.certifies.split
-change_splits known own (HouseholdChange.Transfer transfer) r is = is.2.certifies.split
-change_splits known own (HouseholdChange.MoveOut move_out) r is = splits_nothing r is.1
-change_splits known own (HouseholdChange.Terminate terminate) r is = splits_nothing r is.1
-change_splits known own (HouseholdChange.Withdraw withdraw) r is = splits_nothing r is.2
+change_within : (known : Known) (own : List Record) (change : HouseholdChange) (r : Record) → ChangeCertifies known own change r → IsWithinItsRent r
+change_within known own (HouseholdChange.Annual annual) r is = is.2.certifies.within
+change_within known own (HouseholdChange.Interim interim) r is = is.2.certifies.within
+change_within known own (HouseholdChange.Resume resume) r is = is.2.certifies.within
+change_within known own (HouseholdChange.Gross gross) r is = is.2.certifies.within
+change_within known own (HouseholdChange.Correct correct) r is = is.1.certifies.within
+change_within known own (HouseholdChange.Transfer transfer) r is = is.2.certifies.within
+change_within known own (HouseholdChange.MoveOut move_out) r is = nothing_within r is.1
+change_within known own (HouseholdChange.Terminate terminate) r is = nothing_within r is.1
+change_within known own (HouseholdChange.Withdraw withdraw) r is = nothing_within r is.2
 
 -- what is said of the record that is made
 said_of : (made : Option Record) (r : Record) (P : Record → Type 0) → made ≡ Some r → IsSomeAnd made P → P r
@@ -28,16 +28,16 @@ said_of made r P is some = subst (λ (o : Option Record). IsSomeAnd o P) is some
 
 -- the reply to an act that makes a record is by that record
 module _ (known : Known) (rows : Batch) (r : Record) (makes : rows.made ≡ Some r) where
-  tells : SplitsItsRent r → TellsRecord r (option_map_or certified rows.made Made.Nothing)
-  tells split = rw makes (certified_is_plain r split)
+  tells : IsWithinItsRent r → TellsRecord r (option_map_or certified rows.made Made.Nothing)
+  tells within = rw makes (certified_is_plain r within)
 
   none_made : {P : Type 0} → rows.made ≡ None → P
   none_made none = absurd (let both = sym none ∙ makes in cc)
 
   told_now : (asked : Command) → rows.made ≡ record_of known asked → CertifiesRightly known rows asked → TellsRecord r (made_now known rows asked)
-  told_now (Command.Start start) made rightly = tells (said_of rows.made r _ makes rightly).3.certifies.split
-  told_now (Command.Admit admit) made rightly = tells (said_of rows.made r _ makes rightly).3.certifies.split
-  told_now (Command.Household act) made rightly = tells (change_splits known (own_in known act.household) act.change r (said_of rows.made r _ makes rightly).1)
+  told_now (Command.Start start) made rightly = tells (said_of rows.made r _ makes rightly).3.certifies.within
+  told_now (Command.Admit admit) made rightly = tells (said_of rows.made r _ makes rightly).3.certifies.within
+  told_now (Command.Household act) made rightly = tells (change_within known (own_in known act.household) act.change r (said_of rows.made r _ makes rightly).1)
   told_now _ made rightly = none_made made
 
 -- the record of an act is the one that names it

@@ -1,15 +1,12 @@
 -- What each act had to meet before it was accepted.
-use Rattle.office_laws.proofs.Words.{Bool, Refusal, same_Some, Kind, IfSome-each, le-leb, lt-leb, false_from_ne_true, AllPairs-filter, All-filter, is_live, rise, none_above, get_or, All-contains, Contains-push, Contains-append_left, filter, option_map, common_steps, nat_tests, ◌≡◌, ◌∙◌, sym, ap, refl, subst, ℕ, ◌+◌, ◌<◌, ◌≤◌, ◌==◌, arith, true, false, List, [], ◌∷◌, ◌++◌, Option, Some, None, IfSome, length, All, Contains, nat_le, if◌then◌else◌, option_map_or, ltb-false, eqb-true, Record, is_move_out, live_records, latest, in_force, later, comes_before, newest_number, Batch, Command, HouseholdAct, HouseholdChange, Heading, Known, known_of, own_in, record_at, record_of, record_in, heading_in, correction_heading, made_on, from_facts, Matter, matter_of, changing, first_of, refused_if, IsInOrder, Passed, if_none, IsUnder, IsHeaded, made_is_headed, option_map_some, rents_in_unit, latest-is, pairs_order}
-use Rattle.std.proofs.lemmas.Option.{option_and_then_some}
+use Rattle.office_laws.proofs.Words.{Bool, Refusal, same_Some, Kind, IfSome-each, le-leb, lt-leb, false_from_ne_true, AllPairs-filter, All-filter, is_live, rise, none_above, get_or, All-contains, Contains-push, Contains-append_left, filter, option_map, common_steps, nat_tests, ◌≡◌, ◌∙◌, sym, ap, refl, subst, ℕ, ◌+◌, ◌<◌, ◌≤◌, ◌==◌, arith, true, false, List, [], ◌∷◌, ◌++◌, Option, Some, None, IfSome, length, All, Contains, nat_le, if◌then◌else◌, option_map_or, ltb-false, eqb-true, Record, is_move_out, live_records, latest, in_force, later, comes_before, newest_number, Batch, Command, HouseholdAct, HouseholdChange, Heading, Known, known_of, own_in, record_at, record_of, record_in, heading_in, correction_heading, Matter, matter_of, changing, first_of, refused_if, IsInOrder, Passed, if_none, IsUnder, IsHeaded, made_is_headed, option_map_some, latest-is, pairs_order}
 use Rattle.std.proofs.lemmas.List.Elements.{All-contains_itself}
-use Rattle.facts_core.specs.declared.facts.Facts.{Facts}
-use Rattle.payment_rules.specs.Payment.{assistance_of}
 use Rattle.std.specs.Prelude.{nat_lt, option_and_then}
 use Rattle.record_history.specs.declared.records.Dates.{Dates}
-use Rattle.office_step.specs.Against.{told_days, rent_borne}
+use Rattle.office_step.specs.Against.{told_days, nothing_paid}
 use Rattle.office_step.proofs.Days.{InRange, days_in_range, ToldInTurn, told_in_turn}
 use Rattle.book_rows.specs.declared.moves.MoveOutAct.{MoveOutAct}
-use Rattle.office_step.specs.Made.{made_of_facts, made_of_nothing, own_heading}
+use Rattle.office_step.specs.Made.{made_of_nothing, own_heading}
 use Rattle.tenancy_rules.proofs.OrderLaws.{nothing_follows_move_out}
 use Rattle.office_laws.specs.Terms.{CameInOrder, IsTold, Corrects, EndsWith, IsMade, MeetsTerms, ActsMeetTheirTerms}
 use Rattle.office_laws.proofs.{Inversion.accepted, Inversion.passes, InOrder.own_in_order, Tried.find_holds, Lived.lived, Lived.lives_more, Unit.latest-more, Unit.has_begun, InOrder.in_order_more}
@@ -36,19 +33,10 @@ is_told known today act _ free = tt
 
 -- ---- assistance
 
--- a record of facts has the assistance that its payment leaves of its rents
-split_by_facts : (known : Known) (heading : Heading) (facts : Facts) (r : Record) → made_of_facts known heading facts ≡ Some r → r.assistance ≡ assistance_of r.ttp r.rents
-split_by_facts known heading facts r is =
-    option_and_then_some _ known.plan r is (λ plan given of_plan.
-    option_map_some _ (rents_in_unit known heading.unit heading.from) r of_plan (λ rents stand same. rw (← same) refl))
-
-has_assistance : (about : Matter) (facts : Facts) (r : Record) → about.basis ≡ from_facts facts → record_in about ≡ Some r →
-    option_and_then rent_borne (record_in about) ≡ None → 0 < r.assistance
-has_assistance about facts r basis is free =
-    option_and_then_some (made_on about.known about.basis) _ r is (λ heading found made.
-    (let split = split_by_facts about.known heading facts r (rw basis at made) in
-    let some : rent_borne r ≡ None = rw is at free in
-    grind (arith, common_steps, nat_tests, split, some)))
+has_assistance : (about : Matter) (r : Record) → record_in about ≡ Some r → option_and_then nothing_paid (record_in about) ≡ None → 0 < r.assistance
+has_assistance about r is free =
+    let some : nothing_paid r ≡ None = rw is at free in
+    grind (arith, common_steps, nat_tests, some)
 
 -- ---- the record of a correction
 
@@ -142,7 +130,7 @@ is_made : (known : Known) (most today : ℕ) (act : HouseholdAct) (r : Record) �
     ((household : ℕ) → IsInOrder (own_in known household)) → record_of known (Command.Household act) ≡ Some r → (done : HouseholdChange) → act.change ≡ done →
     IsMade (own_in known act.household) done r
 is_made known most today act r free orders is (HouseholdChange.Resume resume) resumes =
-    has_assistance (matter_of known (Command.Household act)) resume.facts r (rw resumes refl) is (where_tested _ _ (rw resumes refl) free.no_assistance)
+    has_assistance (matter_of known (Command.Household act)) r is (where_tested _ _ (rw resumes refl) free.no_assistance)
 is_made known most today act r free orders is (HouseholdChange.Correct correct) does =
     let headed : IsHeaded known (Command.Household act) r = made_is_headed known (Command.Household act) r is in
     corrects_one known act.household correct.target correct.from headed.heading r headed.under (ap (λ (done : HouseholdChange). heading_in (changing known act done)) (sym does) ∙ headed.is_its)
@@ -158,7 +146,7 @@ meets : (known : Known) (most : ℕ) (rows : Batch) (asked : Command) → Passed
     rows.made ≡ record_of known asked → MeetsTerms known rows asked
 meets known most rows (Command.Admit admit) free orders made =
     rw made (IfSome-each (λ r. 0 < r.assistance) (record_of known (Command.Admit admit)) (λ r is.
-    has_assistance (matter_of known (Command.Admit admit)) admit.facts r refl is free.no_assistance))
+    has_assistance (matter_of known (Command.Admit admit)) r is free.no_assistance))
 meets known most rows (Command.Household act) free orders made = record {
   seen = sees_all (own_in known act.household) act.seen (orders act.household).numbered.newest free.stale free.unseen;
   told = is_told known rows.act.day act act.change (days_in_range rows.act.day (matter_of known (Command.Household act)) free.day_range);

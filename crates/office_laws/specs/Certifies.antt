@@ -1,14 +1,15 @@
 -- What the record of each act certifies, in plain facts.
-use Rattle.std.specs.Prelude.{◌≡◌, ◌≢◌, ◌≤◌, ◌<◌, ◌+◌, ◌-◌, ◌*◌, ⊤, ℕ, true, false, Option, Some, IfSome, IsSomeAnd, List, length, count_by, slice_index_or, Contains}
+use Rattle.std.specs.Prelude.{◌≡◌, ◌≢◌, ◌≤◌, ◌<◌, ◌+◌, ◌-◌, ◌*◌, ◌&&◌, min, ⊤, ℕ, true, false, Option, Some, IfSome, IsSomeAnd, List, length, count_by, slice_index_or, Contains}
 use Rattle.days_core.specs.Calendar.{month_of, last_of as last_day_of}
 use Rattle.facts_core.specs.declared.facts.Facts.{Facts}
 use Rattle.record_history.specs.{declared.records.Kind.Kind, declared.records.Record.Record, Law.CountsOn, Law.IsInForceOn}
 use Rattle.rent_table.specs.{declared.plan.Plan.Plan, declared.rows.LimitRow.LimitRow, Standing.SetsLimitsOn}
 use Rattle.due_dates.specs.Law.{IsMonthAfter}
 use Rattle.voucher_core.specs.Certified.{certified_amount}
+use Rattle.share_rules.specs.Law.{IsNearest}
 use Rattle.book_rows.specs.{declared.rows.Batch.Batch, declared.command.Command.Command, declared.household.HouseholdChange.HouseholdChange, Book.Book}
-use Rattle.office_step.specs.{declared.call.Capacity.Capacity, Known.Known, Known.known_of, Known.own_in, Step.IsAppended, Step.IsReached}
-use Rattle.office_step.specs.plain.{Facts.is_family, Counting.Counts, Counting.IsLastOf, Closing.BeginsYearBy, Rightful.BeginsYear, Rightful.IsAnnualDay, Rightful.IsGrossDay, Rightful.IsInterimDay, Rightful.HasRightAgain, Replies.SplitsItsRent}
+use Rattle.office_step.specs.{declared.call.Capacity.Capacity, Known.Known, Known.known_of, Known.own_in, Eligible.eligible_of_record, Step.IsAppended, Step.IsReached}
+use Rattle.office_step.specs.plain.{Facts.is_family, Counting.Counts, Counting.IsLastOf, Closing.BeginsYearBy, Rightful.BeginsYear, Rightful.IsAnnualDay, Rightful.IsGrossDay, Rightful.IsInterimDay, Rightful.HasRightAgain, Replies.IsWithinItsRent}
 use Rattle.office_laws.specs.{Closing.HasRentsOfItsUnit, Incomes.IsAnnualIncome, Deductions.IsAdjustedIncome}
 
 -- ---- rents and assistance
@@ -16,7 +17,7 @@ use Rattle.office_laws.specs.{Closing.HasRentsOfItsUnit, Incomes.IsAnnualIncome,
 -- what every record meets that certifies something: its rents are its unit's on its first day
 pub record Certifies (known : Known) (r : Record) : Type 0 where
   pub rents : HasRentsOfItsUnit known r.from r
-  pub split : SplitsItsRent r
+  pub within : IsWithinItsRent r
 
 -- a move-out, a termination or a withdrawal certifies nothing
 pub record CertifiesNothing (r : Record) : Type 0 where
@@ -24,6 +25,18 @@ pub record CertifiesNothing (r : Record) : Type 0 where
   pub assistance : r.assistance ≡ 0
   pub contract_rent : r.rents.contract_rent ≡ 0
   pub utility : r.rents.utility ≡ 0
+
+-- the members of a family who are eligible
+abbrev pub family_eligible : Facts → ℕ
+family_eligible facts = count_by (λ member. is_family member.relation && member.eligible) facts.members
+
+-- Of what the payment leaves of the gross rent the office claims the part of the eligible members, to the nearest dollar, and
+-- half a one goes up (24 CFR 5.520); for nobody it claims nothing.
+pub record ClaimsItsPart (eligible : ℕ) (r : Record) : Type 0 where
+  pub left : ℕ
+  pub leaves : left + min r.ttp (r.rents.contract_rent + r.rents.utility) ≡ r.rents.contract_rent + r.rents.utility
+  pub part : 1 ≤ r.size → IsNearest r.assistance (left * eligible) r.size
+  pub nobody : r.size ≡ 0 → r.assistance ≡ 0
 
 -- ---- payment
 
@@ -64,6 +77,7 @@ pub record IsByFacts (known : Known) (facts : Facts) (r : Record) : Type 0 where
   pub annual : IsAnnualIncome facts r.from plan.passbook r.annual
   pub adjusted : IsAdjustedIncome facts r.from r.annual r.adjusted
   pub payment : IsLeastPayment facts r
+  pub eligible : ClaimsItsPart (family_eligible facts) r
   pub move_in : r.kind ≡ Kind.MI → TellsExtremelyLow known r
   pub other : r.kind ≢ Kind.MI → r.extremely ≡ false
 
@@ -74,7 +88,8 @@ pub data IsContinued (own : List Record) (day : ℕ) (held : Record) : Type 0 wh
   in_force : IsInForceOn (Contains own) day held → IsContinued own day held
   first : ((other : Record) → ¬ CountsOn (Contains own) day other) → Contains own held → held.number ≡ 1 → IsContinued own day held
 
--- persons, incomes and payment are those of the record that it continues, split anew by its own rents
+-- persons, incomes and payment are those of the record that it continues, and the office claims the part of its eligible
+-- members anew by its own rents
 pub record IsCarriedOver (known : Known) (own : List Record) (r : Record) : Type 0 where
   pub certifies : Certifies known r
   pub held : Record
@@ -84,6 +99,7 @@ pub record IsCarriedOver (known : Known) (own : List Record) (r : Record) : Type
   pub annual : r.annual ≡ held.annual
   pub adjusted : r.adjusted ≡ held.adjusted
   pub ttp : r.ttp ≡ held.ttp
+  pub eligible : ClaimsItsPart (eligible_of_record known.eligible held) r
   pub extremely : r.extremely ≡ false
 
 -- ---- first days

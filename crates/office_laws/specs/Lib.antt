@@ -18,6 +18,7 @@ pub mod Waiting
 pub mod Incomes
 pub mod Deductions
 pub mod Certifies
+pub mod Eligible
 pub mod Upheld
 pub mod Replay
 pub mod InTurn

@@ -11,6 +11,7 @@ ghost use Rattle.office_laws.specs.Tenancy.{HouseholdsAreInOrder, NoUnitIsShared
 ghost use Rattle.office_laws.specs.Taken.{NextIsTaken};
 ghost use Rattle.office_laws.specs.Terms.{ActsMeetTheirTerms};
 ghost use Rattle.office_laws.specs.Certifies.{RecordsCertifyRightly};
+ghost use Rattle.office_laws.specs.Eligible.{EligibleMembersAreKept};
 ghost use Rattle.office_laws.specs.Conserved.{LinesAreSettled, LinesTotalWhatIsDue};
 ghost use Rattle.office_laws.specs.Closing.{KnownAsOfStays, ClosingsNameTheirPairs, RentsAreDoneAtClosings};
 ghost use Rattle.office_laws.specs.After.{KnownAfter};
@@ -73,12 +74,19 @@ pub fn acts_meet_their_terms()
     ensures { ActsMeetTheirTerms }
 {}
 
-/// Each act of which a record comes makes one, with its unit's rents on its first day, which it splits. What is
-/// computed from facts has their persons and incomes and the least payment that covers the four; other records carry
-/// over what was certified. A record begins on its rightful day, a move-in tells extremely low income, the fiscal year
-/// counts the move-ins that count, and nobody is overdue at a closing. It does nothing.
+/// Each act of which a record comes makes one, with its unit's rents on its first day, of which it claims no more than
+/// there is. What is computed from facts has their persons and incomes and the least payment that covers the four; other
+/// records carry over what was certified; and of what the payment leaves of the rents each claims the part of the
+/// eligible members. A record begins on its rightful day, a move-in tells extremely low income, the fiscal year counts
+/// the move-ins that count, and nobody is overdue at a closing. It does nothing.
 pub fn records_certify_rightly()
     ensures { RecordsCertifyRightly }
+{}
+
+/// By each act there is one number of eligible members more, of its facts, of the record that its own continues, or 0;
+/// and each older record keeps the number that it had. It does nothing.
+pub fn eligible_members_are_kept()
+    ensures { EligibleMembersAreKept }
 {}
 
 /// After any acts the lines of every household and month total what was certified for it at the last closing. It does
