@@ -3,10 +3,11 @@ use Rattle.std.specs.Prelude.{ℕ, List, [], ◌∷◌, ◌++◌, Option, Some, 
 use Rattle.serde_json.specs.Data.{Data, object, string, member, no_members}
 use Rattle.serde_json.specs.Written.{compact_text}
 use Rattle.json_form.specs.Written.{number_data, refused, bad_form_data}
-use Rattle.facts_core.specs.Rules.{broken_rule}
+use Rattle.facts_core.specs.Rules.{eligible_members, broken_rule}
 use Rattle.income_rules.specs.Annual.{annual_income_of}
 use Rattle.deduction_rules.specs.Deductions.{adjusted_income_of}
 use Rattle.payment_rules.specs.{declared.figures.Payment.Payment, Payment.payment_of}
+use Rattle.certified_figures.specs.Figures.{size_of}
 use Rattle.assess_command.specs.{declared.household.Household.Household, declared.answer.Assessed.Assessed, Household.household_from}
 
 -- ---- the payment
@@ -21,7 +22,8 @@ household_adjusted h = adjusted_income_of h.facts (household_annual h) h.day
 
 -- what it pays, and what the office claims
 abbrev pub household_payment : Household → Payment
-household_payment h = payment_of (household_annual h) (household_adjusted h) h.facts.welfare h.facts.exempt h.rents
+household_payment h =
+    payment_of (household_annual h) (household_adjusted h) h.facts.welfare h.facts.exempt h.rents (eligible_members h.facts) (size_of h.facts)
 
 -- ---- objects of JSON, with their members in the byte order of their names
 

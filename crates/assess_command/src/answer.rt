@@ -8,6 +8,7 @@ ghost use Rattle.json_form.specs.Gives.{Gives};
 
 use crate::household::{Household, household_of};
 use crate::text::{bad_facts, figures, line_of};
+use certified_figures::{family_eligible, family_size};
 use deduction_rules::adjusted_income;
 use facts_core::broken_rule;
 use income_rules::annual_income;
@@ -86,6 +87,8 @@ fn payment_line(alloc: Global, household: &Household) -> Result<Text, NoMemory>
         facts.welfare,
         facts.exempt,
         *rents,
+        family_eligible(facts, *day),
+        family_size(facts, *day),
     );
     let figures = figures(alloc, annual.total, allowances.adjusted, &payment)?;
     line_of(alloc, &figures)

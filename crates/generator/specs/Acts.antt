@@ -1,5 +1,5 @@
 -- What the clerk of a made office asks over two years, and on which days.
-use Rattle.std.specs.Prelude.{ℕ, ◌+◌, ◌-◌, ◌*◌, ◌/◌, ◌%◌, ◌==◌, if◌then◌else◌, false, Bool, List, [], ◌∷◌, ◌++◌, filter, map, min, replicate, codes}
+use Rattle.std.specs.Prelude.{ℕ, ◌+◌, ◌-◌, ◌*◌, ◌/◌, ◌%◌, ◌==◌, if◌then◌else◌, true, false, Bool, List, [], ◌∷◌, ◌++◌, filter, map, min, replicate, codes}
 use Rattle.std.specs.List.{flat_map, range_with_len}
 use Rattle.days_core.specs.Calendar.{day_number, first_of}
 use Rattle.facts_core.specs.declared.{facts.Facts.Facts, incomes.IncomeKind.IncomeKind, members.Relation.Relation}
@@ -51,7 +51,7 @@ later_wages_of number = if has_raise number then wages_of number + 2000 else wag
 -- one person born in 1970, who earns these wages and has nothing else
 abbrev pub earning : ℕ → Facts
 earning wages = record {
-  members = record { relation = Relation.Head; born = first_of (month_at 1970 1); disabled = false; student = false; helped = false; cared = false } ∷ [];
+  members = record { relation = Relation.Head; born = first_of (month_at 1970 1); disabled = false; student = false; helped = false; cared = false; eligible = true } ∷ [];
   incomes = record { member = 0; kind = IncomeKind.Wages; annual = wages } ∷ [];
   assets = [];
   disposals = [];

@@ -54,6 +54,7 @@ pub fn earning(alloc: Global, wages: u32) -> Result<Facts, NoMemory>
         student: false,
         helped: false,
         cared: false,
+        eligible: true,
     };
     let earned = Income {
         member: 0,

@@ -51,6 +51,32 @@ fn facts_come_to_figures(rt: HostRuntime) {
     }
 }
 
+// Half of 500 is 250, and an aide's flag says nothing of the family.
+#[test]
+fn a_part_goes_by_the_eligible_members(rt: HostRuntime) {
+    for (relation, wanted) in &[
+        (Relation::Spouse, [2, 2, 10_400, 260, 250]),
+        (Relation::Aide, [2, 1, 10_400, 260, 500]),
+    ] {
+        let mut other = member(*relation, day("1953-06-01"));
+        other.eligible = false;
+        let head = member(Relation::Head, day("1953-06-01"));
+        let incomes = [income(0, IncomeKind::Benefits, 10_800)];
+        let facts = facts(rt.alloc(), &[head, other], &incomes).expect(&rt, "memory");
+        let found = figures_on(&rt, &facts, day("2024-01-01"));
+        assert!(rt; found == figures(10_800, *wanted), "{wanted:?}");
+    }
+}
+
+#[test]
+fn some_member_of_the_family_is_eligible(rt: HostRuntime) {
+    let mut head = member(Relation::Head, day("1953-06-01"));
+    head.eligible = false;
+    let aide = member(Relation::Aide, day("1953-06-01"));
+    let facts = facts(rt.alloc(), &[head, aide], &[]).expect(&rt, "memory");
+    assert!(rt; broken_rule(&facts, day("2024-01-01")) == Some(8));
+}
+
 /// A head of 70 on benefits, who may live with another.
 fn household(rt: &impl Abort, alloc: Global, other: Option<Relation>, benefits: u32) -> Facts {
     let born = day("1953-06-01");
@@ -93,8 +119,9 @@ fn figures_are_carried(rt: HostRuntime) {
     assert!(rt; lowered.contract_rent <= 99_999 && lowered.utility <= 9_999);
     let mut expected = figures(9_600, [2, 1, 8_488, 212, 568]);
     expected.rents = raised;
-    assert!(rt; figures_carried(&held, raised) == expected);
-    assert!(rt; figures_carried(&held, lowered).assistance == 0);
+    assert!(rt; held.size == 1);
+    assert!(rt; figures_carried(&held, 1, raised) == expected);
+    assert!(rt; figures_carried(&held, 1, lowered).assistance == 0);
     let mut nothing = figures(0, [0, 0, 0, 0, 0]);
     nothing.rents.contract_rent = 0;
     nothing.rents.utility = 0;

@@ -5,7 +5,7 @@ use facts_core::{Facts, Income, IncomeKind, Member, Relation};
 use plain_data::{Listed, NoMemory};
 use std::alloc::Global;
 
-/// A person who is not disabled and no student, and whose care costs nothing.
+/// A person who is eligible, not disabled and no student, and whose care costs nothing.
 pub fn member(relation: Relation, born: Day) -> Member {
     Member {
         relation,
@@ -14,6 +14,7 @@ pub fn member(relation: Relation, born: Day) -> Member {
         student: false,
         helped: false,
         cared: false,
+        eligible: true,
     }
 }
 
