@@ -70,6 +70,11 @@ def is_of_the_head(member):
     return member["relation"] in ("Head", "Spouse", "Cohead")
 
 
+def eligible_in(facts):
+    """How many members of the family are eligible. A member is, if it doesn't say otherwise; what an aide says has no meaning."""
+    return len([it for it in facts["members"] if is_of_family(it) and it.get("eligible", True)])
+
+
 def amounts_of(facts):
     lists = [(facts["incomes"], ["annual"]), (facts["assets"], ["value", "income"]), (facts["disposals"], ["value", "received"])]
     costs = [facts[name] for name in ("care_work", "care_school", "disability", "medical", "welfare")]
@@ -87,6 +92,7 @@ def broken_rule(facts, day):
         5: any(it["received"] > it["value"] for it in facts["disposals"]),
         6: too_many or len(members) > 16 or sum(map(is_of_family, members)) > 12,
         7: any(day_of(it["born"]) > day for it in members),
+        8: eligible_in(facts) == 0,
     }
     return next((rule for rule in broken if broken[rule]), None)
 
@@ -152,19 +158,26 @@ def total_tenant_payment(facts, annual, adjusted):
     return max(round_half_up(30 * adjusted, 1200), round_half_up(10 * annual, 1200), facts["welfare"], least)
 
 
-def paid_by(ttp, rents):
-    """By total tenant payment and rents: what the office claims, what the family pays the owner, and what it is paid back."""
+def assistance_by(figures, rents):
+    """What the office claims: the part of the eligible members, of what the total tenant payment leaves of the gross rent. If nobody is
+    certified, that is nothing."""
     gross = rents["contract_rent"] + rents["utility"]
-    borne = min(ttp, gross)
-    return {"assistance": gross - borne, "tenant_rent": max(0, borne - rents["utility"]), "reimbursement": max(0, rents["utility"] - borne)}
+    left = gross - min(figures["ttp"], gross)
+    return round_half_up(left * figures["eligible"], figures["size"]) if figures["size"] else 0
+
+
+def paid_by(record):
+    """By assistance and rents: what the office claims, what the family pays the owner, and what it is paid back."""
+    share = record["contract_rent"] + record["utility"] - record["assistance"]
+    return {"assistance": record["assistance"], "tenant_rent": max(0, share - record["utility"]), "reimbursement": max(0, record["utility"] - share)}
 
 
 def figures_of(facts, day, passbook, rents):
     annual = annual_income(facts, day, passbook)
     adjusted = adjusted_income(facts, day, annual)
-    figures = {"persons": len(facts["members"]), "size": sum(map(is_of_family, facts["members"])), "annual": annual, "adjusted": adjusted}
-    return with_rents(figures | {"ttp": total_tenant_payment(facts, annual, adjusted)}, rents)
+    figures = {"persons": len(facts["members"]), "size": sum(map(is_of_family, facts["members"])), "eligible": eligible_in(facts)}
+    return with_rents(figures | {"annual": annual, "adjusted": adjusted, "ttp": total_tenant_payment(facts, annual, adjusted)}, rents)
 
 
 def with_rents(figures, rents):
-    return figures | rents | {"assistance": paid_by(figures["ttp"], rents)["assistance"]}
+    return figures | rents | {"assistance": assistance_by(figures, rents)}

@@ -46,14 +46,15 @@ def items(least, most, form):
     return fits
 
 
-def members(**forms):
-    """An object with these members: first each of them, then one that isn't listed."""
+def members(may_be_missing={}, **forms):
+    """An object with these members: first each of them that has to be there, then each that may be missing, then one that isn't listed."""
     def fits(value, path):
         if type(value) is not dict:
             return path
         front = f"{path}." if path else ""
-        found = first(form(value[name], front + name) if name in value else front + name for name, form in forms.items())
-        return found if found is not None or set(value) <= set(forms) else f"{front}?"
+        read = forms | {name: form for name, form in may_be_missing.items() if name in value}
+        found = first(form(value[name], front + name) if name in value else front + name for name, form in read.items())
+        return found if found is not None or set(value) <= set(read) else f"{front}?"
     return fits
 
 
@@ -82,7 +83,7 @@ number, months = whole(0, 4_294_967_295), month("1880-01", "2199-12")
 limit, money = items(12, 12, whole(0, 9_999_999)), number
 FACTS = members(
     members=items(0, 16_384, members(relation=one_of("Head", "Spouse", "Cohead", "Other", "Aide"), born=day, disabled=boolean, student=boolean,
-                                     helped=boolean, cared=boolean)),
+                                     helped=boolean, cared=boolean, may_be_missing={"eligible": boolean})),
     incomes=items(0, 16_384, members(member=number, kind=one_of("Wages", "Business", "Benefits", "Welfare", "Adoption", "Other"), annual=money)),
     assets=items(0, 16_384, members(value=money, income=money)), disposals=items(0, 16_384, members(day=day, value=money, received=money)),
     care_work=money, care_school=money, disability=money, medical=money, welfare=money, exempt=boolean)

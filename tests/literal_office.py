@@ -2,7 +2,8 @@
 filters of plain lists, day by day. It was written from these pages alone, never from the program, and it knows no index. No script of
 tests/literal fills a book, so BookFull and LinesFull are left out.
 
-Days and months are numbers, as in literal_figures.py. A record is what the question `record` shows of it, with a day for `from`."""
+Days and months are numbers, as in literal_figures.py. A record is what the question `record` shows of it, with a day for `from`, and how
+many of the family's members are eligible, which no question shows."""
 import functools, json
 
 from literal_figures import (EARLIEST, FIRST_DAY, LAST_DAY, annual_income, broken_rule, day_of, days_in, figures_of, first_of, is_of_family,
@@ -13,7 +14,7 @@ YEARLY = ("MI", "IC", "AR")
 MOST_ACTS = 100_000
 MADE_KINDS = {"start": "IC", "admit": "MI", "annual": "AR", "interim": "IR", "resume": "IC", "gross": "GR", "transfer": "UT",
               "move_out": "MO", "terminate": "TM", "withdraw": "WD"}
-NOTHING = {"persons": 0, "size": 0, "annual": 0, "adjusted": 0, "ttp": 0, "contract_rent": 0, "utility": 0, "assistance": 0}
+NOTHING = {"persons": 0, "size": 0, "eligible": 0, "annual": 0, "adjusted": 0, "ttp": 0, "contract_rent": 0, "utility": 0, "assistance": 0}
 
 
 # ---- the book: accepted acts, records and lines, and what is filtered from them
@@ -171,7 +172,7 @@ def made_figures(book, act):
         return figures_of(act["facts"], first_day(book, act), plan_of(book)["passbook"], unit_rents(book, act))
     if act["kind"] in ("gross", "transfer"):
         old = carried(book, act["household"], first_day(book, act))
-        return with_rents({name: old[name] for name in ("persons", "size", "annual", "adjusted", "ttp")}, unit_rents(book, act))
+        return with_rents({name: old[name] for name in ("persons", "size", "eligible", "annual", "adjusted", "ttp")}, unit_rents(book, act))
     return NOTHING
 
 
@@ -508,7 +509,7 @@ def ineligible(book, day, act):
 def no_assistance(book, day, act):
     made = made_record(book, act)
     gross = made["contract_rent"] + made["utility"]
-    return {"ttp": made["ttp"], "gross": gross} if made["ttp"] >= gross else None
+    return {"ttp": made["ttp"], "gross": gross} if made["assistance"] == 0 else None
 
 
 def wrong_month(book, day, act):
@@ -578,15 +579,23 @@ def what_it_makes(book, act):
     if kind in ("plan", "rents", "limits", "remove", "ask_transfer"):
         return None, [], None
     made = made_record(book, act)
-    return made, [], {name: made[name] for name in ("household", "ttp")} | {"record": made["number"]} | paid_by(made["ttp"], made)
+    return made, [], {name: made[name] for name in ("household", "ttp")} | {"record": made["number"]} | paid_by(made)
+
+
+def as_kept(act):
+    """The act with `eligible` of those members alone who aren't: written out as true it is the same act."""
+    if "facts" not in act:
+        return act
+    members = [{name: it for name, it in member.items() if name != "eligible" or not it} for member in act["facts"]["members"]]
+    return act | {"facts": act["facts"] | {"members": members}}
 
 
 def answer_call(book, call):
-    earlier = request_reused(book, call["clerk"], call["request"])
+    act, earlier = as_kept(call["act"]), request_reused(book, call["clerk"], call["request"])
     if earlier:
         first = book.acts[earlier["act"] - 1]
-        return first["reply"] if first["act"] == call["act"] else refused(1, earlier)
-    day, act = act_day(book, call["today"]), call["act"]
+        return first["reply"] if first["act"] == act else refused(1, earlier)
+    day = act_day(book, call["today"])
     if refusal := refusal_of(book, day, act):
         return refusal
     made, lines, tells = what_it_makes(book, act)
@@ -601,7 +610,8 @@ def answer_call(book, call):
 
 def shown_record(record):
     dates = record["dates"] and {name: text_of(day) for name, day in record["dates"].items()}
-    return record | {"from": text_of(record["from"]), "dates": dates}
+    shown = {name: it for name, it in record.items() if name != "eligible"}
+    return shown | {"from": text_of(record["from"]), "dates": dates}
 
 
 def shown_line(line):

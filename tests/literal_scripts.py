@@ -44,7 +44,13 @@ class Clerk:
         leap = office.day_of(f"{office.text_of(born)[:3]}0-02-28") + 1
         born = leap if self.chance(5) and office.text_of(leap).endswith("29") else born
         flags = {name: self.chance(odds) for name, odds in (("disabled", 15), ("student", 25), ("helped", 25), ("cared", 35))}
-        return {"relation": relation, "born": office.text_of(min(born, self.today)), **flags}
+        return {"relation": relation, "born": office.text_of(min(born, self.today)), **flags, **self.eligibility(relation)}
+
+    def eligibility(self, relation):
+        """Often a member who isn't eligible, seldom a head; and now and then it is written out that one is."""
+        if self.chance(4 if relation == "Head" else 25):
+            return {"eligible": False}
+        return {"eligible": True} if self.chance(10) else {}
 
     def family(self, persons):
         others = [self.some("Other", "Other", "Other", "Aide") for _ in range(persons - 1)]
@@ -62,7 +68,15 @@ class Clerk:
                   for _ in range(self.some(0, 0, 1, 2))]
         costs = {name: self.money() // 4 if self.chance(35) else 0 for name in ("care_work", "care_school", "disability", "medical")}
         return {"incomes": incomes, "assets": assets, "disposals": [self.disposal() for _ in range(self.some(0, 0, 0, 1, 2))], **costs,
-                "welfare": self.some(0, 0, 0, self.random.randint(0, 500)), "exempt": self.chance(10)}
+                "welfare": self.welfare(), "exempt": self.chance(10)}
+
+    def welfare(self):
+        """Now and then about a gross rent, so that little or nothing is left to claim."""
+        rents = office.acts_of(self.book, "rents")
+        if rents and self.chance(5):
+            act = self.some(*rents)["act"]
+            return max(0, act["contract_rent"] + act["utility"] - self.random.randint(-1, 4))
+        return self.some(0, 0, 0, self.random.randint(0, 500))
 
     def disposal(self):
         """Given away about a day on which a certification may begin, or two years before it."""
@@ -81,8 +95,8 @@ class Clerk:
         return self.broken(copy.deepcopy(family)) if self.chance(3) else family
 
     def broken(self, family):
-        """Facts that break a rule."""
-        way = self.random.randint(1, 7)
+        """Facts that break a rule, or of another form."""
+        way = self.random.randint(1, 9)
         if way == 1:
             family["members"].append(self.member("Head"))
         if way == 2:
@@ -97,6 +111,10 @@ class Clerk:
             family["members"] += [self.member("Other") for _ in range(13)]
         if way == 7:
             family["members"].append(self.member("Other") | {"born": "2150-01-01"})
+        if way == 8:
+            family["members"] = [it | {"eligible": it["relation"] == "Aide"} for it in family["members"]]
+        if way == 9:
+            self.some(*family["members"])["eligible"] = None
         return family
 
     # ---- acts
@@ -331,8 +349,16 @@ class Clerk:
         """An accepted act once more, its members in another order, and now and then by another clerk, for whom it is a new one."""
         it = self.some(*self.book.acts)
         members = {name: it["act"][name] for name in self.shuffled(list(it["act"]))}
+        if "facts" in members and self.chance(50):
+            members["facts"] = members["facts"] | {"members": [self.written_again(member) for member in members["facts"]["members"]]}
         clerk = it["clerk"] if self.chance(85) else 9_999
         return {"today": office.text_of(self.today), "clerk": clerk, "request": it["request"], "act": members}
+
+    def written_again(self, member):
+        """The same member, told as eligible; now and then an aide of whom the other is said, which is another act."""
+        if member["relation"] == "Aide" and self.chance(20):
+            return member | {"eligible": not member.get("eligible", True)}
+        return {"eligible": True} | member if self.chance(50) else member
 
     def misfit(self):
         """A line of which one value is another."""
